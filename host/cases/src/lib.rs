@@ -1,0 +1,76 @@
+//! Plain data that the oracle, the model and the port share, and the generator of cases.
+
+/// A description as the calls take it: flat, lengths as document 01's SHAPE asks.
+#[derive(Clone, Debug, Default, PartialEq)]
+pub struct Description {
+    /// Double deltas of each spline, in pairs.
+    pub counts: Vec<u32>,
+    /// x and y of each spline's start.
+    pub starts: Vec<f32>,
+    /// x and y of each double delta, spline after spline.
+    pub deltas: Vec<i32>,
+    /// 32 values each for X, Y, B and sigma, spline after spline.
+    pub coefficients: Vec<i32>,
+    pub adjustment: i32,
+}
+
+/// What a build takes beside the description.
+#[derive(Clone, Copy, Debug, PartialEq)]
+pub struct Given {
+    pub width: u32,
+    pub height: u32,
+    pub y_to_x: f32,
+    pub y_to_b: f32,
+    pub high_precision: bool,
+    pub level10: bool,
+}
+
+/// Centre x and y, distance, 1/sigma, 0.25·sigma·multiplier, three colours.
+pub type Segment = [f32; 8];
+
+/// A built table: `row_starts` has height + 1 numbers, entries are those of image rows only.
+#[derive(Clone, Debug, Default)]
+pub struct Table {
+    pub segments: Vec<Segment>,
+    pub row_starts: Vec<u32>,
+    pub entries: Vec<u32>,
+    pub estimate: u64,
+}
+
+/// The codes of document 01.
+#[derive(Clone, Copy, Debug, PartialEq, Eq)]
+#[repr(u32)]
+pub enum Code {
+    Short = 1,
+    Splines = 2,
+    Coord = 3,
+    Points = 4,
+    Delta = 5,
+    Trail = 6,
+    Room = 7,
+    Size = 8,
+    Shape = 9,
+    Position = 10,
+    Distance = 11,
+    Area = 12,
+    Coincide = 13,
+    Table = 14,
+    Row = 15,
+    Span = 16,
+}
+
+/// A refusal: what, and where.
+#[derive(Clone, Copy, Debug, PartialEq, Eq)]
+pub struct Refusal {
+    pub code: Code,
+    pub place: u64,
+}
+
+/// The bits of an f32, every NaN as the one NaN.
+pub fn bits(x: f32) -> u32 {
+    if x.is_nan() {
+        0x7fc0_0000
+    } else {
+        x.to_bits()
+    }
+}
