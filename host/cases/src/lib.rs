@@ -74,3 +74,38 @@ pub fn bits(x: f32) -> u32 {
         x.to_bits()
     }
 }
+
+/// A table as drawing takes it: flat, with counts that a hostile caller may have wrong.
+#[derive(Clone, Debug, Default, PartialEq)]
+pub struct FlatTable {
+    /// Eight numbers a segment.
+    pub segments: Vec<f32>,
+    pub segment_count: u32,
+    pub entries: Vec<u32>,
+    pub entry_count: u32,
+    pub row_starts: Vec<u32>,
+    pub height: u32,
+}
+
+impl FlatTable {
+    /// The record at an index below the segment count.
+    pub fn segment(&self, index: u32) -> Segment {
+        let mut record = [0.0; 8];
+        let first = 8 * index as usize;
+        record.copy_from_slice(&self.segments[first..first + 8]);
+        record
+    }
+}
+
+impl From<&Table> for FlatTable {
+    fn from(table: &Table) -> FlatTable {
+        FlatTable {
+            segments: table.segments.concat(),
+            segment_count: table.segments.len() as u32,
+            entries: table.entries.clone(),
+            entry_count: table.entries.len() as u32,
+            row_starts: table.row_starts.clone(),
+            height: table.row_starts.len() as u32 - 1,
+        }
+    }
+}

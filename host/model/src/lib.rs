@@ -1,1 +1,20 @@
-//! A second reading of document 01, written from its words alone.
+//! A second reading of document 01, written from its words: the whole of reading, writing, building, drawing and
+//! reach on plain slices. It is slow and plain on purpose, and shares no code with the oracle.
+//!
+//! Lent buffers appear as rooms, their lengths in floats or u32s; what would be stored in them is returned.
+//! A refusal returns document 01's code and place.
+
+pub mod curve;
+pub mod dequantize;
+pub mod draw;
+pub mod list;
+pub mod numbers;
+pub mod segments;
+pub mod table;
+pub mod transform;
+pub mod walk;
+
+pub use draw::{draw, reach};
+pub use list::{read, write, ListRooms};
+pub use numbers::set_ln;
+pub use table::{build, BuildRooms};

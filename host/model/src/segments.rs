@@ -1,0 +1,118 @@
+//! Segments: one for each step of a walk, with the rows and columns that it has.
+
+use crate::curve::Point;
+use crate::dequantize::Dequantized;
+use crate::numbers::{greatest, lesser, ln, round, round_from_zero};
+use crate::transform::{cosines, transform};
+use crate::walk::{length, Step};
+use cases::{Code, Segment};
+use std::ops::Range;
+
+/// The most segments a table may have.
+pub const MOST_SEGMENTS: u64 = 1 << 24;
+
+/// The segment of one step, or none where document 01 says that no number is used.
+pub fn segment(
+    center: Point,
+    multiplier: f32,
+    colors: [f32; 3],
+    sigma: f32,
+    high_precision: bool,
+) -> Option<Segment> {
+    let inverse = 1.0 / sigma;
+    if sigma.is_infinite() || sigma == 0.0 || inverse.is_infinite() || multiplier.is_infinite() {
+        return None;
+    }
+    let e = if high_precision { 5.0 } else { 3.0 };
+    let [c0, c1, c2] = colors;
+    let m = greatest([0.01, c0, c1, c2].map(|color| (multiplier * color).abs()));
+    let distance = (-2.0 * sigma * sigma * (ln(0.1) * e - ln(m))).sqrt();
+    let strength = 0.25 * sigma * multiplier;
+    Some([
+        center[0], center[1], distance, inverse, strength, c0, c1, c2,
+    ])
+}
+
+/// Adds the segments of one spline's walk, while there is room for so many.
+pub fn add_segments(
+    spline: &Dequantized,
+    steps: &[Step],
+    high_precision: bool,
+    room: u64,
+    segments: &mut Vec<Segment>,
+) -> Result<(), Code> {
+    let length = length(steps);
+    if length <= 0.0 {
+        return Ok(());
+    }
+    for (index, &(center, multiplier)) in steps.iter().enumerate() {
+        let progress = lesser(index as f32 * (1.0 / length), 1.0);
+        let cosines = cosines(31.0 * progress);
+        let [x, y, b, sigma] =
+            [0, 1, 2, 3].map(|row| transform(&spline.coefficients[row], &cosines));
+        if let Some(made) = segment(center, multiplier, [x, y, b], sigma, high_precision) {
+            if segments.len() as u64 >= room.min(MOST_SEGMENTS) {
+                return Err(Code::Room);
+            }
+            segments.push(made);
+        }
+    }
+    Ok(())
+}
+
+/// From max(0, R(cy-d)) through R(cy+d), whatever the image; none if R(cy+d) is 2^63 or more.
+pub fn all_rows(segment: &Segment) -> Range<i128> {
+    let [_, cy, d, ..] = *segment;
+    let last = round(cy + d);
+    if last >= 1 << 63 {
+        return 0..0;
+    }
+    filled(round(cy - d).max(0)..last + 1)
+}
+
+/// The rows of a segment inside an image of this height.
+pub fn rows(segment: &Segment, height: u32) -> Range<u32> {
+    let all = all_rows(segment);
+    let inside = filled(all.start..all.end.min(height.into()));
+    inside.start as u32..inside.end as u32
+}
+
+/// From R0(cx-d) through R0(cx+d); none if the upper end is 2^64 or more.
+pub fn columns(segment: &Segment) -> Range<i128> {
+    let [cx, _, d, ..] = *segment;
+    let last = round_from_zero(cx + d);
+    if last >= 1 << 64 {
+        return 0..0;
+    }
+    filled(round_from_zero(cx - d)..last + 1)
+}
+
+/// Every empty range is 0..0.
+pub fn filled(range: Range<i128>) -> Range<i128> {
+    if range.is_empty() {
+        0..0
+    } else {
+        range
+    }
+}
+
+#[cfg(test)]
+mod tests {
+    use super::*;
+
+    fn at(center: f32, distance: f32) -> Segment {
+        [center, center, distance, 1.0, 1.0, 1.0, 1.0, 1.0]
+    }
+
+    #[test]
+    fn readings() {
+        assert_eq!(rows(&at(5.0, 2.5), 100), 3..9);
+        assert_eq!(rows(&at(-5.0, 2.0), 100), 0..0);
+        assert_eq!(columns(&at(-5.0, 2.0)), 0..1);
+        assert_eq!(rows(&at(7.0, f32::NAN), 100), 0..1);
+        assert_eq!(columns(&at(7.0, f32::NAN)), 0..1);
+        assert_eq!(rows(&at(0.0, 2f32.powi(63)), 100), 0..0);
+        assert_eq!(columns(&at(0.0, 2f32.powi(64)),), 0..0);
+        assert_eq!(rows(&at(0.0, 1e18), 0), 0..0);
+    }
+}
