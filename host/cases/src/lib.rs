@@ -1,4 +1,12 @@
 //! Plain data that the oracle, the model and the port share, and the generator of cases.
+//!
+//! A case is given by the name of its kind and a seed, and is the same on every machine.
+
+pub mod descriptions;
+pub mod lists;
+pub mod random;
+pub mod segments;
+pub mod tables;
 
 /// A description as the calls take it: flat, lengths as document 01's SHAPE asks.
 #[derive(Clone, Debug, Default, PartialEq)]

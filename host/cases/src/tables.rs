@@ -1,0 +1,125 @@
+//! Tables for drawing, sound and hostile, and what is to be drawn of them, by kind and seed.
+
+use crate::random::Random;
+use crate::segments::ordinary_record;
+use crate::FlatTable;
+
+pub const TABLE_KINDS: [&str; 3] = ["sound", "strange", "hostile"];
+pub const REQUEST_KINDS: [&str; 3] = ["inside", "edges", "hostile"];
+
+/// A part of a row, and what its channels hold before.
+#[derive(Clone, Debug, PartialEq)]
+pub struct Request {
+    pub y: u32,
+    pub x0: u32,
+    pub n: u32,
+    pub channels: [Vec<f32>; 3],
+}
+
+/// The table of this kind and seed.
+pub fn table(kind: &str, seed: u64) -> FlatTable {
+    let mut random = Random::new(kind, seed);
+    let r = &mut random;
+    let mut table = sound(r);
+    match kind {
+        "sound" => {}
+        "strange" => strange(r, &mut table),
+        "hostile" => hostile(r, &mut table),
+        _ => panic!("no kind of table is called {kind}"),
+    }
+    table
+}
+
+/// Ordinary segments, each row listing some of them, ascending.
+fn sound(r: &mut Random) -> FlatTable {
+    let segment_count = r.below(12) as u32;
+    let height = r.pick(&[1, 2, 5, 30]);
+    let mut table = FlatTable {
+        segment_count,
+        height,
+        row_starts: vec![0],
+        ..FlatTable::default()
+    };
+    for _ in 0..segment_count {
+        table.segments.extend(ordinary_record(r));
+    }
+    for _ in 0..height {
+        for segment in 0..segment_count {
+            if r.once_in(3) {
+                table.entries.push(segment);
+            }
+        }
+        table.row_starts.push(table.entries.len() as u32);
+    }
+    table.entry_count = table.entries.len() as u32;
+    table
+}
+
+/// Lawful, but not what a build makes: any floats, entries in any order, more lent than used.
+fn strange(r: &mut Random, table: &mut FlatTable) {
+    let any = r.once_in(2);
+    for cell in &mut table.segments {
+        if any || r.once_in(10) {
+            *cell = r.any_f32();
+        }
+    }
+    for place in 1..table.entries.len() {
+        let other = r.below(place as u64) as usize;
+        table.entries.swap(place, other);
+    }
+    table.segments.push(1.0);
+    table.entries.push(u32::MAX);
+    table.row_starts.push(u32::MAX);
+}
+
+/// Something that TABLE is there for, one off or far off.
+fn hostile(r: &mut Random, table: &mut FlatTable) {
+    let off = r.pick(&[1, 1, 2, 1 << 24, u32::MAX]);
+    let row = r.below(table.row_starts.len() as u64) as usize;
+    match r.below(6) {
+        0 => table.segment_count = table.segment_count.saturating_add(off),
+        1 => table.entry_count = table.entry_count.saturating_add(off),
+        2 => table.height = table.height.saturating_add(off),
+        3 => table.row_starts[row] = table.row_starts[row].wrapping_add(off),
+        4 => table.row_starts[row] = table.row_starts[row].wrapping_sub(off),
+        _ => {
+            let segments = table.segment_count;
+            if let Some(entry) = table.entries.last_mut() {
+                *entry = segments.saturating_add(off - 1);
+            }
+        }
+    }
+}
+
+/// A part of a row of an image of this height, which is above 0.
+pub fn request(kind: &str, seed: u64, height: u32) -> Request {
+    let mut random = Random::new(kind, seed);
+    let r = &mut random;
+    let edge = 1u32 << 23;
+    let (mut y, mut x0, mut n) = (
+        r.below(height.into()) as u32,
+        r.below(60) as u32,
+        r.below(60) as u32,
+    );
+    let mut lengths = [n; 3].map(|n| n as usize + r.below(3) as usize);
+    match kind {
+        "inside" => {}
+        "edges" => {
+            y = r.pick(&[0, height - 1, height, height + 1]);
+            n = r.pick(&[0, 1, n]);
+            x0 = r.pick(&[0, edge - n, edge - n + 1, edge - n - 1]);
+            lengths = [n as usize; 3];
+        }
+        "hostile" => {
+            y = r.pick(&[y, y, u32::MAX]);
+            x0 = r.pick(&[x0, x0, u32::MAX]);
+            lengths[r.below(3) as usize] = (n as usize).saturating_sub(r.below(2) as usize);
+            n = r.pick(&[n, n, n, u32::MAX, edge + 1]);
+        }
+        _ => panic!("no kind of request is called {kind}"),
+    }
+    let before = r.pick(&[0.0, 0.5, -1.0]);
+    let channels =
+        lengths.map(|length| (0..length).map(|_| before + r.between(0.0, 0.25)).collect());
+    Request { y, x0, n, channels }
+}
