@@ -3,7 +3,7 @@
 //! Whole files and whole items are taken as they stand. The only changed text are the two calls of `ln` in spline.rs.
 
 use std::path::{Path, PathBuf};
-use std::{env, fs, process};
+use std::{env, fs};
 
 /// From the root of this repository.
 const DEFAULT_SOURCE: &str = "../shared/docs/src";
@@ -18,8 +18,7 @@ fn main() {
     println!("cargo:rerun-if-changed=build.rs");
     println!("cargo:rerun-if-env-changed=SPLINE_SRC");
     if let Err(message) = fetch() {
-        eprintln!("oracle: {message}");
-        process::exit(1);
+        println!("cargo::error={message}");
     }
 }
 
