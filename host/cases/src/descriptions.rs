@@ -230,7 +230,7 @@ fn anything(r: &mut Random) -> Description {
     };
     for _ in 0..r.within(0, 3) {
         let start = (r.any_f32(), r.any_f32());
-        let deltas: Vec<i32> = (0..2 * r.within(0, 3)).map(|_| r.any_i32() >> 12).collect();
+        let deltas: Vec<i32> = (0..2 * r.within(0, 3)).map(|_| r.any_i32() >> 18).collect();
         let scale = r.pick(&[0, 16, 28]);
         let coefficients: Vec<i32> = (0..128).map(|_| r.any_i32() >> scale).collect();
         push(&mut description, start, &deltas, &coefficients);

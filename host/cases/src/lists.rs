@@ -24,6 +24,19 @@ pub const KINDS: [&str; 9] = [
     "damaged",
 ];
 
+/// What writing is given.
+#[derive(Clone, Debug, PartialEq)]
+pub struct WriteCase {
+    pub description: Description,
+    pub configured: u32,
+    pub pixels: u32,
+    pub list_room: u64,
+}
+
+pub const WRITE_KINDS: [&str; 8] = [
+    "fibres", "limit", "start", "delta", "points", "shape", "room", "anything",
+];
+
 /// The usual configured limit.
 const USUAL: u32 = 1 << 20;
 
@@ -51,8 +64,49 @@ pub fn list_case(kind: &str, seed: u64) -> ListCase {
     case
 }
 
-/// The list of some fibres, with coefficients of every size.
-fn listed(r: &mut Random) -> Vec<u32> {
+/// The description to be written of this kind and seed.
+pub fn write_case(kind: &str, seed: u64) -> WriteCase {
+    let mut random = Random::new(kind, seed);
+    let r = &mut random;
+    let description = listable(r);
+    let mut case = WriteCase {
+        description,
+        configured: USUAL,
+        pixels: 1 << 16,
+        list_room: 1 << 20,
+    };
+    let splines = case.description.counts.len() as i64;
+    let points = case.description.deltas.len() as i64 / 2;
+    match kind {
+        "fibres" => {}
+        "limit" => case.configured = (splines + r.within(-1, 1)) as u32,
+        "start" => unlistable_start(r, &mut case.description.starts),
+        "delta" => case.description = build_case("double-deltas", r.next()).description,
+        "points" => case.pixels = (2 * points + r.within(-2, 2)).max(0) as u32,
+        "shape" => case.description = build_case("shape", r.next()).description,
+        "room" => {
+            case.list_room = (encoded(&case.description).len() as i64 + r.within(-2, 1)) as u64
+        }
+        "anything" => case.description = build_case("anything", r.next()).description,
+        _ => panic!("no kind of writing is called {kind}"),
+    }
+    case
+}
+
+/// One coordinate that a list cannot hold, or only just can.
+fn unlistable_start(r: &mut Random, starts: &mut [f32]) {
+    let place = r.below(starts.len() as u64) as usize;
+    let edge = ((1i64 << 23) + r.within(-1, 1)) as f32;
+    starts[place] = match r.below(4) {
+        0 => r.pick(&[edge, -edge]),
+        1 => r.pick(&[-0.0, 0.5, -0.5, -1.0, f32::NAN, f32::INFINITY]),
+        2 => r.within(-30, 30) as f32 / 2.0,
+        _ => r.any_f32(),
+    };
+}
+
+/// Some fibres that a list can hold, with coefficients of every size.
+fn listable(r: &mut Random) -> Description {
     let kind = r.pick(&[
         "fibres",
         "fibres",
@@ -66,7 +120,12 @@ fn listed(r: &mut Random) -> Vec<u32> {
     for start in description.starts.iter_mut().take(2) {
         *start = start.abs();
     }
-    encoded(&description)
+    description
+}
+
+/// Their list.
+fn listed(r: &mut Random) -> Vec<u32> {
+    encoded(&listable(r))
 }
 
 /// The list of a description whose starts are whole numbers; what is past a limit is written all the same.

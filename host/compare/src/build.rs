@@ -1,0 +1,95 @@
+//! Building the whole table.
+
+use crate::tally::Tally;
+use crate::verdict::{equal, hold, other_nans, same_floats, Verdict};
+use cases::descriptions::{build_case, BuildCase, KINDS, SLOW_KINDS};
+use cases::{Code, Table};
+use model::segments::all_rows;
+use model::BuildRooms;
+use oracle::{Built, Outcome};
+
+const CASES_A_KIND: u64 = 400;
+const SLOW_CASES_A_KIND: u64 = 12;
+
+/// More than any table here needs; document 01's own limits still hold.
+pub const ROOMS: BuildRooms = BuildRooms {
+    path: u64::MAX,
+    walk: u64::MAX,
+    segments: u64::MAX,
+    row_starts: u64::MAX,
+    entries: u64::MAX,
+};
+
+pub fn compare(tally: &mut Tally) {
+    let quick = KINDS.iter().map(|kind| (kind, CASES_A_KIND));
+    let slow = SLOW_KINDS.iter().map(|kind| (kind, SLOW_CASES_A_KIND));
+    for (kind, cases) in quick.chain(slow) {
+        for seed in 0..cases {
+            let case = build_case(kind, seed);
+            let verdict = against_oracle(tally, &case);
+            tally.add(kind, seed, &case, verdict);
+        }
+    }
+}
+
+fn against_oracle(tally: &mut Tally, case: &BuildCase) -> Verdict {
+    let BuildCase { description, given } = case;
+    let mine = model::build(description, given, &ROOMS);
+    match mine {
+        Err(refusal)
+            if matches!(
+                refusal.code,
+                Code::Size | Code::Shape | Code::Delta | Code::Room
+            ) =>
+        {
+            return Verdict::Outside(refusal.code);
+        }
+        Err(refusal) => {
+            let place = oracle::refused_spline(description, given).map(|number| number as u64);
+            if place != Some(refusal.place) {
+                return equal(false, &refusal, &place);
+            }
+        }
+        Ok(_) => {}
+    }
+    let theirs = oracle::build(description, given);
+    if let (Ok(table), Outcome::Done(built)) = (&mine, &theirs) {
+        note_listed(tally, table, built);
+    }
+    match (&mine, &theirs) {
+        (Ok(table), Outcome::NoMemory) if stored(table) < 1 << 22 => {
+            equal(false, &"a small table", &theirs)
+        }
+        _ => hold(
+            &mine.map_err(|refusal| refusal.code),
+            &theirs,
+            |mine, built| same_table(mine, &built.table),
+        ),
+    }
+}
+
+/// How many segments and rows, those below the image too, spline.rs has to store.
+fn stored(table: &Table) -> i128 {
+    table
+        .segments
+        .iter()
+        .map(|segment| 1 + all_rows(segment).end - all_rows(segment).start)
+        .sum()
+}
+
+/// What docs/DIFFERENCES.md lists and this comparison looks past.
+fn note_listed(tally: &mut Tally, table: &Table, built: &Built) {
+    if built.below > 0 {
+        tally.listed("rows stored below the image");
+    }
+    if other_nans(&table.segments.concat(), &built.table.segments.concat()) {
+        tally.listed("NaN patterns");
+    }
+}
+
+fn same_table(a: &Table, b: &Table) -> bool {
+    same_floats(&a.segments.concat(), &b.segments.concat())
+        && a.row_starts == b.row_starts
+        && a.entries == b.entries
+        && a.estimate == b.estimate
+}

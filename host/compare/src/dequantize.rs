@@ -1,0 +1,80 @@
+//! Dequantizing, one spline at a time, with the judgement of coinciding points.
+
+use crate::tally::Tally;
+use crate::verdict::{equal, hold, same_floats, Verdict};
+use cases::descriptions::{build_case, BuildCase, KINDS};
+use cases::{Code, Given};
+use model::dequantize::{area_limit, dequantize, splines, Dequantized, Quantized};
+use model::list::well_shaped;
+
+const CASES_A_KIND: u64 = 250;
+
+pub fn compare(tally: &mut Tally) {
+    for kind in KINDS {
+        for seed in 0..CASES_A_KIND {
+            let BuildCase { description, given } = build_case(kind, seed);
+            if well_shaped(&description) {
+                for spline in splines(&description) {
+                    let verdict = against_oracle(&spline, description.adjustment, &given);
+                    tally.add(
+                        kind,
+                        seed,
+                        &(spline, description.adjustment, given),
+                        verdict,
+                    );
+                }
+            }
+        }
+    }
+}
+
+fn against_oracle(spline: &Quantized, adjustment: i32, given: &Given) -> Verdict {
+    let Given { y_to_x, y_to_b, .. } = *given;
+    let limit = area_limit(
+        given.level10,
+        u64::from(given.width) * u64::from(given.height),
+    );
+    let mine = dequantize(spline, adjustment, y_to_x, y_to_b, limit);
+    if let Err(Code::Delta) = mine {
+        return Verdict::Outside(Code::Delta);
+    }
+    let start = [spline.start.0, spline.start.1];
+    let theirs = oracle::dequantize(
+        start,
+        spline.deltas,
+        spline.coefficients,
+        adjustment,
+        y_to_x,
+        y_to_b,
+        limit,
+    );
+    match hold(&mine, &theirs, same_spline) {
+        Verdict::Same => coincide(&mine, theirs.done()),
+        other => other,
+    }
+}
+
+fn same_spline(mine: &Dequantized, theirs: &oracle::Dequantized) -> bool {
+    let points: Vec<[f32; 2]> = mine
+        .points
+        .iter()
+        .map(|&(x, y)| [x as f32, y as f32])
+        .collect();
+    same_floats(&points.concat(), &theirs.points.concat())
+        && same_floats(&mine.coefficients.concat(), &theirs.rows.concat())
+        && mine.estimate == theirs.estimate
+}
+
+/// COINCIDE by the model's whole points and by spline.rs's floats.
+fn coincide(mine: &Result<Dequantized, Code>, theirs: Option<oracle::Dequantized>) -> Verdict {
+    let (Ok(mine), Some(theirs)) = (mine, theirs) else {
+        return equal(false, mine, &"not dequantized");
+    };
+    let pairs = mine.points.windows(2);
+    let judged = if pairs.clone().any(|pair| pair[0] == pair[1]) {
+        Err(Code::Coincide)
+    } else {
+        Ok(())
+    };
+    hold(&judged, &oracle::coincide(&theirs.points), |_, _| true)
+}

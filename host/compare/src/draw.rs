@@ -1,0 +1,136 @@
+//! Drawing: the pixels, and the updates as the pixels that spline.rs touches segment by segment; reach beside them.
+
+use crate::build::ROOMS;
+use crate::segments::touched;
+use crate::tally::Tally;
+use crate::verdict::{equal, same_floats, Verdict};
+use cases::descriptions::build_case;
+use cases::tables::{request, table, Request, REQUEST_KINDS, TABLE_KINDS};
+use cases::{FlatTable, Table};
+use model::numbers::round;
+use oracle::Outcome;
+
+const CASES_A_KIND: u64 = 600;
+const BUILT_TABLES: u64 = 300;
+
+/// Descriptions whose tables are drawn.
+const BUILT_KINDS: [&str; 5] = ["fibres", "straight", "sigma", "colours", "correlations"];
+
+pub fn compare(tally: &mut Tally) {
+    for kind in TABLE_KINDS {
+        for seed in 0..CASES_A_KIND {
+            let table = table(kind, seed);
+            let request = request(REQUEST_KINDS[seed as usize % 3], seed, table.height.max(1));
+            tally.add(
+                kind,
+                seed,
+                &(&table, &request),
+                against_oracle(&table, &request),
+            );
+        }
+    }
+    for seed in 0..BUILT_TABLES {
+        let kind = BUILT_KINDS[seed as usize % BUILT_KINDS.len()];
+        let case = build_case(kind, seed);
+        let Ok(built) = model::build(&case.description, &case.given, &ROOMS) else {
+            continue;
+        };
+        let table = FlatTable::from(&built);
+        for part in 0..4 {
+            let request = request("inside", 4 * seed + part, table.height.max(1));
+            tally.add(
+                kind,
+                seed,
+                &(&case, &request),
+                against_oracle(&table, &request),
+            );
+        }
+    }
+}
+
+fn against_oracle(table: &FlatTable, request: &Request) -> Verdict {
+    let (y, x0, n) = (request.y, request.x0, request.n);
+    let mut mine = request.channels.clone();
+    let [r0, r1, r2] = &mut mine;
+    let updates = match model::draw(table, y, x0, n, [&mut r0[..], &mut r1[..], &mut r2[..]]) {
+        Err(refusal) if mine == request.channels => return Verdict::Outside(refusal.code),
+        Err(refusal) => return equal(false, &refusal, &"written cells"),
+        Ok(updates) => updates,
+    };
+    // The oracle draws as many pixels as its channels have; cells past them must stay.
+    let mut theirs = request.channels.clone();
+    let [r0, r1, r2] = &mut theirs;
+    let part = n as usize;
+    let drawn = oracle::load(&unflattened(table)).draw(
+        y,
+        x0,
+        [&mut r0[..part], &mut r1[..part], &mut r2[..part]],
+    );
+    if drawn != Outcome::Done(()) || !same_floats(&mine.concat(), &theirs.concat()) {
+        return equal(false, &mine, &(drawn, theirs));
+    }
+    let theirs = touched_in_all(table, request);
+    if theirs != Some(updates) {
+        return equal(false, &updates, &theirs);
+    }
+    reach_against_oracle(table, y)
+}
+
+/// The sound part of a table, as the oracle takes it.
+fn unflattened(table: &FlatTable) -> Table {
+    Table {
+        segments: (0..table.segment_count)
+            .map(|index| table.segment(index))
+            .collect(),
+        row_starts: table.row_starts.clone(),
+        entries: table.entries.clone(),
+        estimate: 0,
+    }
+}
+
+/// The entries of row y; the table has been accepted.
+fn entries(table: &FlatTable, y: u32) -> &[u32] {
+    let (first, past) = (
+        table.row_starts[y as usize],
+        table.row_starts[y as usize + 1],
+    );
+    &table.entries[first as usize..past as usize]
+}
+
+fn touched_in_all(table: &FlatTable, request: &Request) -> Option<u64> {
+    let mut sum = 0;
+    for &entry in entries(table, request.y) {
+        let pixels = touched(
+            &table.segment(entry),
+            request.y,
+            request.x0,
+            request.n as usize,
+        )?;
+        sum += pixels.iter().filter(|&&pixel| pixel).count() as u64;
+    }
+    Some(sum)
+}
+
+/// An image of this width is asked for its reach.
+const WIDTH: u32 = 80;
+
+/// Reach runs from the first to the last column that spline.rs touches. Left of the image and past 2^64 the two
+/// rules part (reach is signed), so segments that end there are left out of such rows.
+fn reach_against_oracle(table: &FlatTable, y: u32) -> Verdict {
+    let mine = model::reach(table, y, WIDTH);
+    let mut columns = Vec::new();
+    for &entry in entries(table, y) {
+        let segment = table.segment(entry);
+        let last = round(segment[0] + segment[2]);
+        if !(0..1 << 64).contains(&last) {
+            return Verdict::Same;
+        }
+        let pixels = touched(&segment, y, 0, WIDTH as usize).unwrap_or_default();
+        columns.extend((0..WIDTH).filter(|&x| pixels.get(x as usize) == Some(&true)));
+    }
+    let theirs = match (columns.iter().min(), columns.iter().max()) {
+        (Some(&first), Some(&last)) => (first, last + 1),
+        _ => (0, 0),
+    };
+    equal(mine == Ok(theirs), &mine, &theirs)
+}

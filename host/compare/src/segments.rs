@@ -1,0 +1,103 @@
+//! Single segments: the eight numbers, the rows and the columns.
+
+use crate::tally::Tally;
+use crate::verdict::{equal, hold, other_nans, same_floats, Verdict};
+use cases::segments::{record, segment_case, SegmentCase, MAKING_KINDS, RECORD_KINDS};
+use cases::{Segment, Table};
+use model::segments::{all_rows, columns, segment};
+use oracle::{Outcome, Rows};
+use std::ops::Range;
+
+const CASES_A_KIND: u64 = 1_500;
+
+/// Longer runs of rows are only known to be too long.
+const MOST_ROWS: usize = 1 << 12;
+
+pub fn compare_making(tally: &mut Tally) {
+    for kind in MAKING_KINDS {
+        for seed in 0..CASES_A_KIND {
+            let case = segment_case(kind, seed);
+            let verdict = making_against_oracle(tally, &case);
+            tally.add(kind, seed, &case, verdict);
+        }
+    }
+}
+
+fn making_against_oracle(tally: &mut Tally, case: &SegmentCase) -> Verdict {
+    let SegmentCase {
+        center,
+        multiplier,
+        colors,
+        sigma,
+        high_precision,
+    } = *case;
+    let mine = segment(center, multiplier, colors, sigma, high_precision);
+    let theirs = oracle::segment(center, multiplier, colors, sigma, high_precision, MOST_ROWS);
+    if let (Some(mine), Outcome::Done(Some((theirs, _)))) = (&mine, &theirs) {
+        if other_nans(mine, theirs) {
+            tally.listed("NaN patterns");
+        }
+    }
+    hold(&Ok(mine), &theirs, |mine, theirs| match (mine, theirs) {
+        (None, None) => true,
+        (Some(mine), Some((theirs, rows))) => {
+            same_floats(mine, theirs) && same_rows(all_rows(mine), *rows)
+        }
+        _ => false,
+    })
+}
+
+fn same_rows(mine: Range<i128>, theirs: Rows) -> bool {
+    match theirs {
+        Rows::Run { first, past } => mine == (first.into()..past.into()),
+        Rows::TooMany => mine.end - mine.start > MOST_ROWS as i128,
+    }
+}
+
+pub fn compare_columns(tally: &mut Tally) {
+    for kind in RECORD_KINDS {
+        for seed in 0..CASES_A_KIND {
+            let record = record(kind, seed);
+            for x0 in [0, 40, (1 << 23) - WINDOW as u32] {
+                let all = columns(&record);
+                let mine: Vec<bool> = (0..WINDOW as i128)
+                    .map(|x| all.contains(&(x + i128::from(x0))))
+                    .collect();
+                let theirs = touched(&record, 0, x0, WINDOW);
+                tally.add(
+                    kind,
+                    seed,
+                    &(record, x0),
+                    equal(theirs.as_ref() == Some(&mine), &mine, &theirs),
+                );
+            }
+        }
+    }
+}
+
+/// So many pixels are looked at.
+const WINDOW: usize = 100;
+
+/// The pixels that spline.rs touches when it draws this segment: those whose minus zero does not stay.
+/// Of two opposite colours one always adds something else than minus zero.
+pub fn touched(segment: &Segment, y: u32, x0: u32, n: usize) -> Option<Vec<bool>> {
+    let mut probe = *segment;
+    probe[5..].copy_from_slice(&[1.0, -1.0, 1.0]);
+    let mut row_starts = vec![0; y as usize + 1];
+    row_starts.push(1);
+    let table = Table {
+        segments: vec![probe],
+        row_starts,
+        entries: vec![0],
+        estimate: 0,
+    };
+    let blank = || vec![-0.0f32; n];
+    let [r0, r1, _] = oracle::draw(&table, y, x0, [blank(), blank(), blank()]).done()?;
+    let stays = |x: f32| x.to_bits() == 1 << 31;
+    Some(
+        r0.iter()
+            .zip(&r1)
+            .map(|(&a, &b)| !stays(a) || !stays(b))
+            .collect(),
+    )
+}
