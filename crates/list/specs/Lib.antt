@@ -1,0 +1,3 @@
+-- The definitions of the crate `list`.
+pub mod List
+pub mod Steps
