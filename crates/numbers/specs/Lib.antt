@@ -1,0 +1,11 @@
+-- The words of the contracts. Definitions only.
+pub mod Arith
+pub mod Whole
+pub mod Narrow
+pub mod Inner
+pub mod Root
+pub mod Magnitude
+pub mod Cos
+pub mod Erf
+pub mod Ln
+pub mod Saturating
