@@ -11,7 +11,7 @@ pub struct BuildCase {
 }
 
 /// The kinds that are quick enough to be run by the thousand.
-pub const KINDS: [&str; 16] = [
+pub const KINDS: [&str; 17] = [
     "fibres",
     "crowd",
     "straight",
@@ -21,6 +21,7 @@ pub const KINDS: [&str; 16] = [
     "correlations",
     "colours",
     "anything",
+    "damaged",
     "coincide",
     "positions",
     "double-deltas",
@@ -30,8 +31,8 @@ pub const KINDS: [&str; 16] = [
     "shape",
 ];
 
-/// The kinds of which a few are enough: great images, sizes at the limit, long fibres.
-pub const SLOW_KINDS: [&str; 3] = ["tall", "size", "long"];
+/// The kinds of which a few are enough: great images, sizes at the limit, wide fibres and long ones.
+pub const SLOW_KINDS: [&str; 4] = ["tall", "size", "wide", "long"];
 
 const EDGE: i64 = 1 << 23;
 
@@ -53,6 +54,7 @@ pub fn build_case(kind: &str, seed: u64) -> BuildCase {
         "correlations" => correlations(r, &mut case),
         "colours" => colours(r, &mut case.description),
         "anything" => case.description = anything(r),
+        "damaged" => damaged(r, &mut case),
         "coincide" => coincide(r, &mut case.description),
         "positions" => positions(r, &mut case),
         "double-deltas" => double_deltas(r, &mut case.description),
@@ -62,6 +64,7 @@ pub fn build_case(kind: &str, seed: u64) -> BuildCase {
         "shape" => shape(r, &mut case.description),
         "tall" => tall(r, &mut case),
         "size" => size(r, &mut case),
+        "wide" => wide(r, &mut case),
         "long" => long(r, &mut case),
         _ => panic!("no kind of description is called {kind}"),
     }
@@ -238,6 +241,25 @@ fn anything(r: &mut Random) -> Description {
     description
 }
 
+/// One number of some fibres replaced by another of any size.
+fn damaged(r: &mut Random, case: &mut BuildCase) {
+    let description = &mut case.description;
+    let place = r.next() as usize;
+    // Deltas stay short, or pass every limit, so that no fibre is millions of steps long.
+    let delta = if r.once_in(2) {
+        r.any_i32() >> 18
+    } else {
+        r.any_i32() | 1 << 24
+    };
+    match r.below(5) {
+        0 => description.starts[place % 2] = r.any_f32(),
+        1 => description.deltas[place % 2] = delta,
+        2 => description.coefficients[place % 128] = r.any_i32(),
+        3 => description.coefficients[place % 128] = r.any_i32() >> 16,
+        _ => description.adjustment = r.any_i32(),
+    }
+}
+
 /// A point that equals the one before, or misses it by one.
 fn coincide(r: &mut Random, description: &mut Description) {
     let first = (r.within(-3, 3) as i32, r.within(-3, 3) as i32);
@@ -296,16 +318,19 @@ fn double_deltas(r: &mut Random, description: &mut Description) {
 
 /// Manhattan sums one below, at and one above the limit of a small image.
 fn distance(r: &mut Random, case: &mut BuildCase) {
-    case.given.level10 = false;
     let area = i64::from(case.given.width) * i64::from(case.given.height);
-    let limit = 8 * area + (1 << 25);
-    // There and back in eight legs along x, the last one carries what is left.
-    let leg = EDGE - 1;
+    case.given.level10 = r.once_in(4);
+    let limit = if case.given.level10 {
+        1024 * area + (1 << 32)
+    } else {
+        8 * area + (1 << 25)
+    };
+    // There and back along x; the last leg carries what is left.
     let mut left = limit + r.within(-1, 1);
     let (mut delta, mut sign) = (0, 1);
     let mut deltas = Vec::new();
     while left > 0 {
-        let next = sign * leg.min(left);
+        let next = sign * left.min(EDGE - 1);
         deltas.extend([(next - delta) as i32, 0]);
         (delta, sign, left) = (next, -sign, left - next.abs());
     }
@@ -319,22 +344,25 @@ fn distance(r: &mut Random, case: &mut BuildCase) {
 
 /// One fibre of one step whose estimate is the area limit, or misses it by little.
 fn area(r: &mut Random, case: &mut BuildCase) {
-    // With k in all 32 places the estimate is 32·k²: at an area of 4·(k² - 2^20) it is Level5's limit.
-    let more = r.within(0, 8);
-    let k = 1024 + more;
-    let area = 4 * (k * k - (1 << 20));
-    case.given.level10 = false;
-    (case.given.width, case.given.height) = (area as u32 / 4, 4);
-    case.description = Description::default();
+    // With k in all 32 places the estimate is 32·k²: the area is chosen so that this is the limit.
+    case.given.level10 = r.once_in(4);
+    let (k, area, height) = if case.given.level10 {
+        let k = 11592 + 8 * r.within(0, 8);
+        (k, (k * k - (1 << 27)) / 32, 2)
+    } else {
+        let k = 1024 + r.within(0, 8);
+        (k, 4 * (k * k - (1 << 20)), 4)
+    };
+    (case.given.width, case.given.height) = ((area / height) as u32, height as u32);
+    (case.given.y_to_x, case.given.y_to_b) = (0.0, 1.0);
     let mut coefficients = vec![0; 128];
     coefficients[32] = r.within(0, 1) as i32;
     coefficients[96..].fill(k as i32);
     let place = 96 + r.below(32) as usize;
     coefficients[place] += r.within(-1, 1) as i32;
     let deltas = r.pick(&[[1, 0], [0, 1], [0, -1], [-1, 0]]);
+    case.description = Description::default();
     push(&mut case.description, (5.0, 2.0), &deltas, &coefficients);
-    case.given.y_to_b = 1.0;
-    case.given.y_to_x = 0.0;
 }
 
 /// Several fibres that pass the area limit only in sum.
@@ -401,6 +429,21 @@ fn size(r: &mut Random, case: &mut BuildCase) {
     } else {
         case.given.height = value;
     }
+}
+
+/// A sigma of tens of thousands: distances far past the image, up to what no memory holds.
+fn wide(r: &mut Random, case: &mut BuildCase) {
+    case.given.level10 = true;
+    (case.given.width, case.given.height) = (r.pick(&[1 << 23, 100]), r.pick(&[1, 1000]));
+    let mut coefficients = ordinary_coefficients(r);
+    coefficients[96] = r.pick(&[1 << 12, 1 << 14, 1 << 18]);
+    case.description = Description::default();
+    push(
+        &mut case.description,
+        (5.0, 2.0),
+        &[1, r.within(0, 2) as i32],
+        &coefficients,
+    );
 }
 
 /// A fibre of a hundred thousand steps, or of as many as the area limit allows.

@@ -114,19 +114,21 @@ fn touched_in_all(table: &FlatTable, request: &Request) -> Option<u64> {
 /// An image of this width is asked for its reach.
 const WIDTH: u32 = 80;
 
-/// Reach runs from the first to the last column that spline.rs touches. Left of the image and past 2^64 the two
-/// rules part (reach is signed), so segments that end there are left out of such rows.
+/// Reach runs from the first to the last column that spline.rs touches, segments left of the image not counted; where
+/// a segment ends past 2^64, reach runs on and spline.rs touches nothing, so there is nothing to compare.
 fn reach_against_oracle(table: &FlatTable, y: u32) -> Verdict {
     let mine = model::reach(table, y, WIDTH);
     let mut columns = Vec::new();
     for &entry in entries(table, y) {
         let segment = table.segment(entry);
         let last = round(segment[0] + segment[2]);
-        if !(0..1 << 64).contains(&last) {
+        if last >= 1 << 64 {
             return Verdict::Same;
         }
-        let pixels = touched(&segment, y, 0, WIDTH as usize).unwrap_or_default();
-        columns.extend((0..WIDTH).filter(|&x| pixels.get(x as usize) == Some(&true)));
+        if last >= 0 {
+            let pixels = touched(&segment, y, 0, WIDTH as usize).unwrap_or_default();
+            columns.extend((0..WIDTH).filter(|&x| pixels.get(x as usize) == Some(&true)));
+        }
     }
     let theirs = match (columns.iter().min(), columns.iter().max()) {
         (Some(&first), Some(&last)) => (first, last + 1),

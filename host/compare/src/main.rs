@@ -1,11 +1,13 @@
 //! The standing comparison: each party's answers held against the model's, layer by layer, on fixed cases.
 //!
-//! Prints a table; ends with 1, and the smallest input, where an answer differs in a way that is not listed.
+//! `compare` runs all layers, `compare LAYER..` only some, `compare hypot` counts lengths on which the host's `hypot`
+//! differs. Prints a table; ends with 1, and the smallest input, where an answer differs in a way that is not listed.
 
 mod build;
 mod curve;
 mod dequantize;
 mod draw;
+mod hypot;
 mod numbers;
 mod read;
 mod segments;
@@ -17,26 +19,48 @@ mod write;
 use std::process::ExitCode;
 use tally::Tally;
 
+/// A layer's name, and what runs its cases.
+type Layer = (&'static str, fn(&mut Tally));
+
+const LAYERS: [Layer; 12] = [
+    ("numbers", numbers::compare),
+    ("read", read::compare),
+    ("write", write::compare),
+    ("dequantize", dequantize::compare),
+    ("curve", curve::compare_curve),
+    ("walk", curve::compare_walk),
+    ("transform", transform::compare),
+    ("segment", segments::compare_making),
+    ("along", segments::compare_along),
+    ("columns", segments::compare_columns),
+    ("build", build::compare),
+    ("draw", draw::compare),
+];
+
 fn main() -> ExitCode {
-    let layers: [(&str, fn(&mut Tally)); 11] = [
-        ("numbers", numbers::compare),
-        ("read", read::compare),
-        ("write", write::compare),
-        ("dequantize", dequantize::compare),
-        ("curve", curve::compare_curve),
-        ("walk", curve::compare_walk),
-        ("transform", transform::compare),
-        ("segment", segments::compare_making),
-        ("columns", segments::compare_columns),
-        ("build", build::compare),
-        ("draw", draw::compare),
-    ];
+    let asked: Vec<String> = std::env::args().skip(1).collect();
+    if asked == ["hypot"] {
+        return hypot::count();
+    }
+    let known = |name: &String| LAYERS.iter().any(|(layer, _)| layer == name);
+    if let Some(unknown) = asked.iter().find(|name| !known(name)) {
+        let layers = LAYERS.map(|(layer, _)| layer).join(" ");
+        eprintln!("compare: no layer is called {unknown}; usage: compare [hypot | LAYER..], layers: {layers}");
+        return ExitCode::from(2);
+    }
+    let chosen = LAYERS
+        .iter()
+        .filter(|(layer, _)| asked.is_empty() || asked.iter().any(|name| name == layer));
+    compare(chosen)
+}
+
+fn compare<'a>(layers: impl Iterator<Item = &'a Layer>) -> ExitCode {
     println!("spline.rs against the second reading of document 01");
     println!("{}", Tally::HEAD);
     let mut all = Tally::new("all");
-    for (name, compare) in layers {
+    for (name, run) in layers {
         let mut tally = Tally::new(name);
-        compare(&mut tally);
+        run(&mut tally);
         println!("{tally}");
         all.join(&tally);
     }

@@ -1,10 +1,9 @@
 //! Segments: one for each step of a walk, with the rows and columns that it has.
 
 use crate::curve::Point;
-use crate::dequantize::Dequantized;
 use crate::numbers::{greatest, lesser, ln, round, round_from_zero};
 use crate::transform::{cosines, transform};
-use crate::walk::{length, Step};
+use crate::walk::Step;
 use cases::{Code, Segment};
 use std::ops::Range;
 
@@ -35,21 +34,17 @@ pub fn segment(
 
 /// Adds the segments of one spline's walk, while there is room for so many.
 pub fn add_segments(
-    spline: &Dequantized,
+    coefficients: &[[f32; 32]; 4],
     steps: &[Step],
+    length: f32,
     high_precision: bool,
     room: u64,
     segments: &mut Vec<Segment>,
 ) -> Result<(), Code> {
-    let length = length(steps);
-    if length <= 0.0 {
-        return Ok(());
-    }
     for (index, &(center, multiplier)) in steps.iter().enumerate() {
-        let progress = lesser(index as f32 * (1.0 / length), 1.0);
+        let progress = lesser(1.0, index as f32 * (1.0 / length));
         let cosines = cosines(31.0 * progress);
-        let [x, y, b, sigma] =
-            [0, 1, 2, 3].map(|row| transform(&spline.coefficients[row], &cosines));
+        let [x, y, b, sigma] = coefficients.map(|row| transform(&row, &cosines));
         if let Some(made) = segment(center, multiplier, [x, y, b], sigma, high_precision) {
             if segments.len() as u64 >= room.min(MOST_SEGMENTS) {
                 return Err(Code::Room);
