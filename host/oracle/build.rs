@@ -37,7 +37,10 @@ fn fetch() -> Result<(), String> {
     let options = original("api/options.rs")?;
     let level = item(&options, "pub enum JxlCodestreamLevel {", "}")?;
     let limit = item(&options, "    pub(crate) fn spline_area_limit(", "    }")?;
-    write("options.rs", &format!("{level}\nimpl JxlCodestreamLevel {{\n{limit}}}\n"))?;
+    write(
+        "options.rs",
+        &format!("{level}\nimpl JxlCodestreamLevel {{\n{limit}}}\n"),
+    )?;
 
     let decode = original("entropy_coding/decode.rs")?;
     write("decode.rs", &item(&decode, "pub fn unpack_signed(", "}")?)
@@ -57,7 +60,10 @@ fn variable(name: &str) -> std::ffi::OsString {
 fn read(path: &Path) -> Result<String, String> {
     println!("cargo:rerun-if-changed={}", path.display());
     fs::read_to_string(path).map_err(|error| {
-        format!("cannot read {} ({error}); set SPLINE_SRC to the directory that holds zenjxl-decoder", path.display())
+        format!(
+            "cannot read {} ({error}); set SPLINE_SRC to the directory that holds zenjxl-decoder",
+            path.display()
+        )
     })
 }
 
@@ -70,7 +76,10 @@ fn write(name: &str, text: &str) -> Result<(), String> {
 fn with_hooks(text: String) -> Result<String, String> {
     let calls = text.matches(".ln(").count();
     if calls != LOGARITHMS.len() {
-        return Err(format!("spline.rs has {calls} calls of ln, not {}", LOGARITHMS.len()));
+        return Err(format!(
+            "spline.rs has {calls} calls of ln, not {}",
+            LOGARITHMS.len()
+        ));
     }
     let mut hooked = text;
     for [call, hook] in LOGARITHMS {
@@ -86,9 +95,15 @@ fn with_hooks(text: String) -> Result<String, String> {
 /// The one item whose first line begins with `head`, with its attributes and comments, through the first line that is `end`.
 fn item(text: &str, head: &str, end: &str) -> Result<String, String> {
     let lines: Vec<&str> = text.lines().collect();
-    let heads: Vec<usize> = (0..lines.len()).filter(|&i| lines[i].starts_with(head)).collect();
+    let heads: Vec<usize> = (0..lines.len())
+        .filter(|&i| lines[i].starts_with(head))
+        .collect();
     let [first] = heads[..] else {
-        return Err(format!("`{}` is there {} times, not once", head.trim(), heads.len()));
+        return Err(format!(
+            "`{}` is there {} times, not once",
+            head.trim(),
+            heads.len()
+        ));
     };
     let Some(length) = lines[first..].iter().position(|line| *line == end) else {
         return Err(format!("`{}` has no end", head.trim()));

@@ -11,7 +11,7 @@ mod stubs;
 // The original asks for these by their paths in its own crate.
 use stubs::{api, bit_reader, entropy_coding, error, frame, util};
 
-pub use cases::{Description, Given, Segment, Table};
+pub use cases::{Description, FlatTable, Given, Segment, Table};
 pub use outcome::{Outcome, Why};
 pub use stubs::logarithm::set_ln;
 pub use stubs::memory::{set_memory, DEFAULT_MEMORY};
@@ -89,7 +89,14 @@ pub fn dequantize(
     y_to_b: f32,
     area_limit: u64,
 ) -> Outcome<Dequantized> {
-    layers::dequantize(start, deltas, coefficients, adjustment, [y_to_x, y_to_b], area_limit)
+    layers::dequantize(
+        start,
+        deltas,
+        coefficients,
+        adjustment,
+        [y_to_x, y_to_b],
+        area_limit,
+    )
 }
 
 /// `Spline::validate_adjacent_point_coincidence`.
@@ -197,6 +204,23 @@ pub struct Loaded(original::Splines);
 /// Loads a table; nothing of it is checked.
 pub fn load(table: &Table) -> Loaded {
     Loaded(layers::load(table))
+}
+
+/// Loads a flat table: whole segments and entries up to the counts, as far as the buffers hold them.
+pub fn load_flat(table: &FlatTable) -> Loaded {
+    let segments = table
+        .segments
+        .chunks_exact(8)
+        .take(table.segment_count as usize);
+    let entries = table.entries.iter().take(table.entry_count as usize);
+    load(&Table {
+        segments: segments
+            .map(|eight| eight.try_into().expect("eight of them"))
+            .collect(),
+        row_starts: table.row_starts.clone(),
+        entries: entries.copied().collect(),
+        estimate: 0,
+    })
 }
 
 impl Loaded {

@@ -39,7 +39,11 @@ fn main() -> ExitCode {
         println!("{} readings hold", readings.held);
         ExitCode::SUCCESS
     } else {
-        println!("{} of {} readings fail", readings.failed, readings.held + readings.failed);
+        println!(
+            "{} of {} readings fail",
+            readings.failed,
+            readings.held + readings.failed
+        );
         ExitCode::FAILURE
     }
 }
@@ -55,7 +59,11 @@ fn machine(readings: &mut Readings) {
     readings.check("a product is rounded before a sum", a * a + c, 0.0);
     // At -0.5 every cosine is that of 0.
     let minus_zeros = oracle::transform(&[-0.0; 32], -0.5);
-    readings.check("a float sum starts from minus zero", minus_zeros.to_bits(), (-0.0f32).to_bits());
+    readings.check(
+        "a float sum starts from minus zero",
+        minus_zeros.to_bits(),
+        (-0.0f32).to_bits(),
+    );
 }
 
 fn numbers(readings: &mut Readings) {
@@ -63,22 +71,54 @@ fn numbers(readings: &mut Readings) {
     readings.check("16777217 to f32 is 16777216", to_f32(16777217), 16777216);
     readings.check("16777219 to f32 is 16777220", to_f32(16777219), 16777220);
     readings.check("unpack 3 is -2", oracle::unpack_signed(3), -2);
-    readings.check("unpack 4294967295 is -2147483648", oracle::unpack_signed(u32::MAX), i32::MIN);
-    for (area, limit) in [(0, 33554432), (130023423, 1073741816), (130023424, 1073741824)] {
+    readings.check(
+        "unpack 4294967295 is -2147483648",
+        oracle::unpack_signed(u32::MAX),
+        i32::MIN,
+    );
+    for (area, limit) in [
+        (0, 33554432),
+        (130023423, 1073741816),
+        (130023424, 1073741824),
+    ] {
         readings.check(
             &format!("Level5 area {area}: {limit}"),
             oracle::spline_area_limit(false, area),
             limit,
         );
     }
-    readings.check("Level10 area 0: 2^32", oracle::spline_area_limit(true, 0), 1 << 32);
-    readings.check("Level10 area 2^46: 2^42", oracle::spline_area_limit(true, 1 << 46), 1 << 42);
-    readings.check("ceil_log2 of 4 and 5", [oracle::ceil_log2(4), oracle::ceil_log2(5)], [2, 3]);
+    readings.check(
+        "Level10 area 0: 2^32",
+        oracle::spline_area_limit(true, 0),
+        1 << 32,
+    );
+    readings.check(
+        "Level10 area 2^46: 2^42",
+        oracle::spline_area_limit(true, 1 << 46),
+        1 << 42,
+    );
+    readings.check(
+        "ceil_log2 of 4 and 5",
+        [oracle::ceil_log2(4), oracle::ceil_log2(5)],
+        [2, 3],
+    );
     readings.check("adjustment 8 gives 0.5", oracle::inv_adjusted_quant(8), 0.5);
     readings.check("adjustment -8 gives 2", oracle::inv_adjusted_quant(-8), 2.0);
-    readings.check("difference (3,4) has length 5", oracle::length(3.0, 4.0), 5.0);
-    readings.check("fast_cos stays near the cosine", near(oracle::fast_cos, cosine), true);
-    readings.check("fast_erff is odd", oracle::fast_erff(-0.75), -oracle::fast_erff(0.75));
+    readings.check(
+        "difference (3,4) has length 5",
+        oracle::length(3.0, 4.0),
+        5.0,
+    );
+    readings.check(
+        "fast_cos stays near the cosine",
+        near(oracle::fast_cos, cosine),
+        true,
+    );
+    readings.check(
+        "fast_erff is odd",
+        oracle::fast_erff(-0.75),
+        -oracle::fast_erff(0.75),
+    );
 }
 
 fn cosine(x: f32) -> f32 {
@@ -87,7 +127,9 @@ fn cosine(x: f32) -> f32 {
 
 /// Within 1e-4 over what the transform asks for.
 fn near(f: fn(f32) -> f32, g: fn(f32) -> f32) -> bool {
-    (0..10_000).map(|i| i as f32 * 0.01).all(|x| (f(x) - g(x)).abs() < 1e-4)
+    (0..10_000)
+        .map(|i| i as f32 * 0.01)
+        .all(|x| (f(x) - g(x)).abs() < 1e-4)
 }
 
 /// A list of two splines: starts (1,2) and (0,4), adjustment -1, counts 1 and 0, then each spline's numbers.
@@ -103,15 +145,27 @@ fn two_splines() -> Vec<u32> {
 fn list(readings: &mut Readings) {
     let list = two_splines();
     let read = oracle::read(&list, 1 << 20, 100);
-    readings.check("a list is read whole", (read.consumed, read.ran_short), (list.len(), false));
+    readings.check(
+        "a list is read whole",
+        (read.consumed, read.ran_short),
+        (list.len(), false),
+    );
     let description = read.outcome.done().unwrap_or_default();
     readings.check("its counts", description.counts, vec![1, 0]);
     readings.check("its starts", description.starts, vec![1.0, 2.0, 0.0, 4.0]);
     readings.check("its double deltas", description.deltas, vec![-4, 4]);
     readings.check("its adjustment", description.adjustment, -1);
-    readings.check("its coefficients", description.coefficients[..4].to_vec(), vec![0, -1, 1, -2]);
+    readings.check(
+        "its coefficients",
+        description.coefficients[..4].to_vec(),
+        vec![0, -1, 1, -2],
+    );
     let cut = oracle::read(&list[..list.len() - 1], 1 << 20, 100);
-    readings.check("a list cut short", (cut.consumed, cut.ran_short), (list.len() - 1, true));
+    readings.check(
+        "a list cut short",
+        (cut.consumed, cut.ran_short),
+        (list.len() - 1, true),
+    );
     let refused = |list: &[u32], pixels| {
         let read = oracle::read(list, 1 << 20, pixels);
         (read.outcome.map(|_| ()), read.consumed)
@@ -152,7 +206,14 @@ fn one_spline(start: [f32; 2], deltas: &[i32], sigma: i32) -> Description {
 }
 
 fn image(width: u32, height: u32) -> Given {
-    Given { width, height, y_to_x: 0.0, y_to_b: 1.0, high_precision: false, level10: false }
+    Given {
+        width,
+        height,
+        y_to_x: 0.0,
+        y_to_b: 1.0,
+        high_precision: false,
+        level10: false,
+    }
 }
 
 fn build(description: &Description) -> Outcome<()> {
@@ -168,14 +229,37 @@ fn dequantizing(readings: &mut Readings) {
     );
     let position = Outcome::Refused(Why::SplinesPointOutOfRange);
     let last = 8388607.0;
-    readings.check("start 8388607 then delta 1: POSITION", refused([last, 0.0], &[1, 0]), position.clone());
-    readings.check("start 8388607 alone is taken", refused([last, 0.0], &[]), Outcome::Done(()));
-    readings.check("start 8388608: POSITION", refused([last + 1.0, 0.0], &[]), position.clone());
-    readings.check("start -8388608 is taken", refused([-last - 1.0, 0.0], &[]), Outcome::Done(()));
-    readings.check("start -8388609: POSITION", refused([-8388609.0, 0.0], &[]), position);
+    readings.check(
+        "start 8388607 then delta 1: POSITION",
+        refused([last, 0.0], &[1, 0]),
+        position.clone(),
+    );
+    readings.check(
+        "start 8388607 alone is taken",
+        refused([last, 0.0], &[]),
+        Outcome::Done(()),
+    );
+    readings.check(
+        "start 8388608: POSITION",
+        refused([last + 1.0, 0.0], &[]),
+        position.clone(),
+    );
+    readings.check(
+        "start -8388608 is taken",
+        refused([-last - 1.0, 0.0], &[]),
+        Outcome::Done(()),
+    );
+    readings.check(
+        "start -8388609: POSITION",
+        refused([-8388609.0, 0.0], &[]),
+        position,
+    );
     readings.check(
         "a walk to and fro of more than the limit: DISTANCE",
-        refused([0.0, 0.0], &[8388607, 8388607, -16777214, -16777214, 16777214, 16777214]),
+        refused(
+            [0.0, 0.0],
+            &[8388607, 8388607, -16777214, -16777214, 16777214, 16777214],
+        ),
         Outcome::Refused(Why::SplinesDistanceTooLarge),
     );
     readings.check(
@@ -195,7 +279,11 @@ fn dequantizing(readings: &mut Readings) {
     readings.check("R(2.5) is 3, R(-0.5) is -1", start, Some(vec![[3.0, -1.0]]));
     let stepped = oracle::dequantize([0.0, 0.0], &[8388607, 0], &[0; 128], 0, 0.0, 0.0, 1 << 30);
     let points = stepped.done().map(|spline| spline.points);
-    readings.check("a step of 8388607", points, Some(vec![[0.0, 0.0], [8388607.0, 0.0]]));
+    readings.check(
+        "a step of 8388607",
+        points,
+        Some(vec![[0.0, 0.0], [8388607.0, 0.0]]),
+    );
 }
 
 fn walked(path: &[[f32; 2]]) -> Vec<[f32; 3]> {
@@ -208,9 +296,21 @@ fn multipliers(path: &[[f32; 2]]) -> Vec<f32> {
 
 fn curve_and_walk(readings: &mut Readings) {
     let path = |end: f32| [[0.0, 0.0], [end, 0.0]];
-    readings.check("path (0,0),(2.5,0): multipliers", multipliers(&path(2.5)), vec![1.0, 1.0, 1.0, 0.5]);
-    readings.check("path (0,0),(1,0): multipliers", multipliers(&path(1.0)), vec![1.0, 1.0, 0.0]);
-    readings.check("one point: multipliers", multipliers(&[[4.0, 4.0]]), vec![1.0, 0.0]);
+    readings.check(
+        "path (0,0),(2.5,0): multipliers",
+        multipliers(&path(2.5)),
+        vec![1.0, 1.0, 1.0, 0.5],
+    );
+    readings.check(
+        "path (0,0),(1,0): multipliers",
+        multipliers(&path(1.0)),
+        vec![1.0, 1.0, 0.0],
+    );
+    readings.check(
+        "one point: multipliers",
+        multipliers(&[[4.0, 4.0]]),
+        vec![1.0, 0.0],
+    );
     let length = oracle::length_of_walk(&walked(&[[4.0, 4.0]]));
     readings.check("one point: length 0", length, 0.0);
     let length = oracle::length_of_walk(&walked(&path(2.5)));
@@ -218,7 +318,11 @@ fn curve_and_walk(readings: &mut Readings) {
     let long = oracle::walk(&path(1e6), 1 << 10);
     readings.check("a walk past its cap has no memory", long, Outcome::NoMemory);
     let curve = |points: &[[f32; 2]]| oracle::curve(points).done().unwrap_or_default();
-    readings.check("a curve of one point", curve(&[[1.0, 2.0]]), vec![[1.0, 2.0]]);
+    readings.check(
+        "a curve of one point",
+        curve(&[[1.0, 2.0]]),
+        vec![[1.0, 2.0]],
+    );
     let three = curve(&[[0.0, 0.0], [5.0, 5.0], [9.0, 2.0]]);
     readings.check("a curve of three points has 33", three.len(), 33);
     readings.check(
@@ -233,38 +337,91 @@ fn rows_at_two_and_a_half(cy: f32) -> (f32, Rows) {
     oracle::set_ln(|x| if x == 0.1 { 0.0 } else { 3.125 });
     let made = oracle::segment([0.0, cy], 1.0, [0.0; 3], 1.0, false, 1 << 10);
     oracle::set_ln(f32::ln);
-    made.done().flatten().map_or((0.0, Rows::TooMany), |(segment, rows)| (segment[2], rows))
+    made.done()
+        .flatten()
+        .map_or((0.0, Rows::TooMany), |(segment, rows)| (segment[2], rows))
 }
 
 fn rows(readings: &mut Readings) {
     let run = |first, past| Rows::Run { first, past };
-    readings.check("cy 5, d 2.5: rows 3 to 8", rows_at_two_and_a_half(5.0), (2.5, run(3, 9)));
-    readings.check("cy -5, d 2.5: no row", rows_at_two_and_a_half(-5.0), (2.5, run(0, 0)));
-    readings.check("cy -2.5, d 2.5: row 0", rows_at_two_and_a_half(-2.5), (2.5, run(0, 1)));
-    let nan = oracle::segment([0.0, 5.0], 0.0, [0.0; 3], 1.0, false, 1 << 10).done().flatten();
+    readings.check(
+        "cy 5, d 2.5: rows 3 to 8",
+        rows_at_two_and_a_half(5.0),
+        (2.5, run(3, 9)),
+    );
+    readings.check(
+        "cy -5, d 2.5: no row",
+        rows_at_two_and_a_half(-5.0),
+        (2.5, run(0, 0)),
+    );
+    readings.check(
+        "cy -2.5, d 2.5: row 0",
+        rows_at_two_and_a_half(-2.5),
+        (2.5, run(0, 1)),
+    );
+    let nan = oracle::segment([0.0, 5.0], 0.0, [0.0; 3], 1.0, false, 1 << 10)
+        .done()
+        .flatten();
     let (distance, found) = nan.map_or((0.0, Rows::TooMany), |(segment, rows)| (segment[2], rows));
-    readings.check("a NaN distance: row 0", (distance.is_nan(), found), (true, run(0, 1)));
+    readings.check(
+        "a NaN distance: row 0",
+        (distance.is_nan(), found),
+        (true, run(0, 1)),
+    );
     let none = |sigma| oracle::segment([0.0, 5.0], 1.0, [0.0; 3], sigma, false, 1 << 10);
     readings.check("sigma 0: no segment", none(0.0), Outcome::Done(None));
-    readings.check("sigma infinite: no segment", none(f32::INFINITY), Outcome::Done(None));
-    readings.check("1/sigma infinite: no segment", none(1e-39), Outcome::Done(None));
+    readings.check(
+        "sigma infinite: no segment",
+        none(f32::INFINITY),
+        Outcome::Done(None),
+    );
+    readings.check(
+        "1/sigma infinite: no segment",
+        none(1e-39),
+        Outcome::Done(None),
+    );
 }
 
 /// The columns of a lone segment that drawing changes, of eight.
 fn columns_of(cx: f32, d: f32) -> Vec<usize> {
     let segment: Segment = [cx, 0.0, d, 1.0, 1.0, 1.0, 1.0, 1.0];
-    let table = Table { segments: vec![segment], row_starts: vec![0, 1], entries: vec![0], estimate: 0 };
+    let table = Table {
+        segments: vec![segment],
+        row_starts: vec![0, 1],
+        entries: vec![0],
+        estimate: 0,
+    };
     let channel = || vec![f32::MIN_POSITIVE; 8];
-    let drawn = oracle::draw(&table, 0, 0, [channel(), channel(), channel()]).done().unwrap_or_default();
-    (0..8).filter(|&x| drawn[0].get(x) != Some(&f32::MIN_POSITIVE)).collect()
+    let drawn = oracle::draw(&table, 0, 0, [channel(), channel(), channel()])
+        .done()
+        .unwrap_or_default();
+    (0..8)
+        .filter(|&x| drawn[0].get(x) != Some(&f32::MIN_POSITIVE))
+        .collect()
 }
 
 fn columns(readings: &mut Readings) {
-    readings.check("cx 5, d 2.5: columns 3 to 7 of 8", columns_of(5.0, 2.5), vec![3, 4, 5, 6, 7]);
-    readings.check("cx 2, d 1.5: columns 1 to 4", columns_of(2.0, 1.5), vec![1, 2, 3, 4]);
+    readings.check(
+        "cx 5, d 2.5: columns 3 to 7 of 8",
+        columns_of(5.0, 2.5),
+        vec![3, 4, 5, 6, 7],
+    );
+    readings.check(
+        "cx 2, d 1.5: columns 1 to 4",
+        columns_of(2.0, 1.5),
+        vec![1, 2, 3, 4],
+    );
     readings.check("cx -5, d 2: column 0", columns_of(-5.0, 2.0), vec![0]);
-    readings.check("a NaN distance: column 0", columns_of(5.0, f32::NAN), vec![0]);
-    readings.check("an infinite distance: no column", columns_of(5.0, f32::INFINITY), vec![]);
+    readings.check(
+        "a NaN distance: column 0",
+        columns_of(5.0, f32::NAN),
+        vec![0],
+    );
+    readings.check(
+        "an infinite distance: no column",
+        columns_of(5.0, f32::INFINITY),
+        vec![],
+    );
 }
 
 fn outcomes(readings: &mut Readings) {
@@ -272,11 +429,16 @@ fn outcomes(readings: &mut Readings) {
     let built = oracle::build(&short, &image(64, 64)).done();
     let walk = built.map(|built| built.table.segments.len());
     readings.check("a spline of length 1 has 3 segments", walk, Some(3));
-    let panicked = matches!(build(&one_spline([f32::NAN, 0.0], &[], 1)), Outcome::Panicked(_));
+    let panicked = matches!(
+        build(&one_spline([f32::NAN, 0.0], &[], 1)),
+        Outcome::Panicked(_)
+    );
     readings.check("a NaN start: the Rust panics", panicked, true);
     // A distance of about 2^40 rows: sigma 2^38.
     let sigma = f32::powi(2.0, 38);
-    let far = oracle::segment([0.0, 0.0], 1.0, [1.0; 3], sigma, false, 1 << 10).done().flatten();
+    let far = oracle::segment([0.0, 0.0], 1.0, [1.0; 3], sigma, false, 1 << 10)
+        .done()
+        .flatten();
     let (distance, found) = far.map_or((0.0, Rows::TooMany), |(segment, rows)| (segment[2], rows));
     readings.check(
         "a distance of 2^40 rows: its floats, but not its rows",
@@ -285,7 +447,14 @@ fn outcomes(readings: &mut Readings) {
     );
     // Some thousand segments of some fifty thousand rows each.
     let broad = one_spline([0.0, 0.0], &[1000, 0], 60_000);
-    let given = Given { level10: true, ..image(1 << 23, 1 << 23) };
+    let given = Given {
+        level10: true,
+        ..image(1 << 23, 1 << 23)
+    };
     let built = oracle::build(&broad, &given).map(|_| ());
-    readings.check("a build of some 5 · 10^7 entries: no memory", built, Outcome::NoMemory);
+    readings.check(
+        "a build of some 5 · 10^7 entries: no memory",
+        built,
+        Outcome::NoMemory,
+    );
 }

@@ -31,7 +31,11 @@ pub(crate) fn read(list: &[u32], configured: u32, pixels: u32) -> Read {
 fn description_of(splines: &Splines) -> Description {
     let mut description = Description {
         adjustment: splines.quantization_adjustment,
-        starts: splines.starting_points.iter().flat_map(|p| [p.x, p.y]).collect(),
+        starts: splines
+            .starting_points
+            .iter()
+            .flat_map(|p| [p.x, p.y])
+            .collect(),
         ..Description::default()
     };
     for spline in &splines.splines {
@@ -40,7 +44,9 @@ fn description_of(splines: &Splines) -> Description {
             // Both came from 32 bits.
             description.deltas.extend([x as i32, y as i32]);
         }
-        description.coefficients.extend(spline.color_dct.iter().flatten());
+        description
+            .coefficients
+            .extend(spline.color_dct.iter().flatten());
         description.coefficients.extend(spline.sigma_dct);
     }
     description
@@ -97,8 +103,11 @@ pub(crate) fn dequantize(
 fn quantized_spline(deltas: &[i32], coefficients: &[i32]) -> QuantizedSpline {
     assert_eq!(deltas.len() % 2, 0, "double deltas come in pairs");
     assert_eq!(coefficients.len(), 128, "a spline has 128 coefficients");
-    let row = |i: usize| -> [i32; 32] { coefficients[32 * i..][..32].try_into().expect("32 of them") };
-    let pairs = deltas.chunks_exact(2).map(|pair| (pair[0].into(), pair[1].into()));
+    let row =
+        |i: usize| -> [i32; 32] { coefficients[32 * i..][..32].try_into().expect("32 of them") };
+    let pairs = deltas
+        .chunks_exact(2)
+        .map(|pair| (pair[0].into(), pair[1].into()));
     QuantizedSpline {
         control_points: Paid::from_plain(pairs.collect()),
         color_dct: [row(0), row(1), row(2)],
@@ -107,7 +116,10 @@ fn quantized_spline(deltas: &[i32], coefficients: &[i32]) -> QuantizedSpline {
 }
 
 pub(crate) fn coincide(points: &[[f32; 2]]) -> Outcome<()> {
-    let spline = Spline { control_points: Paid::from_plain(points_of(points)), ..Spline::default() };
+    let spline = Spline {
+        control_points: Paid::from_plain(points_of(points)),
+        ..Spline::default()
+    };
     judge(|| spline.validate_adjacent_point_coincidence())
 }
 
@@ -165,8 +177,18 @@ pub(crate) fn segment(
             let mut splines = Splines::default();
             let mut rows = Paid::new();
             let center = Point::new(center[0], y);
-            splines.add_segment(&center, multiplier, colour, sigma, high_precision, &mut rows);
-            Ok(splines.segments.first().map(|segment| (eight(segment), run(&rows))))
+            splines.add_segment(
+                &center,
+                multiplier,
+                colour,
+                sigma,
+                high_precision,
+                &mut rows,
+            );
+            Ok(splines
+                .segments
+                .first()
+                .map(|segment| (eight(segment), run(&rows))))
         })
     };
     match add(center[1], cap) {
@@ -183,7 +205,11 @@ pub(crate) fn segment(
 
 fn eight(s: &SplineSegment) -> Segment {
     let [c0, c1, c2] = s.color;
-    let [d, i, o] = [s.maximum_distance, s.inv_sigma, s.sigma_over_4_times_intensity];
+    let [d, i, o] = [
+        s.maximum_distance,
+        s.inv_sigma,
+        s.sigma_over_4_times_intensity,
+    ];
     [s.center_x, s.center_y, d, i, o, c0, c1, c2]
 }
 
@@ -206,38 +232,69 @@ pub(crate) fn segments(
         sigma_dct: Dct32(sigma),
         ..Spline::default()
     };
-    let points: Vec<_> = walk.iter().map(|&[x, y, m]| (Point::new(x, y), m)).collect();
+    let points: Vec<_> = walk
+        .iter()
+        .map(|&[x, y, m]| (Point::new(x, y), m))
+        .collect();
     judge(|| {
         let mut splines = Splines::default();
         let distance = DESIRED_RENDERING_DISTANCE;
         let mut by_y = Paid::new();
-        splines.add_segments_from_points(&spline, &points, length, distance, high_precision, &mut by_y);
+        splines.add_segments_from_points(
+            &spline,
+            &points,
+            length,
+            distance,
+            high_precision,
+            &mut by_y,
+        );
         Ok(splines.segments.iter().map(eight).collect())
     })
 }
 
 /// The description as the original holds it.
 fn splines_of(description: &Description) -> Splines {
-    let Description { counts, starts, deltas, coefficients, adjustment } = description;
+    let Description {
+        counts,
+        starts,
+        deltas,
+        coefficients,
+        adjustment,
+    } = description;
     let points: usize = counts.iter().map(|&count| count as usize).sum();
     let shape = [2 * counts.len(), 2 * points, 128 * counts.len()];
-    assert_eq!([starts.len(), deltas.len(), coefficients.len()], shape, "lengths agree");
+    assert_eq!(
+        [starts.len(), deltas.len(), coefficients.len()],
+        shape,
+        "lengths agree"
+    );
     let mut rest = &deltas[..];
-    let quantized = counts.iter().zip(coefficients.chunks_exact(128)).map(|(&count, values)| {
-        let (own, others) = rest.split_at(2 * count as usize);
-        rest = others;
-        quantized_spline(own, values)
-    });
+    let quantized = counts
+        .iter()
+        .zip(coefficients.chunks_exact(128))
+        .map(|(&count, values)| {
+            let (own, others) = rest.split_at(2 * count as usize);
+            rest = others;
+            quantized_spline(own, values)
+        });
     Splines {
         quantization_adjustment: *adjustment,
         splines: Paid::from_plain(quantized.collect()),
-        starting_points: Paid::from_plain(starts.chunks_exact(2).map(|s| Point::new(s[0], s[1])).collect()),
+        starting_points: Paid::from_plain(
+            starts
+                .chunks_exact(2)
+                .map(|s| Point::new(s[0], s[1]))
+                .collect(),
+        ),
         ..Splines::default()
     }
 }
 
 fn initialize(splines: &mut Splines, given: &Given) -> Outcome<()> {
-    let correlation = ColorCorrelationParams { y_to_x: given.y_to_x, y_to_b: given.y_to_b };
+    let correlation = ColorCorrelationParams {
+        y_to_x: given.y_to_x,
+        y_to_b: given.y_to_b,
+    };
     judge(|| {
         splines.initialize_draw_cache(
             given.width.into(),
@@ -252,18 +309,27 @@ fn initialize(splines: &mut Splines, given: &Given) -> Outcome<()> {
 pub(crate) fn build(description: &Description, given: &Given) -> Outcome<Built> {
     let mut splines = splines_of(description);
     initialize(&mut splines, given).map(|()| Built {
-        table: Table { estimate: estimate(&splines, given), ..table_of(&splines) },
+        table: Table {
+            estimate: estimate(&splines, given),
+            ..table_of(&splines)
+        },
         below: entries_below(&splines),
     })
 }
 
 /// The table that stands in `splines`, whole or not, without the estimate.
 fn table_of(splines: &Splines) -> Table {
-    let small = |number: u64| u32::try_from(number).expect("a table that fits the memory has 32-bit numbers");
+    let small = |number: u64| {
+        u32::try_from(number).expect("a table that fits the memory has 32-bit numbers")
+    };
     let entries = splines.segment_indices.iter().take(image_entries(splines));
     Table {
         segments: splines.segments.iter().map(eight).collect(),
-        row_starts: splines.segment_y_start.iter().map(|&start| small(start)).collect(),
+        row_starts: splines
+            .segment_y_start
+            .iter()
+            .map(|&start| small(start))
+            .collect(),
         entries: entries.map(|&index| small(index as u64)).collect(),
         estimate: 0,
     }
@@ -271,15 +337,26 @@ fn table_of(splines: &Splines) -> Table {
 
 /// How many entries are in image rows: they come first.
 fn image_entries(splines: &Splines) -> usize {
-    splines.segment_y_start.last().map_or(0, |&past| past as usize)
+    splines
+        .segment_y_start
+        .last()
+        .map_or(0, |&past| past as usize)
 }
 
 fn entries_below(splines: &Splines) -> u64 {
-    splines.segment_indices.len().saturating_sub(image_entries(splines)) as u64
+    splines
+        .segment_indices
+        .len()
+        .saturating_sub(image_entries(splines)) as u64
 }
 
 /// One turn of the first loop of `initialize_draw_cache`: dequantizing, the sum and its limit, coinciding points.
-fn judge_spline(splines: &Splines, index: usize, given: &Given, total: &mut u64) -> OriginalResult<()> {
+fn judge_spline(
+    splines: &Splines,
+    index: usize,
+    given: &Given,
+    total: &mut u64,
+) -> OriginalResult<()> {
     let area = u64::from(given.width).saturating_mul(given.height.into());
     let limit = spline_area_limit(given.level10, area);
     let spline = splines.splines[index].dequantize(
@@ -309,8 +386,9 @@ fn estimate(splines: &Splines, given: &Given) -> u64 {
 pub(crate) fn refused_spline(description: &Description, given: &Given) -> Option<usize> {
     let splines = splines_of(description);
     let mut total = 0;
-    (0..splines.splines.len())
-        .find(|&index| judge(|| judge_spline(&splines, index, given, &mut total)) != Outcome::Done(()))
+    (0..splines.splines.len()).find(|&index| {
+        judge(|| judge_spline(&splines, index, given, &mut total)) != Outcome::Done(())
+    })
 }
 
 pub(crate) fn rebuild(
@@ -328,27 +406,44 @@ pub(crate) fn rebuild(
     splines.splines = next.splines;
     splines.starting_points = next.starting_points;
     let outcome = initialize(&mut splines, given);
-    Ok((outcome, Built { table: table_of(&splines), below: entries_below(&splines) }))
+    Ok((
+        outcome,
+        Built {
+            table: table_of(&splines),
+            below: entries_below(&splines),
+        },
+    ))
 }
 
 pub(crate) fn load(table: &Table) -> Splines {
-    let segment = |&[center_x, center_y, distance, inv_sigma, intensity, c0, c1, c2]: &Segment| SplineSegment {
-        center_x,
-        center_y,
-        maximum_distance: distance,
-        inv_sigma,
-        sigma_over_4_times_intensity: intensity,
-        color: [c0, c1, c2],
+    let segment = |&[center_x, center_y, distance, inv_sigma, intensity, c0, c1, c2]: &Segment| {
+        SplineSegment {
+            center_x,
+            center_y,
+            maximum_distance: distance,
+            inv_sigma,
+            sigma_over_4_times_intensity: intensity,
+            color: [c0, c1, c2],
+        }
     };
     Splines {
         segments: Paid::from_plain(table.segments.iter().map(segment).collect()),
-        segment_indices: Paid::from_plain(table.entries.iter().map(|&entry| entry as usize).collect()),
-        segment_y_start: Paid::from_plain(table.row_starts.iter().map(|&start| start.into()).collect()),
+        segment_indices: Paid::from_plain(
+            table.entries.iter().map(|&entry| entry as usize).collect(),
+        ),
+        segment_y_start: Paid::from_plain(
+            table.row_starts.iter().map(|&start| start.into()).collect(),
+        ),
         ..Splines::default()
     }
 }
 
-pub(crate) fn draw(splines: &Splines, y: u32, x0: u32, mut channels: [&mut [f32]; 3]) -> Outcome<()> {
+pub(crate) fn draw(
+    splines: &Splines,
+    y: u32,
+    x0: u32,
+    mut channels: [&mut [f32]; 3],
+) -> Outcome<()> {
     let n = channels[0].len();
     judge(|| {
         splines.draw_segments(&mut channels, (x0 as usize, y as usize), n);

@@ -12,7 +12,11 @@ pub struct BitReader<'a> {
 
 impl<'a> BitReader<'a> {
     pub fn new(list: &'a [u32]) -> Self {
-        BitReader { list, taken: 0, ran_short: false }
+        BitReader {
+            list,
+            taken: 0,
+            ran_short: false,
+        }
     }
 
     /// The next value; past the end a 0, which is remembered.
