@@ -1,0 +1,3 @@
+pub mod Segment
+pub mod Ranges
+pub mod Readings
