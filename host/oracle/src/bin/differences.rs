@@ -78,9 +78,16 @@ fn panics() -> bool {
         );
         known &= finding(text, panicked(x) == expected);
     }
+    let (count, others) = random_panics(100_000);
+    let text = format!("of 100000 random splines {count} panic; for another reason than a start that is no i32: {others}");
+    known & finding(text, others == 0)
+}
+
+/// How many random splines panic, and on how many a start that is no i32 does not tell whether they do.
+fn random_panics(splines: u32) -> (u32, u32) {
     let mut random = Random::new("panics", 1);
     let (mut count, mut others) = (0, 0);
-    for _ in 0..100_000 {
+    for _ in 0..splines {
         let start = [random.any_f32(), random.any_f32()];
         let deltas: Vec<i32> = (0..2 * random.below(4)).map(|_| random.any_i32()).collect();
         let coefficients: Vec<i32> = (0..128).map(|_| random.any_i32()).collect();
@@ -98,8 +105,7 @@ fn panics() -> bool {
         count += u32::from(panicked);
         others += u32::from(panicked != start.iter().any(|x| !is_i32(x.round())));
     }
-    let text = format!("of 100000 random splines {count} panic; for another reason than a start that is no i32: {others}");
-    known & finding(text, others == 0)
+    (count, others)
 }
 
 fn is_i32(x: f32) -> bool {
@@ -251,47 +257,31 @@ fn random_estimate(random: &mut Random, limit: u64) -> Option<u64> {
 
 /// The host's `hypot` against the f32 nearest to the root of x²+y².
 fn hypot() -> bool {
-    let mut small = 0;
-    for x in 0..=4096 {
-        for y in 0..=4096 {
-            small += u32::from(hypot_differs(x, y));
-        }
-    }
-    let text = format!(
-        "all pairs from 0 through 4096, {} of them: {small} differ",
-        4097 * 4097
-    );
-    let mut known = finding(text, small == 0);
+    let small = (0..=4096).flat_map(|x| (0..=4096).map(move |y| (x, y)));
     let mut random = Random::new("hypot", 1);
-    let mut even = 0;
-    for _ in 0..5_000_000 {
-        even += u32::from(hypot_differs(
-            random.within(0, 1 << 24),
-            random.within(0, 1 << 24),
-        ));
-    }
-    known &= finding(
-        format!("5000000 pairs, evenly from 0 through 2^24: {even} differ"),
-        even == 0,
-    );
-    let mut sizes = 0;
-    for _ in 0..5_000_000 {
-        let (wide, narrow) = (1 << random.within(1, 24), 1 << random.within(1, 24));
-        sizes += u32::from(hypot_differs(
-            random.within(0, wide),
-            -random.within(0, narrow),
-        ));
-    }
-    known &= finding(
-        format!("5000000 pairs of every size, the second negative: {sizes} differ"),
-        sizes == 0,
-    );
-    let (pairs, ties) = hypot_at_halves();
-    known
-        & finding(
-            format!("{pairs} pairs whose length is halfway between two f32: {ties} differ"),
-            ties == 0,
+    let even = (0..5_000_000).map(move |_| (random.within(0, 1 << 24), random.within(0, 1 << 24)));
+    let mut random = Random::new("sizes", 1);
+    let mut whole = move || {
+        let bits = random.within(1, 24);
+        random.within(0, 1 << bits)
+    };
+    let sizes = (0..5_000_000).map(move |_| (whole(), -whole()));
+    count_hypot("pairs from 0 through 4096, all of them", small)
+        & count_hypot("pairs from 0 through 2^24, evenly", even)
+        & count_hypot("pairs of every size up to 2^24, the second negative", sizes)
+        & count_hypot(
+            "pairs whose length is halfway between two f32",
+            halves().take(1_000_000),
         )
+}
+
+fn count_hypot(what: &str, pairs: impl Iterator<Item = (i64, i64)>) -> bool {
+    let (mut count, mut differ) = (0, 0);
+    for (x, y) in pairs {
+        count += 1;
+        differ += u32::from(hypot_differs(x, y));
+    }
+    finding(format!("{count} {what}: {differ} differ"), differ == 0)
 }
 
 fn hypot_differs(x: i64, y: i64) -> bool {
@@ -300,19 +290,14 @@ fn hypot_differs(x: i64, y: i64) -> bool {
 }
 
 /// Pairs whose length is the very middle of two f32: whole right triangles with an odd long side above 2^24.
-fn hypot_at_halves() -> (u32, u32) {
-    let (mut pairs, mut differ) = (0, 0);
+fn halves() -> impl Iterator<Item = (i64, i64)> {
     let mut random = Random::new("halves", 1);
-    while pairs < 1_000_000 {
-        let (a, b) = (random.within(1, 4870), random.within(1, 4870));
-        let (x, y, long) = (a * a - b * b, 2 * a * b, a * a + b * b);
-        let fits = x.abs() <= 1 << 24 && y <= 1 << 24;
-        if fits && long > 1 << 24 && long % 2 == 1 {
-            pairs += 1;
-            differ += u32::from(hypot_differs(x, y));
-        }
-    }
-    (pairs, differ)
+    std::iter::repeat_with(move || (random.within(1, 4870), random.within(1, 4870)))
+        .map(|(a, b)| (a * a - b * b, 2 * a * b, a * a + b * b))
+        .filter(|&(x, y, long)| {
+            x.abs() <= 1 << 24 && y <= 1 << 24 && long > 1 << 24 && long % 2 == 1
+        })
+        .map(|(x, y, _)| (x, y))
 }
 
 /// The f32 nearest to the root of a whole number below 2^50, ties to even, by whole numbers only.
