@@ -172,7 +172,8 @@ pub(crate) fn segment(
     cap: usize,
 ) -> Outcome<Option<(Segment, Rows)>> {
     let add = |y: f32, cap: usize| {
-        let bytes = memory::bytes_of::<(u64, usize)>(cap) + memory::bytes_of::<SplineSegment>(1);
+        let bytes = memory::bytes_of::<(u64, usize)>(cap)
+            .saturating_add(memory::bytes_of::<SplineSegment>(1));
         judge_within(bytes, || {
             let mut splines = Splines::default();
             let mut rows = Paid::new();
