@@ -9,3 +9,5 @@ pub mod Cos
 pub mod Erf
 pub mod Ln
 pub mod Saturating
+pub mod RootBy
+pub mod Length

@@ -3,7 +3,8 @@
 //   f32 to whole    saturating_f32_to_i64, _u64, _i32         Rust's `as` (lib.Ieee: toSigned, toUnsigned)
 //   whole to f32    nearest_u32_to_f32, _i32, _u64, _i64      Rust's `as` (lib.Ieee: ofInt)
 //   f64 to f32      nearest_f64_to_f32                        specs/Narrow
-//   root            root                                      specs/Root
+//   root            root, root_by                             specs/Root
+//   length          length                                    specs/Length
 //   magnitude       abs, negative, with_sign, top, min, max,
 //                   is_infinite                               specs/Magnitude
 //   cosine, erf     fast_cos, fast_erff                       specs/Cos, specs/Erf
@@ -29,6 +30,13 @@ ghost use Rattle.numbers.specs.Cos.{cosCore, fastCos};
 ghost use Rattle.numbers.specs.Erf.{erfCore, fastErff};
 ghost use Rattle.numbers.specs.Ln.{lnAt, lnOf};
 ghost use Rattle.numbers.specs.Saturating.{satAdd, satMul, floorLog2, ceilLog2};
+
+mod by_table;
+mod lengths;
+
+pub use by_table::ROOTS;
+pub use by_table::root_by;
+pub use lengths::length;
 
 const PI: f32 = 3.14159265358979323846264338327950288;
 
