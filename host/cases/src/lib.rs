@@ -74,6 +74,13 @@ pub struct Refusal {
     pub place: u64,
 }
 
+/// Every kind with the seeds from 0 up to but not including n.
+pub fn each(kinds: &'static [&'static str], n: u64) -> impl Iterator<Item = (&'static str, u64)> {
+    kinds
+        .iter()
+        .flat_map(move |&kind| (0..n).map(move |seed| (kind, seed)))
+}
+
 /// The bits of an f32, every NaN as the one NaN.
 pub fn bits(x: f32) -> u32 {
     if x.is_nan() {

@@ -13,7 +13,7 @@ pub struct SegmentCase {
     pub high_precision: bool,
 }
 
-pub const MAKING_KINDS: [&str; 3] = ["ordinary", "edges", "hostile"];
+pub const MAKING_KINDS: [&str; 4] = ["ordinary", "edges", "far", "hostile"];
 pub const RECORD_KINDS: [&str; 4] = ["ordinary", "halves", "far", "hostile"];
 
 /// What a segment of this kind and seed is made from.
@@ -34,6 +34,7 @@ pub fn segment_case(kind: &str, seed: u64) -> SegmentCase {
     match kind {
         "ordinary" => {}
         "edges" => edges(r, &mut case),
+        "far" => case.center = [far_number(r), far_number(r)],
         "hostile" => hostile(r, &mut case),
         _ => panic!("no kind of segment is called {kind}"),
     }
@@ -131,15 +132,20 @@ fn halves(r: &mut Random, record: &mut Segment) {
 
 /// Ends near 2^23, 2^24, 2^31, 2^63 and 2^64, and past them.
 fn far(r: &mut Random, record: &mut Segment) {
+    let far = far_number(r);
+    match r.below(3) {
+        0 => record[2] = far.abs(),
+        1 => record[r.below(2) as usize] = far,
+        _ => (record[0], record[1], record[2]) = (far / 2.0, far / 2.0, far / 2.0),
+    }
+}
+
+/// A number near one of the powers of two that rows and columns care about.
+fn far_number(r: &mut Random) -> f32 {
     let power = r.pick(&[22, 23, 24, 31, 32, 62, 63, 64, 65, 100, 127]);
     let bits = 2f32
         .powi(power)
         .to_bits()
         .wrapping_add(r.within(-2, 2) as u32);
-    let far = f32::from_bits(bits);
-    match r.below(3) {
-        0 => record[2] = far,
-        1 => record[r.below(2) as usize] = far * r.pick(&[1.0, -1.0]),
-        _ => (record[0], record[1], record[2]) = (far / 2.0, far / 2.0, far / 2.0),
-    }
+    f32::from_bits(bits) * r.pick(&[1.0, 1.0, -1.0])
 }

@@ -3,38 +3,30 @@
 use crate::tally::Tally;
 use crate::verdict::{equal, hold, other_nans, same_floats, Verdict};
 use cases::descriptions::{build_case, BuildCase, KINDS, SLOW_KINDS};
-use cases::{Code, Table};
+use cases::{each, Code, Table};
 use model::segments::all_rows;
-use model::BuildRooms;
+use model::AMPLE;
 use oracle::{Built, Outcome};
 
 const CASES_A_KIND: u64 = 400;
 const SLOW_CASES_A_KIND: u64 = 12;
 
-/// More than any table here needs; document 01's own limits still hold.
-pub const ROOMS: BuildRooms = BuildRooms {
-    path: u64::MAX,
-    walk: u64::MAX,
-    segments: u64::MAX,
-    row_starts: u64::MAX,
-    entries: u64::MAX,
-};
+/// Quick kinds by the hundred, slow ones a few each.
+fn all_cases() -> impl Iterator<Item = (&'static str, u64)> {
+    each(&KINDS, CASES_A_KIND).chain(each(&SLOW_KINDS, SLOW_CASES_A_KIND))
+}
 
 pub fn compare(tally: &mut Tally) {
-    let quick = KINDS.iter().map(|kind| (kind, CASES_A_KIND));
-    let slow = SLOW_KINDS.iter().map(|kind| (kind, SLOW_CASES_A_KIND));
-    for (kind, cases) in quick.chain(slow) {
-        for seed in 0..cases {
-            let case = build_case(kind, seed);
-            let verdict = against_oracle(tally, &case);
-            tally.add(kind, seed, &case, verdict);
-        }
+    for (kind, seed) in all_cases() {
+        let case = build_case(kind, seed);
+        let verdict = against_oracle(tally, &case);
+        tally.add(kind, seed, &case, verdict);
     }
 }
 
 fn against_oracle(tally: &mut Tally, case: &BuildCase) -> Verdict {
     let BuildCase { description, given } = case;
-    let mine = model::build(description, given, &ROOMS);
+    let mine = model::build(description, given, &AMPLE);
     match mine {
         Err(refusal)
             if matches!(

@@ -4,7 +4,7 @@ use crate::tally::Tally;
 use crate::verdict::{equal, hold, same_floats, Verdict};
 use cases::descriptions::{build_case, KINDS};
 use cases::random::Random;
-use cases::Code;
+use cases::{each, Code};
 use model::curve::{curve, Point};
 use model::dequantize::judge;
 use model::list::well_shaped;
@@ -17,7 +17,7 @@ const HOSTILE_PATHS: u64 = 2_000;
 /// Walks longer than this are cut on both sides.
 const MOST_STEPS: usize = 50_000;
 
-/// The control points of all splines that the descriptions of all kinds give.
+/// The control points of all splines of a description that is not refused.
 fn control_points(kind: &str, seed: u64) -> Vec<Vec<(i64, i64)>> {
     let case = build_case(kind, seed);
     if !well_shaped(&case.description) {
@@ -32,11 +32,9 @@ fn control_points(kind: &str, seed: u64) -> Vec<Vec<(i64, i64)>> {
 }
 
 pub fn compare_curve(tally: &mut Tally) {
-    for kind in KINDS {
-        for seed in 0..CASES_A_KIND {
-            for control in control_points(kind, seed) {
-                tally.add(kind, seed, &control, curve_against_oracle(&control));
-            }
+    for (kind, seed) in each(&KINDS, CASES_A_KIND) {
+        for control in control_points(kind, seed) {
+            tally.add(kind, seed, &control, curve_against_oracle(&control));
         }
     }
 }
@@ -51,12 +49,10 @@ fn curve_against_oracle(control: &[(i64, i64)]) -> Verdict {
 }
 
 pub fn compare_walk(tally: &mut Tally) {
-    for kind in KINDS {
-        for seed in 0..CASES_A_KIND {
-            for control in control_points(kind, seed) {
-                let path = curve(&control, u64::MAX).unwrap_or_default();
-                tally.add(kind, seed, &path, walk_against_oracle(&path));
-            }
+    for (kind, seed) in each(&KINDS, CASES_A_KIND) {
+        for control in control_points(kind, seed) {
+            let path = curve(&control, u64::MAX).unwrap_or_default();
+            tally.add(kind, seed, &path, walk_against_oracle(&path));
         }
     }
     for seed in 0..HOSTILE_PATHS {

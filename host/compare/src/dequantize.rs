@@ -3,27 +3,26 @@
 use crate::tally::Tally;
 use crate::verdict::{equal, hold, same_floats, Verdict};
 use cases::descriptions::{build_case, BuildCase, KINDS};
-use cases::{Code, Given};
+use cases::{each, Code, Given};
 use model::dequantize::{area_limit, dequantize, splines, Dequantized, Quantized};
 use model::list::well_shaped;
 
 const CASES_A_KIND: u64 = 250;
 
 pub fn compare(tally: &mut Tally) {
-    for kind in KINDS {
-        for seed in 0..CASES_A_KIND {
-            let BuildCase { description, given } = build_case(kind, seed);
-            if well_shaped(&description) {
-                for spline in splines(&description) {
-                    let verdict = against_oracle(&spline, description.adjustment, &given);
-                    tally.add(
-                        kind,
-                        seed,
-                        &(spline, description.adjustment, given),
-                        verdict,
-                    );
-                }
-            }
+    for (kind, seed) in each(&KINDS, CASES_A_KIND) {
+        let BuildCase { description, given } = build_case(kind, seed);
+        if !well_shaped(&description) {
+            continue;
+        }
+        for spline in splines(&description) {
+            let verdict = against_oracle(&spline, description.adjustment, &given);
+            tally.add(
+                kind,
+                seed,
+                &(spline, description.adjustment, given),
+                verdict,
+            );
         }
     }
 }

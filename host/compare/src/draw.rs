@@ -1,12 +1,11 @@
 //! Drawing: the pixels, and the updates as the pixels that spline.rs touches segment by segment; reach beside them.
 
-use crate::build::ROOMS;
 use crate::segments::touched;
 use crate::tally::Tally;
 use crate::verdict::{equal, same_floats, Verdict};
 use cases::descriptions::build_case;
 use cases::tables::{request, table, Request, REQUEST_KINDS, TABLE_KINDS};
-use cases::{FlatTable, Table};
+use cases::{each, FlatTable, Table};
 use model::numbers::round;
 use oracle::Outcome;
 
@@ -17,22 +16,20 @@ const BUILT_TABLES: u64 = 300;
 const BUILT_KINDS: [&str; 5] = ["fibres", "straight", "sigma", "colours", "correlations"];
 
 pub fn compare(tally: &mut Tally) {
-    for kind in TABLE_KINDS {
-        for seed in 0..CASES_A_KIND {
-            let table = table(kind, seed);
-            let request = request(REQUEST_KINDS[seed as usize % 3], seed, table.height.max(1));
-            tally.add(
-                kind,
-                seed,
-                &(&table, &request),
-                against_oracle(&table, &request),
-            );
-        }
+    for (kind, seed) in each(&TABLE_KINDS, CASES_A_KIND) {
+        let table = table(kind, seed);
+        let request = request(REQUEST_KINDS[seed as usize % 3], seed, table.height.max(1));
+        tally.add(
+            kind,
+            seed,
+            &(&table, &request),
+            against_oracle(&table, &request),
+        );
     }
     for seed in 0..BUILT_TABLES {
         let kind = BUILT_KINDS[seed as usize % BUILT_KINDS.len()];
         let case = build_case(kind, seed);
-        let Ok(built) = model::build(&case.description, &case.given, &ROOMS) else {
+        let Ok(built) = model::build(&case.description, &case.given, &model::AMPLE) else {
             continue;
         };
         let table = FlatTable::from(&built);
@@ -100,12 +97,7 @@ fn entries(table: &FlatTable, y: u32) -> &[u32] {
 fn touched_in_all(table: &FlatTable, request: &Request) -> Option<u64> {
     let mut sum = 0;
     for &entry in entries(table, request.y) {
-        let pixels = touched(
-            &table.segment(entry),
-            request.y,
-            request.x0,
-            request.n as usize,
-        )?;
+        let pixels = touched(&table.segment(entry), request.y, request.x0, request.n)?;
         sum += pixels.iter().filter(|&&pixel| pixel).count() as u64;
     }
     Some(sum)
@@ -126,7 +118,7 @@ fn reach_against_oracle(table: &FlatTable, y: u32) -> Verdict {
             return Verdict::Same;
         }
         if last >= 0 {
-            let pixels = touched(&segment, y, 0, WIDTH as usize).unwrap_or_default();
+            let pixels = touched(&segment, y, 0, WIDTH).unwrap_or_default();
             columns.extend((0..WIDTH).filter(|&x| pixels.get(x as usize) == Some(&true)));
         }
     }

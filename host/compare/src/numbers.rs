@@ -3,7 +3,7 @@
 use crate::tally::Tally;
 use crate::verdict::{equal, same_floats, Verdict};
 use cases::random::Random;
-use model::{curve, dequantize, draw, list, numbers, transform};
+use model::{dequantize, draw, list, numbers, transform};
 
 const CASES: u64 = 4_000;
 
@@ -76,7 +76,7 @@ pub fn compare(tally: &mut Tally) {
     tally.add(
         "multipliers",
         0,
-        &curve::MOST_POINTS,
+        &"all 32",
         equal(same, &table, &oracle::dct_multipliers()),
     );
 }

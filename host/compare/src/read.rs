@@ -3,7 +3,7 @@
 use crate::tally::Tally;
 use crate::verdict::{equal, hold, same_floats, Verdict};
 use cases::lists::{list_case, ListCase, KINDS};
-use cases::{Code, Description, Refusal};
+use cases::{each, Code, Description, Refusal};
 use model::ListRooms;
 use oracle::{Outcome, Read};
 
@@ -18,11 +18,9 @@ pub const ROOMS: ListRooms = ListRooms {
 };
 
 pub fn compare(tally: &mut Tally) {
-    for kind in KINDS {
-        for seed in 0..CASES_A_KIND {
-            let case = list_case(kind, seed);
-            tally.add(kind, seed, &case, against_oracle(&case));
-        }
+    for (kind, seed) in each(&KINDS, CASES_A_KIND) {
+        let case = list_case(kind, seed);
+        tally.add(kind, seed, &case, against_oracle(&case));
     }
 }
 

@@ -4,7 +4,7 @@ use crate::tally::Tally;
 use crate::verdict::{equal, hold, other_nans, same_floats, Verdict};
 use cases::random::Random;
 use cases::segments::{record, segment_case, SegmentCase, MAKING_KINDS, RECORD_KINDS};
-use cases::{Segment, Table};
+use cases::{each, Segment, Table};
 use model::segments::{add_segments, all_rows, columns, segment};
 use model::walk::Step;
 use oracle::{Outcome, Rows};
@@ -17,12 +17,10 @@ const CASES_ALONG: u64 = 1_000;
 const MOST_ROWS: usize = 1 << 12;
 
 pub fn compare_making(tally: &mut Tally) {
-    for kind in MAKING_KINDS {
-        for seed in 0..CASES_A_KIND {
-            let case = segment_case(kind, seed);
-            let verdict = making_against_oracle(tally, &case);
-            tally.add(kind, seed, &case, verdict);
-        }
+    for (kind, seed) in each(&MAKING_KINDS, CASES_A_KIND) {
+        let case = segment_case(kind, seed);
+        let verdict = making_against_oracle(tally, &case);
+        tally.add(kind, seed, &case, verdict);
     }
 }
 
@@ -99,33 +97,28 @@ fn along_against_oracle(
     })
 }
 
+/// So many pixels are looked at, from each of these on.
+const WINDOW: u32 = 100;
+const WINDOWS: [u32; 3] = [0, 40, (1 << 23) - WINDOW];
+
 pub fn compare_columns(tally: &mut Tally) {
-    for kind in RECORD_KINDS {
-        for seed in 0..CASES_A_KIND {
-            let record = record(kind, seed);
-            for x0 in [0, 40, (1 << 23) - WINDOW as u32] {
-                let all = columns(&record);
-                let mine: Vec<bool> = (0..WINDOW as i128)
-                    .map(|x| all.contains(&(x + i128::from(x0))))
-                    .collect();
-                let theirs = touched(&record, 0, x0, WINDOW);
-                tally.add(
-                    kind,
-                    seed,
-                    &(record, x0),
-                    equal(theirs.as_ref() == Some(&mine), &mine, &theirs),
-                );
-            }
+    for (kind, seed) in each(&RECORD_KINDS, CASES_A_KIND) {
+        let record = record(kind, seed);
+        let columns = columns(&record);
+        for x0 in WINDOWS {
+            let mine: Vec<bool> = (x0..x0 + WINDOW)
+                .map(|x| columns.contains(&x.into()))
+                .collect();
+            let theirs = touched(&record, 0, x0, WINDOW);
+            let verdict = equal(theirs.as_ref() == Some(&mine), &mine, &theirs);
+            tally.add(kind, seed, &(record, x0), verdict);
         }
     }
 }
 
-/// So many pixels are looked at.
-const WINDOW: usize = 100;
-
 /// The pixels that spline.rs touches when it draws this segment: those whose minus zero does not stay.
 /// Of two opposite colours one always adds something else than minus zero.
-pub fn touched(segment: &Segment, y: u32, x0: u32, n: usize) -> Option<Vec<bool>> {
+pub fn touched(segment: &Segment, y: u32, x0: u32, n: u32) -> Option<Vec<bool>> {
     let mut probe = *segment;
     probe[5..].copy_from_slice(&[1.0, -1.0, 1.0]);
     let mut row_starts = vec![0; y as usize + 1];
@@ -136,7 +129,7 @@ pub fn touched(segment: &Segment, y: u32, x0: u32, n: usize) -> Option<Vec<bool>
         entries: vec![0],
         estimate: 0,
     };
-    let blank = || vec![-0.0f32; n];
+    let blank = || vec![-0.0f32; n as usize];
     let [r0, r1, _] = oracle::draw(&table, y, x0, [blank(), blank(), blank()]).done()?;
     let stays = |x: f32| x.to_bits() == 1 << 31;
     Some(

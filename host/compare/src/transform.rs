@@ -10,23 +10,26 @@ const CASES: u64 = 3_000;
 pub fn compare(tally: &mut Tally) {
     for seed in 0..CASES {
         let r = &mut Random::new("transform", seed);
-        let kind = r.below(3);
-        let mut row = [0.0; 32];
-        for cell in &mut row {
-            *cell = match kind {
-                0 => r.between(-5.0, 5.0),
-                1 => r.pick(&[0.0, -0.0, 1.0]),
-                _ => r.any_f32(),
-            };
-        }
         let t = if r.once_in(4) {
             r.any_f32()
         } else {
             r.between(0.0, 31.0)
         };
+        let row = row(r, t);
         let cosines = cosines(t);
         let (mine, theirs) = (transform(&row, &cosines), oracle::transform(&row, t));
         let same = same_floats(&cosines, &oracle::cosines(t)) && same_floats(&[mine], &[theirs]);
         tally.add("any", seed, &(row, t), equal(same, &mine, &theirs));
     }
+}
+
+/// Ordinary coefficients, zeros of both signs, products that are all minus zero, or anything.
+fn row(r: &mut Random, t: f32) -> [f32; 32] {
+    let kind = r.below(4);
+    cosines(t).map(|cosine| match kind {
+        0 => r.between(-5.0, 5.0),
+        1 => r.pick(&[0.0, -0.0, 1.0]),
+        2 => 0f32.copysign(-cosine),
+        _ => r.any_f32(),
+    })
 }

@@ -4,22 +4,18 @@ use crate::read::{same_description, ROOMS};
 use crate::tally::Tally;
 use crate::verdict::{equal, hold, Verdict};
 use cases::lists::{encoded, list_case, write_case, ListCase, WriteCase, KINDS, WRITE_KINDS};
-use cases::Code;
+use cases::{each, Code};
 
 const CASES_A_KIND: u64 = 400;
 
 pub fn compare(tally: &mut Tally) {
-    for kind in WRITE_KINDS {
-        for seed in 0..CASES_A_KIND {
-            let case = write_case(kind, seed);
-            tally.add(kind, seed, &case, read_back(&case));
-        }
+    for (kind, seed) in each(&WRITE_KINDS, CASES_A_KIND) {
+        let case = write_case(kind, seed);
+        tally.add(kind, seed, &case, read_back(&case));
     }
-    for kind in KINDS {
-        for seed in 0..CASES_A_KIND {
-            let case = list_case(kind, seed);
-            tally.add(kind, seed, &case, written_again(&case));
-        }
+    for (kind, seed) in each(&KINDS, CASES_A_KIND) {
+        let case = list_case(kind, seed);
+        tally.add(kind, seed, &case, written_again(&case));
     }
 }
 

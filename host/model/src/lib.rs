@@ -17,4 +17,4 @@ pub mod walk;
 pub use draw::{draw, reach};
 pub use list::{read, write, ListRooms};
 pub use numbers::set_ln;
-pub use table::{build, BuildRooms};
+pub use table::{build, least_rooms, BuildRooms, AMPLE};

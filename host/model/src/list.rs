@@ -46,10 +46,11 @@ fn refuse<T>(code: Code, place: usize) -> Result<T, Refusal> {
     })
 }
 
-/// The values in order, and where the next one stands.
+/// The values in order, where the next one stands, and the points so far.
 struct Values<'a> {
     list: &'a [u32],
     next: usize,
+    points: u64,
 }
 
 impl Values<'_> {
@@ -74,7 +75,11 @@ pub fn read(
     rooms: &ListRooms,
 ) -> Result<Description, Refusal> {
     let limit = limit(configured, pixels);
-    let mut values = Values { list, next: 0 };
+    let mut values = Values {
+        list,
+        next: 0,
+        points: 0,
+    };
     let mut description = Description::default();
     let splines = read_count(&mut values, limit, rooms)?;
     read_starts(&mut values, splines, &mut description)?;
@@ -133,11 +138,11 @@ fn read_spline(
 ) -> Result<(), Refusal> {
     let place = values.next;
     let count = values.unsigned()?;
-    let total = points(&description.counts) + u64::from(count);
-    if total > limit {
+    values.points += u64::from(count);
+    if values.points > limit {
         return refuse(Code::Points, place);
     }
-    if 2 * total > rooms.deltas {
+    if 2 * values.points > rooms.deltas {
         return refuse(Code::Room, place);
     }
     description.counts.push(count);
@@ -156,11 +161,6 @@ fn read_spline(
     Ok(())
 }
 
-/// The points of all these splines.
-pub fn points(counts: &[u32]) -> u64 {
-    counts.iter().map(|&count| u64::from(count)).sum()
-}
-
 /// Whether a double delta has a magnitude of 2^30 or more.
 pub fn outrageous(double_delta: i32) -> bool {
     i64::from(double_delta).abs() >= DELTA_LIMIT
@@ -169,8 +169,13 @@ pub fn outrageous(double_delta: i32) -> bool {
 /// SHAPE: S counts need 2S start numbers, two delta numbers a point, 128S coefficients, exactly.
 pub fn well_shaped(description: &Description) -> bool {
     let splines = description.counts.len();
+    let points: u64 = description
+        .counts
+        .iter()
+        .map(|&count| u64::from(count))
+        .sum();
     description.starts.len() == 2 * splines
-        && description.deltas.len() as u64 == 2 * points(&description.counts)
+        && description.deltas.len() as u64 == 2 * points
         && description.coefficients.len() == 128 * splines
 }
 
