@@ -1,0 +1,7 @@
+-- The laws of the crate `dequantize`.
+pub mod Pairs
+pub mod Starts
+pub mod Near
+pub mod Steps
+pub mod Coincide
+pub mod Walks
