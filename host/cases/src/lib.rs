@@ -67,6 +67,26 @@ pub enum Code {
     Span = 16,
 }
 
+/// All of them, in the order of their numbers.
+pub const CODES: [Code; 16] = [
+    Code::Short,
+    Code::Splines,
+    Code::Coord,
+    Code::Points,
+    Code::Delta,
+    Code::Trail,
+    Code::Room,
+    Code::Size,
+    Code::Shape,
+    Code::Position,
+    Code::Distance,
+    Code::Area,
+    Code::Coincide,
+    Code::Table,
+    Code::Row,
+    Code::Span,
+];
+
 /// A refusal: what, and where.
 #[derive(Clone, Copy, Debug, PartialEq, Eq)]
 pub struct Refusal {

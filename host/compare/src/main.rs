@@ -48,13 +48,27 @@ fn main() -> ExitCode {
         eprintln!("compare: no layer is called {unknown}; usage: compare [hypot | LAYER..], layers: {layers}");
         return ExitCode::from(2);
     }
-    let chosen = LAYERS
+    let chosen: Vec<&Layer> = LAYERS
         .iter()
-        .filter(|(layer, _)| asked.is_empty() || asked.iter().any(|name| name == layer));
-    compare(chosen)
+        .filter(|(layer, _)| asked.is_empty() || asked.iter().any(|name| name == layer))
+        .collect();
+    let all = compare(&chosen);
+    let never = all.never_given();
+    if asked.is_empty() && !never.is_empty() {
+        println!("\nThe cases have holes: none gives {}", never.join(", "));
+        return ExitCode::FAILURE;
+    }
+    match all.smallest {
+        None => ExitCode::SUCCESS,
+        Some(difference) => {
+            println!("\nThe smallest input with another answer:\n{difference}");
+            ExitCode::FAILURE
+        }
+    }
 }
 
-fn compare<'a>(layers: impl Iterator<Item = &'a Layer>) -> ExitCode {
+/// Runs these layers, printing a line or more for each and for all.
+fn compare(layers: &[&Layer]) -> Tally {
     println!("spline.rs against the second reading of document 01");
     println!("{}", Tally::HEAD);
     let mut all = Tally::new("all");
@@ -65,11 +79,5 @@ fn compare<'a>(layers: impl Iterator<Item = &'a Layer>) -> ExitCode {
         all.join(&tally);
     }
     println!("{all}");
-    match all.smallest {
-        None => ExitCode::SUCCESS,
-        Some(difference) => {
-            println!("\nThe smallest input with another answer:\n{difference}");
-            ExitCode::FAILURE
-        }
-    }
+    all
 }

@@ -70,6 +70,17 @@ impl Tally {
         }
     }
 
+    /// The codes of document 01 that no case gave.
+    pub fn never_given(&self) -> Vec<String> {
+        let given =
+            |name: &String| self.refused.contains_key(name) || self.outside.contains_key(name);
+        cases::CODES
+            .iter()
+            .map(|&code| name(code))
+            .filter(|name| !given(name))
+            .collect()
+    }
+
     /// Adds another layer's counts.
     pub fn join(&mut self, other: &Tally) {
         self.cases += other.cases;

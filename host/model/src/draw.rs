@@ -113,3 +113,90 @@ pub fn reach(table: &FlatTable, y: u32, width: u32) -> Result<(u32, u32), Refusa
     }
     Ok(whole.map_or((0, 0), |(first, past)| (first as u32, past as u32)))
 }
+
+#[cfg(test)]
+mod tests {
+    use super::*;
+
+    /// Two rows; the first lists a segment at x = 3 and one left of the image, the second one without an end.
+    fn table() -> FlatTable {
+        let at = |x: f32, d: f32| [x, 0.0, d, 1.0, 1.0, 1.0, 1.0, 1.0];
+        FlatTable {
+            segments: [at(3.0, 1.0), at(-5.0, 2.0), at(4.0, f32::INFINITY)].concat(),
+            segment_count: 3,
+            entries: vec![0, 1, 2],
+            entry_count: 3,
+            row_starts: vec![0, 2, 3],
+            height: 2,
+        }
+    }
+
+    fn drawn(table: &FlatTable, y: u32, x0: u32, n: u32) -> Result<u64, Code> {
+        let [mut r0, mut r1, mut r2] = [[0.0; 10]; 3];
+        draw(table, y, x0, n, [&mut r0, &mut r1, &mut r2]).map_err(|refusal| refusal.code)
+    }
+
+    #[test]
+    fn updates_and_reach() {
+        assert_eq!(drawn(&table(), 0, 0, 10), Ok(4));
+        assert_eq!(drawn(&table(), 0, 3, 10), Ok(2));
+        assert_eq!(drawn(&table(), 1, 0, 10), Ok(0));
+        assert_eq!(reach(&table(), 0, 100), Ok((2, 5)));
+        assert_eq!(reach(&table(), 0, 4), Ok((2, 4)));
+        assert_eq!(reach(&table(), 0, 2), Ok((0, 0)));
+        assert_eq!(reach(&table(), 1, 100), Ok((0, 100)));
+    }
+
+    #[test]
+    fn requests_that_are_refused() {
+        let sound = table();
+        assert_eq!(drawn(&sound, 2, 0, 1), Err(Code::Row));
+        assert_eq!(drawn(&sound, 0, 0, 11), Err(Code::Span));
+        assert_eq!(drawn(&sound, 0, MOST_PIXELS - 5, 5), Ok(0));
+        assert_eq!(drawn(&sound, 0, MOST_PIXELS - 5, 6), Err(Code::Span));
+        assert_eq!(drawn(&sound, 0, u32::MAX, 10), Err(Code::Span));
+        let refused = reach(&sound, 0, MOST_PIXELS + 1).map_err(|refusal| refusal.code);
+        assert_eq!(refused, Err(Code::Size));
+    }
+
+    #[test]
+    fn tables_that_are_refused() {
+        let sound = table();
+        for wrong in [
+            FlatTable {
+                segment_count: 4,
+                ..sound.clone()
+            },
+            FlatTable {
+                segment_count: 1,
+                ..sound.clone()
+            },
+            FlatTable {
+                entry_count: 4,
+                ..sound.clone()
+            },
+            FlatTable {
+                entry_count: 1,
+                ..sound.clone()
+            },
+            FlatTable {
+                height: 3,
+                ..sound.clone()
+            },
+            FlatTable {
+                row_starts: vec![3, 2, 3],
+                ..sound.clone()
+            },
+        ] {
+            assert_eq!(drawn(&wrong, 0, 0, 1), Err(Code::Table), "{wrong:?}");
+        }
+        // Other rows are not looked at, and the counts come before the row.
+        let later = FlatTable {
+            row_starts: vec![0, 2, 1],
+            ..sound.clone()
+        };
+        assert_eq!(drawn(&later, 0, 0, 10), Ok(4));
+        let both = FlatTable { height: 3, ..sound };
+        assert_eq!(drawn(&both, 9, 0, 11), Err(Code::Table));
+    }
+}

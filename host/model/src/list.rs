@@ -277,4 +277,90 @@ mod tests {
         }
         assert_eq!(coordinate(-1.0, true), None);
     }
+
+    const ROOMS: ListRooms = ListRooms {
+        counts: 2,
+        starts: 4,
+        deltas: 2,
+        coefficients: 256,
+    };
+
+    /// Two splines at (5, 6) and (4, 8), with one double delta in all.
+    fn list() -> Vec<u32> {
+        let mut list = vec![1, 5, 6, pack(-1), pack(2), pack(-3), 1, pack(7), pack(-7)];
+        list.extend([9; 128]);
+        list.push(0);
+        list.extend([8; 128]);
+        list
+    }
+
+    fn refused(list: &[u32], configured: u32, rooms: &ListRooms) -> Option<(Code, u64)> {
+        let refusal = read(list, configured, 100, rooms).err();
+        refusal.map(|refusal| (refusal.code, refusal.place))
+    }
+
+    #[test]
+    fn lists_are_read_and_written() {
+        let description = read(&list(), 2, 100, &ROOMS).unwrap();
+        assert_eq!(description.starts, [5.0, 6.0, 4.0, 8.0]);
+        assert_eq!(description.deltas, [7, -7]);
+        assert_eq!(description.adjustment, -3);
+        let length = list().len() as u64;
+        assert_eq!(write(&description, 2, 100, length), Ok(list()));
+        let short = Refusal {
+            code: Code::Room,
+            place: length - 1,
+        };
+        assert_eq!(write(&description, 2, 100, length - 1), Err(short));
+        let splines = Refusal {
+            code: Code::Splines,
+            place: 0,
+        };
+        assert_eq!(write(&Description::default(), 2, 100, length), Err(splines));
+    }
+
+    #[test]
+    fn lists_that_are_refused() {
+        for length in 0..list().len() {
+            let short = Some((Code::Short, length as u64));
+            assert_eq!(refused(&list()[..length], 2, &ROOMS), short);
+        }
+        let mut longer = list();
+        longer.push(0);
+        assert_eq!(
+            refused(&longer, 2, &ROOMS),
+            Some((Code::Trail, list().len() as u64))
+        );
+        assert_eq!(refused(&list(), 1, &ROOMS), Some((Code::Splines, 0)));
+        let places = [
+            (ListRooms { counts: 1, ..ROOMS }, 0),
+            (ListRooms { starts: 3, ..ROOMS }, 0),
+            (
+                ListRooms {
+                    coefficients: 255,
+                    ..ROOMS
+                },
+                0,
+            ),
+            (ListRooms { deltas: 1, ..ROOMS }, 6),
+        ];
+        for (rooms, place) in places {
+            assert_eq!(refused(&list(), 2, &rooms), Some((Code::Room, place)));
+        }
+    }
+
+    #[test]
+    fn values_that_are_refused() {
+        for (index, value, refusal) in [
+            (2, 1 << 23, (Code::Coord, 1)),
+            (4, pack(-(1 << 23) - 6), (Code::Coord, 3)),
+            (6, 3, (Code::Points, 6)),
+            (8, pack(1 << 30), (Code::Delta, 7)),
+            (137, 2, (Code::Points, 137)),
+        ] {
+            let mut list = list();
+            list[index] = value;
+            assert_eq!(refused(&list, 2, &ROOMS), Some(refusal));
+        }
+    }
 }
