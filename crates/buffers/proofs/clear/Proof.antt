@@ -1,0 +1,67 @@
+-- `buffers::clear`: the cells from k up to i are blank, and the loop's store blanks one more.
+use mathlib.Core.Path.{_≡_, _∙_}
+use Prim.Native.Nat.{ℕ, _+_, _-_, _≤_}
+use native.Mathlib.Omega.{arith}
+use lib.Ieee.{binary32, ofBits}
+use lib.ListN.{length, length-set}
+use Rattle.buffers.proofs.Blanks.{blank, blank-none, blank-more, blank-all}
+use Rattle.buffers.proofs.clear.Statement.{statement}
+use Rattle.buffers.proofs.clear.Tie as tie
+
+abbrev Inv-loop : tie.InvT-loop
+Inv-loop out₀ k i₀ out i = (k ≤ i) × (i ≤ length out₀) × (length out ≡ length out₀) × (out ≡ blank k (i - k) (ofBits binary32 0) out₀)
+
+abbrev μ-loop : tie.MeasureT-loop
+μ-loop out₀ k i₀ out i = length out₀ - i
+
+loop-holds : tie.Need-loop-holds Inv-loop μ-loop
+loop-holds c =
+    let e : c .args .k - c .args .k ≡ 0 = omega arith in
+    (omega arith, omega arith, omega arith, rw e (blank-none (c .args .k) (ofBits binary32 0) (c .args .out .now)))
+
+mul-out : tie.Need-mul-out Inv-loop μ-loop
+mul-out c = omega arith
+
+slice-write-out : tie.Need-slice-write-out Inv-loop μ-loop
+slice-write-out c = omega arith
+
+add-i : tie.Need-add-i Inv-loop μ-loop
+add-i c = omega arith
+
+loop-less : tie.Need-loop-less Inv-loop μ-loop
+loop-less c = omega arith
+
+loop-again : tie.Need-loop-again Inv-loop μ-loop
+loop-again c =
+    let k = c .before .before .args .k in
+    let i = c .before .loop .i in
+    let v = c .before .loop .inv in
+    let e : k + (i - k) ≡ i = omega arith in
+    let g : i + 1 - k ≡ i - k + 1 = omega arith in
+    (omega arith, omega arith, simp length-set (omega arith), rw (v .3, g) (blank-more k (i - k) i _ _ e (omega arith)))
+
+same-length : tie.Need-same-length Inv-loop μ-loop
+same-length c = omega arith
+
+returns : tie.Need-returns Inv-loop μ-loop
+returns c =
+    let k = c .before .before .args .k in
+    let i = c .before .loop .i in
+    c .before .loop .inv .3 ∙ blank-all k (i - k) _ _ (omega arith)
+
+pub clear-spec : {M : Type 1} → statement M
+clear-spec =
+    tie.close
+    (tie.spec
+    Inv-loop
+    μ-loop
+    loop-holds
+    mul-out
+    slice-write-out
+    add-i
+    loop-less
+    loop-again
+    same-length
+    returns)
+
+-- Assumes nothing.
