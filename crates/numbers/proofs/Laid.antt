@@ -2,7 +2,7 @@
 use mathlib.Core.Path.{_≡_, sym, ap, _∙_}
 use mathlib.Core.Bool.{Bool, false}
 use Prim.Native.Nat.{ℕ, suc, _+_, _-_, _*_, _/_, _%_, _^_, _≤_, _<_}
-use native.Mathlib.Nat.{le-trans, le-of-eq, lt-irrefl, lt-of-lt-of-le, lt-of-le-of-lt, lt-of-not-le, mul-assoc, mul-right-comm, mul-le-mul-right, eq-of-mul-eq-mul-right}
+use native.Mathlib.Nat.{le-trans, le-of-eq, lt-of-lt-of-le, lt-of-le-of-lt, mul-assoc, mul-right-comm, mul-le-mul-right, eq-of-mul-eq-mul-right}
 use native.Mathlib.Omega.{arith}
 use lib.Count.{leadingZeros, leading-top}
 use lib.Dec.{T}
@@ -14,11 +14,9 @@ use lib.Ieee.Positive.{positive}
 use Rattle.numbers.specs.Inner.{Split, Power}
 use Rattle.numbers.specs.Root.{nearestRoot, sqrtOf}
 use Rattle.numbers.proofs.RootOf.{made, sqrt-at, q-le}
+use Rattle.numbers.proofs.Powers.{pow-lt-back}
 
-pow-lt-back : (i p : ℕ) → 2 ^ i < 2 ^ p → i < p
-pow-lt-back i p h = lt-of-not-le (λ (g : p ≤ i). lt-irrefl (2 ^ i) (lt-of-lt-of-le h (pow-mono g)))
-
-revalue : (x : Float) (s : Bool) (a c b d : ℕ) → 0 < c → HasValue x s a c → a * d ≡ b * c → HasValue x s b d
+pub revalue : (x : Float) (s : Bool) (a c b d : ℕ) → 0 < c → HasValue x s a c → a * d ≡ b * c → HasValue x s b d
 revalue nan s a c b d C v e = v
 revalue (inf t) s a c b d C v e = v
 revalue (fin t m k) s a c b d C v e =

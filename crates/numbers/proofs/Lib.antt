@@ -1,9 +1,9 @@
 -- The laws that the proofs of this crate cite.
 pub mod Zero
+pub mod Powers
 pub mod Order
 pub mod Unique
 pub mod Units
-pub mod Saturated
 pub mod Wholes
 pub mod Shift
 pub mod Near
@@ -21,3 +21,6 @@ pub mod Placed
 pub mod RootBy
 pub mod RootOfWhole
 pub mod Hypot
+pub mod Nearness
+pub mod ByKind
+pub mod Logs

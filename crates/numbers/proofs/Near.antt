@@ -2,7 +2,7 @@
 use mathlib.Core.Path.{_≡_, sym, ap, _∙_, subst}
 use mathlib.Core.Bool.{false}
 use Prim.Native.Nat.{ℕ, suc, _+_, _-_, _*_, _/_, _%_, _^_, _≤_, _<_, compare, zero-le}
-use native.Mathlib.Nat.{le-trans, le-of-eq, le-of-lt, le-antisymm, lt-of-lt-of-le, lt-of-le-of-lt, lt-of-not-le, not-le-of-lt, zero-lt-suc, one-mul, mul-comm, mul-assoc, mul-pos, mul-le-mul-right, div-one, suc-add, lt-irrefl}
+use native.Mathlib.Nat.{le-trans, le-of-eq, le-of-lt, le-antisymm, lt-of-lt-of-le, lt-of-le-of-lt, lt-of-not-le, not-le-of-lt, zero-lt-suc, one-mul, mul-comm, mul-assoc, mul-pos, mul-le-mul-right, div-one, suc-add}
 use native.Mathlib.Omega.{arith}
 use lib.IntN.{pos}
 use lib.Pow.{pow-add, pow-pos, pow-mono, shl-lt, shr-lt}
@@ -13,6 +13,7 @@ use lib.Ieee.Fits.{nearest-le, round-is}
 use lib.Ieee.Exact.{HasValue}
 use lib.Ieee.Nearest.{closest, closest-same}
 use Rattle.numbers.proofs.Units.{ofInt-is, put}
+use Rattle.numbers.proofs.Powers.{pow-lt-back}
 
 size-gt : (n j : ℕ) → 2 ^ j ≤ n → j < size n
 size-gt n j h = lt-of-not-le (λ (g : size n ≤ j). not-le-of-lt (lt-of-lt-of-le (size-lt n) (pow-mono g)) h)
@@ -56,9 +57,6 @@ pub record Sized (n z : ℕ) : Type 0 where
   pub some : z ≤ 39
   pub top : 2 ^ (23 + (40 - z)) ≤ n
   pub over : n < 2 ^ suc (23 + (40 - z))
-
-pow-lt-back : (i p : ℕ) → 2 ^ i < 2 ^ p → i < p
-pow-lt-back i p h = lt-of-not-le (λ (g : p ≤ i). lt-irrefl (2 ^ i) (lt-of-lt-of-le h (pow-mono g)))
 
 pub sized : (n : ℕ) → 16777216 < n → n < 2 ^ 64 → Sized n (leadingZeros 64 n)
 sized n g h =

@@ -26,7 +26,7 @@ at-top true true s v p = absurd p
 at-top true false s v p = absurd p
 at-top false b s v p = tt
 
-abbrev digitsOf : Format → ℕ → ℕ → ℕ
+abbrev pub digitsOf : Format → ℕ → ℕ → ℕ
 digitsOf f zero t = t
 digitsOf f (suc j) t = hid f + t
 

@@ -18,13 +18,13 @@ use Rattle.numbers.specs.Root.{IsRoot, root, nearestRoot, nearestRootAt,
 use Rattle.numbers.proofs.Roots.{root-is, scaled-root}
 
 -- ---- squares of powers of two
-square : (a : ℕ) → 2 ^ (2 * a) ≡ 2 ^ a * 2 ^ a
+pub square : (a : ℕ) → 2 ^ (2 * a) ≡ 2 ^ a * 2 ^ a
 square a = ap (λ (z : ℕ). 2 ^ z) (go a) ∙ pow-add 2 a a
   where
     go : (a : ℕ) → 2 * a ≡ a + a
     go a = omega arith
 
-square-back : (a b : ℕ) → a * a < b * b → a < b
+pub square-back : (a b : ℕ) → a * a < b * b → a < b
 square-back a b h = lt-of-not-le (λ (g : b ≤ a). not-le-of-lt h (mul-le-mul g g))
 
 -- n between 2 ^ (2 a) and 2 ^ (2 (a + 1)): its root has a + 1 digits

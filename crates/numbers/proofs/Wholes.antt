@@ -240,6 +240,10 @@ whole-is f s m k F =
 too-many : (p k : ℕ) → p ≤ p - 1 + suc k
 too-many p k = omega arith
 
+-- a value of magnitude 2 ^ (prec - 1) at least has no fraction
+pub no-fraction : (f : Format) (s : Bool) (m k : ℕ) → T (fits f (fin s m (negsuc k))) → 2 ^ (prec f - 1) * 2 ^ suc k ≤ m → ⊥
+no-fraction f s m k F h = lt-irrefl m (lt-of-lt-of-le (digits f s m (negsuc k) F) (le-trans (pow-mono (too-many (prec f) k)) (le-trans (le-of-eq (pow-add 2 (prec f - 1) (suc k))) h)))
+
 -- ---- the rule g, whole
 module _ (f : Format) (g : Bool → ℕ → ℕ → ℕ) where
   pub plain : (x : Float) (n : ℕ) → T (positive x) → n ≡ g false (num x) (den x) → ofInt f (pos n) ≡ wholeBy f g x
@@ -256,13 +260,10 @@ module _ (f : Format) (g : Bool → ℕ → ℕ → ℕ) where
   turned (fin true m e) n p k = ap neg (ofInt-is f n) ∙ neg-round f n 1 ∙ ap (λ (z : ℕ). round f true z 1) k
   turned (fin false m e) n p k = absurd p
 
-  -- a value of magnitude 2 ^ (prec - 1) at least has no fraction
   pub large : (s : Bool) (m : ℕ) (e : ℤ) → ((n : ℕ) → g s n 1 ≡ n) → T (fits f (fin s m e)) → 2 ^ (prec f - 1) * down e ≤ m * up e → fin s m e ≡ wholeBy f g (fin s m e)
   unfolding wholeBy
   large s m (pos k) id F h = whole-is f s m k F ∙ ap (λ (z : ℕ). round f s z 1) (sym (id (m * 2 ^ k)))
-  large s m (negsuc k) id F h =
-      absurd (lt-irrefl m (lt-of-lt-of-le (digits f s m (negsuc k) F)
-      (le-trans (pow-mono (too-many (prec f) k)) (le-trans (le-of-eq (pow-add 2 (prec f - 1) (suc k))) (le-trans h (le-of-eq (mul-one m)))))))
+  large s m (negsuc k) id F h = absurd (no-fraction f s m k F (le-trans h (le-of-eq (mul-one m))))
 
   pub null-kept : (s : Bool) (e : ℤ) → ((d : ℕ) → 0 < d → g s 0 d ≡ 0) → T (fits f (fin s 0 e)) → fin s 0 e ≡ wholeBy f g (fin s 0 e)
   unfolding wholeBy

@@ -1,6 +1,7 @@
 -- The words of the contracts. Definitions only.
 pub mod Arith
 pub mod Whole
+pub mod Kind
 pub mod Narrow
 pub mod Inner
 pub mod Root
@@ -11,3 +12,4 @@ pub mod Ln
 pub mod Saturating
 pub mod RootBy
 pub mod Length
+pub mod Readings

@@ -1,8 +1,9 @@
 -- The square root of IEEE 754: the value of the format that is nearest to the root, a tie to the even one. Definitions only, over the format.
 use Prim.Native.Nat.{ℕ, zero, suc, _+_, _-_, _*_, _/_, _^_, _≤_, _<_, compare}
 use mathlib.Core.Bool.{true, false, cond}
-use lib.Dec.{leb}
-use lib.Ieee.{Float, nan, inf, fin, Format, prec, low, up, down, size, nearest, units}
+use lib.Dec.{T, leb}
+use lib.Ieee.{Float, nan, inf, fin, Format, prec, low, up, down, size, nearest, units, fits}
+use lib.Ieee.Exact.{HasValue}
 
 -- r is the whole part of the root of n
 pub record IsRoot (n r : ℕ) : Type 0 where
@@ -54,3 +55,13 @@ sqrtOf f (inf false) = inf false
 sqrtOf f (fin s zero e) = fin s zero e
 sqrtOf f (fin true (suc m) e) = nan
 sqrtOf f (fin false (suc m) e) = rootOf f (suc m * up e * 2 ^ (2 * low f) / down e)
+
+-- r is the value of the format that is nearest to the root of x: no value y of it lies nearer. In units of the smallest value r is `root` and y is Y,
+-- and in units of its square x is `square`. The middle of r and y lies on y's side of the root of x: twice the middle, squared, against four times the square.
+pub record Nearest (f : Format) (x r : Float) : Type 0 where
+  pub square : ℕ
+  pub root : ℕ
+  pub of : HasValue x false square (2 ^ (2 * low f))
+  pub is : HasValue r false root (2 ^ low f)
+  pub below : (y : Float) (Y : ℕ) → T (fits f y) → HasValue y false Y (2 ^ low f) → Y < root → (Y + root) * (Y + root) ≤ 4 * square
+  pub above : (y : Float) (Y : ℕ) → T (fits f y) → HasValue y false Y (2 ^ low f) → root < Y → 4 * square ≤ (Y + root) * (Y + root)

@@ -1,46 +1,52 @@
--- The i64, which is x's by its contract, held to the range of an i32.
-use mathlib.Core.Path.{_≡_, ap, sym, _∙_, subst}
+-- Each arm is the definition's case of the kind, which held to the range is Rust's `as`.
+use mathlib.Core.Path.{_≡_, ap, sym, _∙_}
 use borrow.Author.Needs.{needs}
-use lib.IntN.{ℤ, pos, negsuc}
-use lib.Signed.{ltZ}
 use lib.Ieee.{toSigned}
+use lib.Ieee.Casts.{toSigned-in}
 use mir.Facts.{toZ-ofZ}
-use mir.Syntax.{w32, w64}
-use mir.Val.{SFits, toZ, ofZ}
-use Rattle.numbers.proofs.Zero.{yes, no}
-use Rattle.numbers.proofs.Signed.{signed-fits, Within, high-32, low-32, mid-32}
+use mir.Syntax.{w32}
+use Rattle.numbers.specs.Kind.{saturatedI32}
+use Rattle.numbers.proofs.ByKind.{saturated-i32}
 use Rattle.numbers.proofs.saturating_f32_to_i32.Statement.{statement}
 use Rattle.numbers.proofs.saturating_f32_to_i32.Tie as tie
 
-saturating-f32-to-i64-requires : tie.Need-saturating-f32-to-i64-requires
-saturating-f32-to-i64-requires c κs = search needs
+cut-to-i32-requires : tie.Need-cut-to-i32-requires
+cut-to-i32-requires c κs = search needs
 
--- the i64 as the machine reads it back
-z-is : (c : tie.After-saturating-f32-to-i64) → toZ w64 (ofZ w64 (c .saturating-f32-to-i64 .result)) ≡ toSigned 63 (c .before .args .x)
-z-is c = rw (c .saturating-f32-to-i64 .ensures) (toZ-ofZ {w = w64} {z = toSigned 63 (c .before .args .x)} (signed-fits (c .before .args .x)))
+enum-known-z : tie.Need-enum-known-z
+enum-known-z c = search needs
 
-inside : (c : tie.Else2) → Within (toSigned 63 (c .before .before .before .args .x)) (toSigned 31 (c .before .before .before .args .x))
-inside c = mid-32 (c .before .before .before .args .x)
-    (no (ap (λ (z : ℤ). ltZ (pos 2147483647) z) (sym (z-is (c .before .before))) ∙ c .before .if1 .left))
-    (no (ap (λ (z : ℤ). ltZ z (negsuc 2147483647)) (sym (z-is (c .before .before))) ∙ c .if2 .left))
+enum-told : tie.Need-enum-told
+enum-told c = search needs
 
-cast-result : tie.Need-cast-result
-cast-result c = subst (SFits w32) (sym (z-is (c .before .before))) (inside c .fits)
+enum-told-2 : tie.Need-enum-told-2
+enum-told-2 c = search needs
+
+enum-told-3 : tie.Need-enum-told-3
+enum-told-3 c = search needs
+
+-- the exact value is Rust's
+value : (c : tie.After-z) → c .z .given .0 .0 ≡ toSigned 31 (c .before .before .before .args .x)
+value c =
+    ap saturatedI32 (sym (c .z .given .1) ∙ c .before .before .cut-to-i32 .ensures)
+    ∙ saturated-i32 (c .before .before .before .args .x)
 
 returns : tie.Need-returns
-returns c = high-32 (c .before .before .args .x) (yes (ap (λ (z : ℤ). ltZ (pos 2147483647) z) (sym (z-is (c .before))) ∙ c .if1 .taken))
+returns c =
+    let x = c .before .before .before .before .args .x in
+    rw (value (c .before)) (toZ-ofZ {w = w32} {z = toSigned 31 x} (record { sfits = toSigned-in 31 x }))
 
 returns-2 : tie.Need-returns-2
-returns-2 c = low-32 (c .before .before .before .args .x) (yes (ap (λ (z : ℤ). ltZ z (negsuc 2147483647)) (sym (z-is (c .before .before))) ∙ c .if2 .taken))
+returns-2 c = ap saturatedI32 (sym (c .enum-told .given .1) ∙ c .before .before .cut-to-i32 .ensures) ∙ saturated-i32 (c .before .before .before .args .x)
 
 returns-3 : tie.Need-returns-3
-returns-3 c =
-    toZ-ofZ {w = w32} {z = toZ w64 (ofZ w64 (c .before .before .saturating-f32-to-i64 .result))} (cast-result c)
-    ∙ z-is (c .before .before)
-    ∙ inside c .is
+returns-3 c = ap saturatedI32 (sym (c .enum-told2 .given .1) ∙ c .before .before .cut-to-i32 .ensures) ∙ saturated-i32 (c .before .before .before .args .x)
+
+returns-4 : tie.Need-returns-4
+returns-4 c = ap saturatedI32 (sym (c .enum-told3 .given .1) ∙ c .before .before .cut-to-i32 .ensures) ∙ saturated-i32 (c .before .before .before .args .x)
 
 pub saturating-f32-to-i32-spec : {M : Type 1} → statement M
 saturating-f32-to-i32-spec =
-    tie.close (tie.spec saturating-f32-to-i64-requires cast-result returns returns-2 returns-3)
+    tie.close (tie.spec cut-to-i32-requires enum-known-z enum-told enum-told-2 enum-told-3 returns returns-2 returns-3 returns-4)
 
 -- Assumes nothing.

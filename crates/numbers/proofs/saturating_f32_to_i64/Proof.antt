@@ -1,31 +1,52 @@
--- Within the range the cut; at either end and at a NaN the definition is computed.
-use lib.Ieee.{ofBits, neg}
+-- Each arm is the definition's case of the kind, which held to the range is Rust's `as`.
+use mathlib.Core.Path.{_≡_, ap, sym, _∙_}
 use borrow.Author.Needs.{needs}
-use Rattle.numbers.proofs.Zero.{yes, no}
-use Rattle.numbers.proofs.Saturated.{high-signed, low-signed, nan-signed}
+use lib.Ieee.{toSigned}
+use lib.Ieee.Casts.{toSigned-in}
+use mir.Facts.{toZ-ofZ}
+use mir.Syntax.{w64}
+use Rattle.numbers.specs.Kind.{saturatedI64}
+use Rattle.numbers.proofs.ByKind.{saturated-i64}
 use Rattle.numbers.proofs.saturating_f32_to_i64.Statement.{statement}
 use Rattle.numbers.proofs.saturating_f32_to_i64.Tie as tie
 
-truncating-f32-to-i64-requires : tie.Need-truncating-f32-to-i64-requires
-unfolding ofBits neg
-truncating-f32-to-i64-requires c κs = (yes (c .before .if1 .taken), yes (c .if2 .taken))
+cut-to-i64-requires : tie.Need-cut-to-i64-requires
+cut-to-i64-requires c κs = search needs
+
+enum-known-z : tie.Need-enum-known-z
+enum-known-z c = search needs
+
+enum-told : tie.Need-enum-told
+enum-told c = search needs
+
+enum-told-2 : tie.Need-enum-told-2
+enum-told-2 c = search needs
+
+enum-told-3 : tie.Need-enum-told-3
+enum-told-3 c = search needs
+
+-- the exact value is Rust's
+value : (c : tie.After-z) → c .z .given .0 .0 ≡ toSigned 63 (c .before .before .before .args .x)
+value c =
+    ap saturatedI64 (sym (c .z .given .1) ∙ c .before .before .cut-to-i64 .ensures)
+    ∙ saturated-i64 (c .before .before .before .args .x)
 
 returns : tie.Need-returns
-returns c = search needs
+returns c =
+    let x = c .before .before .before .before .args .x in
+    rw (value (c .before)) (toZ-ofZ {w = w64} {z = toSigned 63 x} (record { sfits = toSigned-in 63 x }))
 
 returns-2 : tie.Need-returns-2
-unfolding ofBits neg
-returns-2 c = high-signed 63 (c .before .before .args .x) (yes (c .before .if1 .taken)) (no (c .if2 .left))
+returns-2 c = ap saturatedI64 (sym (c .enum-told .given .1) ∙ c .before .before .cut-to-i64 .ensures) ∙ saturated-i64 (c .before .before .before .args .x)
 
 returns-3 : tie.Need-returns-3
-unfolding ofBits neg
-returns-3 c = low-signed 63 (c .before .before .args .x) (no (c .before .if1 .left)) (yes (c .if3 .taken))
+returns-3 c = ap saturatedI64 (sym (c .enum-told2 .given .1) ∙ c .before .before .cut-to-i64 .ensures) ∙ saturated-i64 (c .before .before .before .args .x)
 
 returns-4 : tie.Need-returns-4
-unfolding ofBits neg
-returns-4 c = nan-signed 63 (c .before .before .args .x) (no (c .before .if1 .left)) (no (c .if3 .left))
+returns-4 c = ap saturatedI64 (sym (c .enum-told3 .given .1) ∙ c .before .before .cut-to-i64 .ensures) ∙ saturated-i64 (c .before .before .before .args .x)
 
 pub saturating-f32-to-i64-spec : {M : Type 1} → statement M
-saturating-f32-to-i64-spec = tie.close (tie.spec truncating-f32-to-i64-requires returns returns-2 returns-3 returns-4)
+saturating-f32-to-i64-spec =
+    tie.close (tie.spec cut-to-i64-requires enum-known-z enum-told enum-told-2 enum-told-3 returns returns-2 returns-3 returns-4)
 
 -- Assumes nothing.
