@@ -292,7 +292,7 @@ fn positions(r: &mut Random, case: &mut BuildCase) {
         // A point at the edge.
         _ => start[axis] = (near(r) - deltas[axis]) as f32,
     }
-    // Few fibres may be millions of steps long, so most that are that long get a great estimate.
+    // A fibre of millions of steps takes long to draw, so it gets an estimate that is refused.
     let long = deltas[axis].abs() > 1 << 16;
     let mut coefficients = ordinary_coefficients(r);
     if long {

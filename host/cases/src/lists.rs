@@ -270,9 +270,10 @@ fn delta(r: &mut Random, case: &mut ListCase) {
     }
 }
 
-/// Seeds that follow each other cut the same list at one place after another, and then take the next list.
+/// Seeds that follow each other cut the same list at one place after another; each 512 of them take the next list,
+/// which is shorter than that.
 fn cut(seed: u64) -> ListCase {
-    let list = listed(&mut Random::new("cut", seed / 512));
+    let list = encoded(&build_case("fibres", seed / 512).description);
     let length = seed as usize % 512 % (list.len() + 1);
     ListCase {
         list: list[..length].to_vec(),

@@ -76,6 +76,43 @@ fn hostile(r: &mut Random, case: &mut SegmentCase) {
     }
 }
 
+/// The coefficients of one spline and a walk for them.
+#[derive(Clone, Debug, PartialEq)]
+pub struct AlongCase {
+    pub coefficients: [[f32; 32]; 4],
+    /// x, y and multiplier of each step.
+    pub walk: Vec<[f32; 3]>,
+    pub length: f32,
+    pub high_precision: bool,
+}
+
+pub const ALONG_KINDS: [&str; 2] = ["ordinary", "hostile"];
+
+/// A spline of this kind and seed with some steps; the length need not be theirs.
+pub fn along_case(kind: &str, seed: u64) -> AlongCase {
+    let mut random = Random::new(kind, seed);
+    let r = &mut random;
+    let number = |r: &mut Random| match kind {
+        "ordinary" => r.between(-2.0, 2.0),
+        "hostile" => r.any_f32(),
+        _ => panic!("no kind of spline is called {kind}"),
+    };
+    let mut coefficients = [[0.0; 32]; 4];
+    for row in &mut coefficients {
+        let used = r.within(1, 32) as usize;
+        row[..used].fill_with(|| number(r));
+    }
+    let steps = r.below(6);
+    AlongCase {
+        coefficients,
+        walk: (0..steps)
+            .map(|_| [number(r), number(r), number(r)])
+            .collect(),
+        length: r.pick(&[1.0, 2.5, 4.75, 1e-44, f32::INFINITY, f32::NAN]),
+        high_precision: r.once_in(2),
+    }
+}
+
 /// A finished record of this kind and seed.
 pub fn record(kind: &str, seed: u64) -> Segment {
     let mut random = Random::new(kind, seed);

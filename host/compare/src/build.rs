@@ -1,7 +1,7 @@
 //! Building the whole table.
 
 use crate::tally::Tally;
-use crate::verdict::{equal, hold, other_nans, same_floats, Verdict};
+use crate::verdict::{equal, hold, no_equality, other_nans, same_floats, Verdict};
 use cases::descriptions::{build_case, BuildCase, KINDS, SLOW_KINDS};
 use cases::{each, Code, Table};
 use model::segments::all_rows;
@@ -27,37 +27,25 @@ pub fn compare(tally: &mut Tally) {
 fn against_oracle(tally: &mut Tally, case: &BuildCase) -> Verdict {
     let BuildCase { description, given } = case;
     let mine = model::build(description, given, &AMPLE);
-    match mine {
-        Err(refusal)
-            if matches!(
-                refusal.code,
-                Code::Size | Code::Shape | Code::Delta | Code::Room
-            ) =>
-        {
+    if let Err(refusal) = &mine {
+        if no_equality(refusal.code) || refusal.code == Code::Delta {
             return Verdict::Outside(refusal.code);
         }
-        Err(refusal) => {
-            let place = oracle::refused_spline(description, given).map(|number| number as u64);
-            if place != Some(refusal.place) {
-                return equal(false, &refusal, &place);
-            }
+        let place = oracle::refused_spline(description, given).map(|number| number as u64);
+        if place != Some(refusal.place) {
+            return equal(false, refusal, &place);
         }
-        Ok(_) => {}
     }
     let theirs = oracle::build(description, given);
-    if let (Ok(table), Outcome::Done(built)) = (&mine, &theirs) {
-        note_listed(tally, table, built);
-    }
     match (&mine, &theirs) {
+        (Ok(table), Outcome::Done(built)) => note_listed(tally, table, built),
         (Ok(table), Outcome::NoMemory) if stored(table) < 1 << 22 => {
-            equal(false, &"a small table", &theirs)
+            return equal(false, &"a small table", &theirs);
         }
-        _ => hold(
-            &mine.map_err(|refusal| refusal.code),
-            &theirs,
-            |mine, built| same_table(mine, &built.table),
-        ),
+        _ => {}
     }
+    let mine = mine.map_err(|refusal| refusal.code);
+    hold(&mine, &theirs, |mine, built| same_table(mine, &built.table))
 }
 
 /// How many segments and rows, those below the image too, spline.rs has to store.

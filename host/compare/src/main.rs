@@ -1,13 +1,12 @@
 //! The standing comparison: each party's answers held against the model's, layer by layer, on fixed cases.
 //!
-//! `compare` runs all layers, `compare LAYER..` only some, `compare hypot` counts lengths on which the host's `hypot`
-//! differs. Prints a table; ends with 1, and the smallest input, where an answer differs in a way that is not listed.
+//! `compare` runs all layers, `compare LAYER..` only some. Prints a table; ends with 1, and the smallest input, where an
+//! answer differs in a way that docs/DIFFERENCES.md does not list.
 
 mod build;
 mod curve;
 mod dequantize;
 mod draw;
-mod hypot;
 mod numbers;
 mod read;
 mod segments;
@@ -39,13 +38,12 @@ const LAYERS: [Layer; 12] = [
 
 fn main() -> ExitCode {
     let asked: Vec<String> = std::env::args().skip(1).collect();
-    if asked == ["hypot"] {
-        return hypot::count();
-    }
     let known = |name: &String| LAYERS.iter().any(|(layer, _)| layer == name);
     if let Some(unknown) = asked.iter().find(|name| !known(name)) {
         let layers = LAYERS.map(|(layer, _)| layer).join(" ");
-        eprintln!("compare: no layer is called {unknown}; usage: compare [hypot | LAYER..], layers: {layers}");
+        eprintln!(
+            "compare: no layer is called {unknown}; usage: compare [LAYER..], layers: {layers}"
+        );
         return ExitCode::from(2);
     }
     let chosen: Vec<&Layer> = LAYERS

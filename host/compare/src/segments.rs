@@ -2,8 +2,8 @@
 
 use crate::tally::Tally;
 use crate::verdict::{equal, hold, other_nans, same_floats, Verdict};
-use cases::random::Random;
-use cases::segments::{record, segment_case, SegmentCase, MAKING_KINDS, RECORD_KINDS};
+use cases::segments::{along_case, record, segment_case, AlongCase, SegmentCase};
+use cases::segments::{ALONG_KINDS, MAKING_KINDS, RECORD_KINDS};
 use cases::{each, Segment, Table};
 use model::segments::{add_segments, all_rows, columns, segment};
 use model::walk::Step;
@@ -11,7 +11,6 @@ use oracle::{Outcome, Rows};
 use std::ops::Range;
 
 const CASES_A_KIND: u64 = 1_500;
-const CASES_ALONG: u64 = 1_000;
 
 /// Longer runs of rows are only known to be too long.
 const MOST_ROWS: usize = 1 << 12;
@@ -55,43 +54,32 @@ fn same_rows(mine: Range<i128>, theirs: Rows) -> bool {
     }
 }
 
-/// The segments of one spline along a walk, both of any numbers.
+/// The segments of one spline along a walk.
 pub fn compare_along(tally: &mut Tally) {
-    for seed in 0..CASES_ALONG {
-        let r = &mut Random::new("along", seed);
-        let hostile = r.once_in(2);
-        let number = |r: &mut Random| {
-            if hostile {
-                r.any_f32()
-            } else {
-                r.between(-2.0, 2.0)
-            }
-        };
-        let mut rows = [[0.0; 32]; 4];
-        rows.iter_mut()
-            .flatten()
-            .take(r.below(128) as usize + 1)
-            .for_each(|cell| *cell = number(r));
-        rows[3][0] = number(r);
-        let walk: Vec<[f32; 3]> = (0..r.below(6))
-            .map(|_| [number(r), number(r), number(r)])
-            .collect();
-        let length = r.pick(&[1.0, 2.5, 4.75, 1e-44, f32::INFINITY, f32::NAN]);
-        let verdict = along_against_oracle(&rows, &walk, length, hostile);
-        tally.add("any", seed, &(rows, walk, length, hostile), verdict);
+    for (kind, seed) in each(&ALONG_KINDS, CASES_A_KIND) {
+        let case = along_case(kind, seed);
+        tally.add(kind, seed, &case, along_against_oracle(&case));
     }
 }
 
-fn along_against_oracle(
-    rows: &[[f32; 32]; 4],
-    walk: &[[f32; 3]],
-    length: f32,
-    high_precision: bool,
-) -> Verdict {
+fn along_against_oracle(case: &AlongCase) -> Verdict {
+    let AlongCase {
+        coefficients,
+        walk,
+        length,
+        high_precision,
+    } = case;
     let steps: Vec<Step> = walk.iter().map(|&[x, y, m]| ([x, y], m)).collect();
     let mut mine = Vec::new();
-    let room = add_segments(rows, &steps, length, high_precision, u64::MAX, &mut mine);
-    let theirs = oracle::segments(rows, walk, length, high_precision);
+    let room = add_segments(
+        coefficients,
+        &steps,
+        *length,
+        *high_precision,
+        u64::MAX,
+        &mut mine,
+    );
+    let theirs = oracle::segments(coefficients, walk, *length, *high_precision);
     hold(&room.map(|()| mine), &theirs, |mine, theirs| {
         same_floats(&mine.concat(), &theirs.concat())
     })
@@ -132,10 +120,6 @@ pub fn touched(segment: &Segment, y: u32, x0: u32, n: u32) -> Option<Vec<bool>> 
     let blank = || vec![-0.0f32; n as usize];
     let [r0, r1, _] = oracle::draw(&table, y, x0, [blank(), blank(), blank()]).done()?;
     let stays = |x: f32| x.to_bits() == 1 << 31;
-    Some(
-        r0.iter()
-            .zip(&r1)
-            .map(|(&a, &b)| !stays(a) || !stays(b))
-            .collect(),
-    )
+    let both = r0.iter().zip(&r1);
+    Some(both.map(|(&a, &b)| !stays(a) || !stays(b)).collect())
 }

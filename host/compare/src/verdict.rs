@@ -50,7 +50,7 @@ pub fn hold<M: Debug, O: Debug>(
 }
 
 /// Codes of document 01 for which the Rust has no counterpart.
-fn no_equality(code: Code) -> bool {
+pub fn no_equality(code: Code) -> bool {
     use Code::*;
     matches!(
         code,
