@@ -150,9 +150,9 @@ fn mul(a: u32, b: u32) -> u64
     (a as u64) * (b as u64)
 }
 
-// A number below 2^25 that is likely the root's 24 digits, or one less: the word w of the table, f the digits below its place. Nothing rests on it.
+// The root's 24 digits or one less, if w is the table's number for the piece and f the 17 digits within it. Nothing rests on it: each remainder
+// only keeps the next step safe for any w.
 fn guess(w: u64, f: u32) -> u32
-    requires { ⌜ f < 131072 ⌝ }
     ensures { λ r. ⌜ r < 33554432 ⌝ }
 {
     let c: u32 = (w % 16384) as u32;
@@ -170,19 +170,22 @@ fn nearer(g: u32, n: u64) -> u32
     if n > mul(g, g) + (g as u64) { g + 1 } else { g }
 }
 
-// The pattern of the root of the number with the pattern `bits`, a normal one; 0 if the guess was no good.
+// The pattern of the root of the normal number with the pattern `bits`; 0 if the guess was no good, and for an infinity, a NaN or a sign.
 fn pattern(bits: u32, w: u64) -> u32
     ensures { λ r. ⌜ (r ≡ 0) ⊎ ((bits < 2139095040) × (r ≡ rootBits bits)) ⌝ }
 {
     if bits < 2139095040 {
         let g: u32 = guess(w, bits % 131072);
+        // the 24 digits, doubled where the field is even: n has 47 or 48, and its root 24
         let t: u32 = bits % 16777216;
         let m: u32 = if t < 8388608 { t + t + 16777216 } else { t };
         let n: u64 = (m as u64) * 8388608;
         let r: u32 = nearer(g, n);
+        // n from r² - r + 1 up to r² + r: r is the number nearest to its root
         let q: u64 = mul(r, r);
         if n <= q + (r as u64) {
             if q < n + (r as u64) {
+                // half the field, and the digits: 2^24 of them carry into the field
                 let e: u32 = (bits + 1065353216) / 16777216;
                 return e * 8388608 + r - 8388608;
             }
@@ -191,7 +194,7 @@ fn pattern(bits: u32, w: u64) -> u32
     0
 }
 
-// The root of x, to the nearest `f32`, as `root`, and faster where the lent table is ROOTS.
+// The `f32` nearest to the root of x, as `root`, whatever the table holds; fast for the normal numbers where it is ROOTS.
 pub fn root_by(x: f32, table: &[u64; 128]) -> f32
     ensures { λ r. ⌜ r ≡ sqrtOf binary32 x ⌝ }
 {
