@@ -84,7 +84,7 @@ module _ (x : Float) (m e : ℕ) (S : Split binary32 x m e) where
   n-hi = lt-of-lt-of-le (shl-lt (suc (top .0)) t (top .3)) (pow-mono over)
 
   pub small-enough : nearestRoot (m * 2 ^ tOf e (leadingZeros 64 m)) ≤ 2 ^ 24
-  small-enough = q-le binary32 (m * 2 ^ t) w n-lo n-hi
+  small-enough = q-le binary32 (m * 2 ^ t) n-lo n-hi
 
   sum : t + 2 * w ≡ e + 149
   sum = go (leadingZeros 64 m) e z-lo z-hi
@@ -118,6 +118,6 @@ module _ (x : Float) (m e : ℕ) (S : Split binary32 x m e) where
   valued = revalue x false (m * 2 ^ e) (2 ^ 149) (m * 2 ^ t * 2 ^ (2 * w)) (2 ^ 298) (pow-pos 149) (S .value) same
 
   pub rooted : (s : Float) → T (positive x) → Power (hOf e (leadingZeros 64 m) / 2) s → mul binary32 (ofInt binary32 (pos (nearestRoot (m * 2 ^ tOf e (leadingZeros 64 m))))) s ≡ sqrtOf binary32 x
-  rooted s p v = made binary32 (m * 2 ^ t) w n-lo n-hi s (v .value) ∙ sym (sqrt-at binary32 x (m * 2 ^ t * 2 ^ (2 * w)) p valued)
+  rooted s p v = made binary32 (m * 2 ^ t) n-lo n-hi w s (v .value) ∙ sym (sqrt-at binary32 x (m * 2 ^ t * 2 ^ (2 * w)) p valued)
 
 -- Assumes nothing.

@@ -16,7 +16,6 @@ pub mod Signs
 pub mod Above
 pub mod Products
 pub mod Signed
-pub mod Kept
 pub mod Placed
 pub mod RootBy
 pub mod RootOfWhole

@@ -146,7 +146,7 @@ module _ (f : Format) where
         go4 t h = omega arith
 
 -- ---- the patterns of powers of two, f32
-valued : (x : Float) (s : Bool) (a d : ℕ) → HasValue x s a d → T (not (isNan x))
+pub valued : (x : Float) (s : Bool) (a d : ℕ) → HasValue x s a d → T (not (isNan x))
 unfolding isNan
 valued nan s a d v = absurd v
 valued (inf t) s a d v = absurd v
@@ -156,7 +156,7 @@ pub power-no-nan : (w b : ℕ) → Power w (ofBits binary32 b) → T (not (nanBi
 power-no-nan w b v = subst (λ (t : Bool). T (not t)) (sym (nanBits-is binary32 b)) (valued (ofBits binary32 b) false (2 ^ w) (2 ^ 149) (v .value))
 
 -- the fields of a pattern below 2 ^ 31
-plain : (b : ℕ) → b < 2 ^ 31 → ofBits binary32 b ≡ ofFields binary32 false (b / 2 ^ 23) (b % 2 ^ 23)
+pub plain : (b : ℕ) → b < 2 ^ 31 → ofBits binary32 b ≡ ofFields binary32 false (b / 2 ^ 23) (b % 2 ^ 23)
 plain b h =
     ofBits-is binary32 b
     ∙ ap (λ (s : Bool). ofFields binary32 s (b % 2 ^ 31 / 2 ^ 23) (b % 2 ^ 23)) (is-false (leb (2 ^ 31) b) (lt→nleb (2 ^ 31) b h))

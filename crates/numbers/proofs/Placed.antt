@@ -3,20 +3,16 @@ use mathlib.Core.Path.{_≡_, refl, sym, ap, _∙_, subst}
 use mathlib.Core.Logic.{inl, inr}
 use mathlib.Core.Bool.{Bool, false, not}
 use Prim.Native.Nat.{ℕ, suc, _+_, _-_, _*_, _/_, _%_, _^_, _≤_, _<_}
-use native.Mathlib.Nat.{lt-of-le-of-lt, mod-eq-of-lt, eq-or-lt-of-le, mul-le-mul-right, le-of-eq}
+use native.Mathlib.Nat.{lt-of-le-of-lt, eq-or-lt-of-le, mul-le-mul-right, le-of-eq}
 use native.Mathlib.Omega.{arith}
-use lib.Dec.{T, leb, ltb, eqb, eqb→eq, not-T}
-use lib.Arith.{lt→nleb}
+use lib.Dec.{T, ltb, eqb, eqb→eq, not-T}
 use lib.Pow.{pow-add, pow-pos, pow-lt}
-use lib.Ieee.{Float, nan, inf, fin, binary32, odd, units, fits, isNan, ofFields, ofBits, nanBits}
-use lib.Ieee.Bits.{is-false, cond-no, ofBits-fits, nanBits-is}
+use lib.Ieee.{Float, inf, binary32, odd, units, fits, ofFields, ofBits, nanBits}
+use lib.Ieee.Bits.{cond-no, ofBits-fits, nanBits-is}
 use lib.Ieee.Fits.{odd-fits, inf-fits, cond-fits}
 use lib.Ieee.Exact.{HasValue, odd-sign, units-val}
 use Rattle.numbers.proofs.Unique.{value-unique}
-
-ofBits-is : (b : ℕ) → ofBits binary32 b ≡ ofFields binary32 (leb (2 ^ 31) b) (b % 2 ^ 31 / 2 ^ 23) (b % 2 ^ 23)
-unfolding ofBits
-ofBits-is b = refl
+use Rattle.numbers.proofs.Pattern.{plain, valued}
 
 -- ---- a field j + 1 that is not the last, and digits d
 fields-are : (j d : ℕ) → j < 254 → ofFields binary32 false (suc j) d ≡ odd 24 false (2 ^ 23 + d) j 149
@@ -50,9 +46,7 @@ module _ (j d : ℕ) (field : j < 254) (digits : d < 2 ^ 23) where
 
   read : ofBits binary32 b ≡ odd 24 false (2 ^ 23 + d) j 149
   read =
-      ofBits-is b
-      ∙ ap (λ (s : Bool). ofFields binary32 s (b % 2 ^ 31 / 2 ^ 23) (b % 2 ^ 23)) (is-false (leb (2 ^ 31) b) (lt→nleb (2 ^ 31) b small))
-      ∙ ap (λ (z : ℕ). ofFields binary32 false (z / 2 ^ 23) (b % 2 ^ 23)) (mod-eq-of-lt small)
+      plain b small
       ∙ ap (λ (z : ℕ). ofFields binary32 false z (b % 2 ^ 23)) field-is
       ∙ ap (λ (z : ℕ). ofFields binary32 false (suc j) z) digits-are
       ∙ fields-are j d field
@@ -112,12 +106,6 @@ module _ (q w : ℕ) (lo : 2 ^ 23 ≤ q) (hi : q ≤ 2 ^ 24) (room : w < 253) wh
   pattern-is = value-unique binary32 (ofBits binary32 c) (units binary32 false q w) false (q * 2 ^ w) (2 ^ 149) (q * 2 ^ w) (2 ^ 149) (pow-pos 149) (pow-pos 149) (ofBits-fits binary32 c) units-fit pattern-value (units-val binary32 false q w under) refl
 
   pub pattern-no-nan : T (not (nanBits binary32 (w * 2 ^ 23 + q)))
-  unfolding isNan
-  pattern-no-nan = subst (λ (t : Bool). T (not t)) (sym (nanBits-is binary32 c)) (valued (ofBits binary32 c) pattern-value)
-    where
-      valued : (x : Float) → HasValue x false (q * 2 ^ w) (2 ^ 149) → T (not (isNan x))
-      valued nan v = absurd v
-      valued (inf t) v = absurd v
-      valued (fin t m e) v = tt
+  pattern-no-nan = subst (λ (t : Bool). T (not t)) (sym (nanBits-is binary32 c)) (valued (ofBits binary32 c) false (q * 2 ^ w) (2 ^ 149) pattern-value)
 
 -- Assumes nothing.

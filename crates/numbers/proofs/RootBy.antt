@@ -3,20 +3,20 @@ use mathlib.Core.Path.{_≡_, refl, sym, ap, _∙_, subst}
 use mathlib.Core.Logic.{_⊎_, inl, inr}
 use mathlib.Core.Bool.{Bool, true, false, not}
 use Prim.Native.Nat.{ℕ, zero, suc, _+_, _-_, _*_, _/_, _%_, _^_, _≤_, _<_}
-use native.Mathlib.Nat.{zero-add, le-trans, le-of-eq, lt-of-lt-of-le, mul-assoc, mul-right-comm, mul-le-mul, mul-lt-mul-of-pos-right, eq-of-mul-eq-mul-right, not-le-of-lt}
+use native.Mathlib.Nat.{le-trans, le-of-eq, lt-of-lt-of-le, mul-assoc, mul-le-mul, mul-lt-mul-of-pos-right, not-le-of-lt}
 use native.Mathlib.Omega.{arith}
 use lib.Dec.{T, leb, leb→le, nleb→lt}
 use lib.Pow.{pow-add, pow-pos, pow-mono, shl-lt}
-use lib.Ieee.{Float, nan, inf, fin, binary32, fits, le, up, down, units, ofBits, toBits, nanBits}
+use lib.Ieee.{Float, binary32, fits, le, ofBits, toBits, nanBits}
 use lib.Ieee.Exact.{HasValue}
 use lib.Ieee.Positive.{positive, values-of-le, between}
-use Rattle.numbers.specs.Root.{nearestRoot, nearestRootAt, sqrtOf, rootOf}
+use Rattle.numbers.specs.Root.{nearestRoot, sqrtOf, rootOf}
 use Rattle.numbers.specs.Inner.{Split}
 use Rattle.numbers.proofs.Roots.{kept, raised, next-square}
-use Rattle.numbers.proofs.RootOf.{sqrt-at}
+use Rattle.numbers.proofs.RootOf.{sqrt-at, root-at, q-ge, q-le}
 use Rattle.numbers.proofs.Pattern.{low-split, high-split}
 use Rattle.numbers.specs.RootBy.{wholeBits, placeBits, rootBits}
-use Rattle.numbers.proofs.Kept.{root-kept, kept-lo, kept-hi, nearest-at-zero}
+use Rattle.numbers.proofs.Laid.{revalue}
 use Rattle.numbers.proofs.Placed.{pattern-is, pattern-no-nan}
 
 -- ---- the exact test
@@ -87,17 +87,13 @@ module _ (b : ℕ) where
   r = nearestRoot (wholeBits b)
 
   r-lo : 2 ^ 23 ≤ r
-  r-lo = subst (λ (z : ℕ). 2 ^ 23 ≤ z) (nearest-at-zero (wholeBits b)) (kept-lo binary32 (wholeBits b) 0 whole-lo whole-hi)
+  r-lo = q-ge binary32 (wholeBits b) whole-lo whole-hi
 
   r-hi : r ≤ 2 ^ 24
-  r-hi = subst (λ (z : ℕ). z ≤ 2 ^ 24) (nearest-at-zero (wholeBits b)) (kept-hi binary32 (wholeBits b) 0 whole-lo whole-hi)
+  r-hi = q-le binary32 (wholeBits b) whole-lo whole-hi
 
   pub rooted-bits : b < 2139095040 → ofBits binary32 (rootBits b) ≡ rootOf binary32 (wholeBits b * 2 ^ (2 * placeBits b))
-  rooted-bits h =
-      pattern-is r (placeBits b) r-lo r-hi (place-lt h)
-      ∙ ap (λ (z : ℕ). units binary32 false z (placeBits b)) (sym (nearest-at-zero (wholeBits b)))
-      ∙ ap (λ (z : ℕ). units binary32 false (nearestRootAt 0 (wholeBits b)) z) (sym (zero-add (placeBits b)))
-      ∙ sym (root-kept binary32 (wholeBits b) 0 whole-lo whole-hi (placeBits b))
+  rooted-bits h = pattern-is r (placeBits b) r-lo r-hi (place-lt h) ∙ sym (root-at binary32 (wholeBits b) whole-lo whole-hi (placeBits b))
 
   pub rooted-no-nan : b < 2139095040 → T (not (nanBits binary32 (rootBits b)))
   rooted-no-nan h = pattern-no-nan r (placeBits b) r-lo r-hi (place-lt h)
@@ -124,12 +120,6 @@ sum-is b r = go b r
   where
     go : (b r : ℕ) → (b + 1065353216) / 16777216 * 8388608 + r - 8388608 ≡ (b / 8388608 + 125) / 2 * 8388608 + r
     go b r = omega arith
-
-revalue : (x : Float) (s : Bool) (a c b d : ℕ) → 0 < c → HasValue x s a c → a * d ≡ b * c → HasValue x s b d
-revalue nan s a c b d C v e = v
-revalue (inf t) s a c b d C v e = v
-revalue (fin t m k) s a c b d C v e =
-    (v .0, eq-of-mul-eq-mul-right c C (m * up k * d) (b * down k) (mul-right-comm (m * up k) d c ∙ ap (λ (z : ℕ). z * d) (v .1) ∙ mul-right-comm a (down k) d ∙ ap (λ (z : ℕ). z * down k) e ∙ mul-right-comm b c (down k)))
 
 -- ---- from the smallest normal value to the largest value
 abbrev pub least : Float

@@ -1,8 +1,8 @@
 -- The root of a whole number of 64 bits, as an f32: the number is brought to 47 or 48 digits, by zeros put after it or by pairs of digits dropped, and then `root-kept` says what its root is.
-use mathlib.Core.Path.{_≡_, refl, sym, ap, _∙_, subst}
+use mathlib.Core.Path.{_≡_, refl, sym, ap, _∙_}
 use mathlib.Core.Bool.{false}
 use Prim.Native.Nat.{ℕ, suc, _+_, _-_, _*_, _/_, _%_, _^_, _≤_, _<_, compare, Ordering, Ordering·lt, Ordering·eq, Ordering·gt}
-use native.Mathlib.Nat.{le-trans, le-of-eq, lt-irrefl, lt-of-lt-of-le, lt-of-le-of-lt, lt-of-not-le, zero-add, add-comm, mul-assoc, mul-comm, mul-mul-mul-comm, mul-le-mul-right}
+use native.Mathlib.Nat.{le-trans, le-of-eq, lt-of-lt-of-le, lt-of-le-of-lt, add-comm, mul-assoc, mul-comm, mul-mul-mul-comm, mul-le-mul-right}
 use native.Mathlib.Numerals.{add-one}
 use native.Mathlib.Omega.{arith}
 use lib.Count.{leadingZeros, leading-top}
@@ -11,7 +11,8 @@ use lib.Ieee.{binary32, nearest, units}
 use Rattle.numbers.specs.Root.{IsRoot, root, nearestRoot, nearestRootAt, rootOf, rootOfWhole}
 use Rattle.numbers.proofs.Roots.{root-is, root-unique}
 use Rattle.numbers.proofs.Order.{Cmp, cmp}
-use Rattle.numbers.proofs.Kept.{square, square-back, root-kept, kept-lo, kept-hi, nearest-at-zero}
+use Rattle.numbers.proofs.RootOf.{square, square-back, root-kept, kept-lo, kept-hi, root-at, q-ge, q-le}
+use Rattle.numbers.proofs.Powers.{pow-lt-back}
 
 -- ---- n against the square of the middle between two multiples of 2 ^ k
 module _ (n q s m : ℕ) (four : 4 * s ≡ m) where
@@ -102,9 +103,6 @@ module _ (n k q : ℕ) (i : IsRoot (n / 2 ^ (2 * k)) q) (some : 0 < k) where
         go k h = omega arith
 
 -- ---- the digits of n
-pow-lt-back : (i p : ℕ) → 2 ^ i < 2 ^ p → i < p
-pow-lt-back i p h = lt-of-not-le (λ (g : p ≤ i). lt-irrefl (2 ^ i) (lt-of-lt-of-le h (pow-mono g)))
-
 module _ (n : ℕ) (some : 0 < n) (fits : n < 2 ^ 64) where
   abbrev z : ℕ
   z = leadingZeros 64 n
@@ -157,10 +155,10 @@ module _ (n : ℕ) (some : 0 < n) (fits : n < 2 ^ 64) where
     raised-hi = lt-of-lt-of-le (shl-lt (suc (top .0)) (2 * t) (top .3)) (pow-mono over)
 
     pub raised-root-lo : 2 ^ 23 ≤ nearestRoot r
-    raised-root-lo = subst (λ (z : ℕ). 2 ^ 23 ≤ z) (nearest-at-zero r) (kept-lo binary32 r 0 raised-lo raised-hi)
+    raised-root-lo = q-ge binary32 r raised-lo raised-hi
 
     pub raised-root-hi : nearestRoot r ≤ 2 ^ 24
-    raised-root-hi = subst (λ (z : ℕ). z ≤ 2 ^ 24) (nearest-at-zero r) (kept-hi binary32 r 0 raised-lo raised-hi)
+    raised-root-hi = q-le binary32 r raised-lo raised-hi
 
     units-are : n * 2 ^ 298 ≡ r * 2 ^ (2 * (149 - t))
     units-are = ap (λ (e : ℕ). n * e) (ap (λ (e : ℕ). 2 ^ e) (go z z-le) ∙ pow-add 2 (2 * t) (2 * (149 - t))) ∙ sym (mul-assoc n (2 ^ (2 * t)) (2 ^ (2 * (149 - t))))
@@ -170,11 +168,7 @@ module _ (n : ℕ) (some : 0 < n) (fits : n < 2 ^ 64) where
 
     pub short-root : units binary32 false (nearestRoot (n * 2 ^ (2 * ((leadingZeros 64 n - 16) / 2)))) (149 - (leadingZeros 64 n - 16) / 2) ≡ rootOfWhole binary32 n
     unfolding rootOfWhole
-    short-root =
-        ap (λ (e : ℕ). units binary32 false e (149 - t)) (sym (nearest-at-zero r))
-        ∙ ap (units binary32 false (nearestRootAt 0 r)) (sym (zero-add (149 - t)))
-        ∙ sym (root-kept binary32 r 0 raised-lo raised-hi (149 - t))
-        ∙ ap (rootOf binary32) (sym units-are)
+    short-root = sym (root-at binary32 r raised-lo raised-hi (149 - t)) ∙ ap (rootOf binary32) (sym units-are)
 
   -- ---- from 49 digits on: pairs of digits are dropped
   module _ (long : 2 ^ 48 ≤ n) where

@@ -1,8 +1,10 @@
 -- The length of a difference, C's `hypot`: the value of the format that is nearest to the root of x² + y², a tie to the even one. Definitions only.
-use Prim.Native.Nat.{ℕ, _+_, _*_, _/_, _^_}
+use Prim.Native.Nat.{ℕ, _+_, _*_, _/_, _^_, _≤_, _<_}
 use mathlib.Core.Bool.{false}
 use lib.IntN.{ℤ, natAbs}
-use lib.Ieee.{Float, nan, inf, fin, Format, binary32, low, up, down}
+use lib.Dec.{T}
+use lib.Ieee.{Float, nan, inf, fin, Format, binary32, low, up, down, fits}
+use lib.Ieee.Exact.{HasValue}
 use Rattle.numbers.specs.Root.{rootOf, rootOfWhole}
 
 -- m * 2 ^ e in units of the format's smallest value, which a value of the format is a whole number of
@@ -28,3 +30,11 @@ hypotOf f (fin s m e) (fin t n d) = rootOf f (squares (unitsIn f m e) (unitsIn f
 unfoldable pub lengthOf : ℤ → ℤ → Float
 unfolding rootOfWhole
 lengthOf x y = rootOfWhole binary32 (squares (natAbs x) (natAbs y))
+
+-- r is the value of the format that is nearest to the root of n: no value y of it lies nearer. In units of the smallest value r is `root` and y is Y.
+-- The middle of r and y lies on y's side of the root of n: twice the middle, squared, against four times n.
+pub record NearestWhole (f : Format) (n : ℕ) (r : Float) : Type 0 where
+  pub root : ℕ
+  pub is : HasValue r false root (2 ^ low f)
+  pub below : (y : Float) (Y : ℕ) → T (fits f y) → HasValue y false Y (2 ^ low f) → Y < root → (Y + root) * (Y + root) ≤ 4 * (n * 2 ^ (2 * low f))
+  pub above : (y : Float) (Y : ℕ) → T (fits f y) → HasValue y false Y (2 ^ low f) → root < Y → 4 * (n * 2 ^ (2 * low f)) ≤ (Y + root) * (Y + root)
