@@ -44,7 +44,7 @@ pub fn segment_case(kind: &str, seed: u64) -> SegmentCase {
 /// One number out of the ordinary: sigma zero, negative or with an infinite inverse, a tiny last multiplier.
 fn edges(r: &mut Random, case: &mut SegmentCase) {
     // The inverse of 2^-128 is infinite, that of the next number is not.
-    let smallest = f32::from_bits(0x0020_0000 + r.within(-1, 1) as u32);
+    let smallest = f32::from_bits((0x0020_0000 + r.within(-1, 1)) as u32);
     match r.below(5) {
         0 => {
             case.sigma = r.pick(&[

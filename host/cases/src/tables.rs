@@ -105,7 +105,7 @@ pub fn request(kind: &str, seed: u64, height: u32) -> Request {
     match kind {
         "inside" => {}
         "edges" => {
-            y = r.pick(&[0, height - 1, height, height + 1]);
+            y = r.pick(&[0, height - 1, height, height.saturating_add(1)]);
             n = r.pick(&[0, 1, n]);
             x0 = r.pick(&[0, edge - n, edge - n + 1, edge - n - 1]);
             lengths = [n as usize; 3];
