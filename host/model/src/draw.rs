@@ -63,9 +63,9 @@ pub fn draw(
         for x in part {
             let intensity = intensity(segment, x as f32, y as f32);
             let cell = (x - i128::from(x0)) as usize;
-            r0[cell] = segment[5] * intensity + r0[cell];
-            r1[cell] = segment[6] * intensity + r1[cell];
-            r2[cell] = segment[7] * intensity + r2[cell];
+            r0[cell] += segment[5] * intensity;
+            r1[cell] += segment[6] * intensity;
+            r2[cell] += segment[7] * intensity;
             updates += 1;
         }
     }
