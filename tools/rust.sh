@@ -1,0 +1,77 @@
+# What `./test` and `./judge` need of Rust: the source of spline.rs, a compiler, and the programs of host/. Sourced from the repository's top.
+#   rust_ready        finds both, installing a compiler where there is none; says in $rust_missing what cannot be had
+#   rust_build        compiles host/
+#   rust_run NAME ..  runs a program of host/
+# Everything is compiled for x86-64, since the static libraries are; on another processor it runs under an emulator.
+
+rust_target=x86_64-unknown-linux-gnu
+rust_missing=''
+rust_linker='' rust_runner=''
+SPLINE_SRC=${SPLINE_SRC:-$PWD/../shared/docs/src}
+export SPLINE_SRC
+
+if [ "$(uname -m)" != x86_64 ]; then
+    rust_linker=x86_64-linux-gnu-gcc
+    rust_runner='qemu-x86_64 -L /usr/x86_64-linux-gnu'
+fi
+
+# Whether this cargo and rustc make programs that run here: tried, not guessed.
+try_compiler() { # CARGO RUSTC
+    command -v "$1" >/dev/null 2>&1 && command -v "$2" >/dev/null 2>&1 || return 1
+    trial=$(mktemp -d) || return 1
+    echo 'fn main() {}' >"$trial/trial.rs"
+    # shellcheck disable=SC2086
+    "$2" --target "$rust_target" ${rust_linker:+-C linker=$rust_linker} -o "$trial/trial" "$trial/trial.rs" 2>/dev/null && $rust_runner "$trial/trial"
+    tried=$?
+    rm -rf "$trial"
+    [ "$tried" -eq 0 ] && CARGO=$1 RUSTC=$2
+}
+
+find_compiler() { try_compiler cargo rustc || try_compiler /usr/bin/cargo /usr/bin/rustc; }
+
+packages() {
+    export DEBIAN_FRONTEND=noninteractive
+    fetch='apt-get -y -o Acquire::Retries=3 -o Acquire::http::Timeout=30'
+    [ -z "$rust_linker" ] || dpkg --add-architecture amd64 || return 1
+    $fetch update || return 1
+    if [ -n "$rust_linker" ]; then
+        $fetch install --no-install-recommends rustc-web cargo-web libstd-rust-web-dev:amd64 gcc-x86-64-linux-gnu libc6-dev-amd64-cross qemu-user
+    else
+        $fetch install --no-install-recommends rustc-web cargo-web || $fetch install --no-install-recommends rustc cargo
+    fi
+}
+
+# A network may fail for a while: four tries, with a longer pause after each.
+install_compiler() {
+    [ "$(id -u)" = 0 ] && command -v apt-get >/dev/null 2>&1 || return 1
+    for pause in 5 15 45 0; do
+        packages >host/target/packages.log 2>&1 && return 0
+        sleep "$pause"
+    done
+    return 1
+}
+
+rust_ready() {
+    mkdir -p host/target
+    if [ ! -f "$SPLINE_SRC/zenjxl-decoder/src/features/spline.rs" ]; then
+        rust_missing="SPLINE_SRC ($SPLINE_SRC) has no zenjxl-decoder/src/features/spline.rs"
+        return 1
+    fi
+    find_compiler && return 0
+    echo "no Rust compiler that makes $rust_target programs is here; installing Debian's"
+    install_compiler && find_compiler && return 0
+    rust_missing="there is no Rust compiler for $rust_target, and Debian's packages could not be installed"
+    return 1
+}
+
+rust_build() {
+    RUSTC=$RUSTC CARGO_TARGET_DIR=$PWD/host/target CARGO_TARGET_X86_64_UNKNOWN_LINUX_GNU_LINKER=${rust_linker:-cc} \
+        "$CARGO" build --quiet --release --offline --target "$rust_target" --manifest-path host/Cargo.toml
+}
+
+# shellcheck disable=SC2086
+rust_run() { # PROGRAM WORDS..
+    program=$1
+    shift
+    $rust_runner "host/target/$rust_target/release/$program" "$@"
+}
