@@ -5,3 +5,5 @@ pub mod Near
 pub mod Steps
 pub mod Coincide
 pub mod Walks
+pub mod Tables
+pub mod Judging

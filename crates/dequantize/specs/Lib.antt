@@ -1,2 +1,7 @@
 -- The definitions of the crate `dequantize`.
+pub mod Limits
 pub mod ControlPoints
+pub mod Coefficients
+pub mod Estimate
+pub mod Dequantize
+pub mod Judge
