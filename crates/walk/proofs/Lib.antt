@@ -1,0 +1,4 @@
+-- The laws of the crate `walk`.
+pub mod Reaches
+pub mod Walking
+pub mod Fuel

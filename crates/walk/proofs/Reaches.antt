@@ -1,0 +1,32 @@
+-- One turn of the inner loop, by what the code makes of the point i: each law opens `reachIn` once.
+use mathlib.Core.Path.{_≡_, refl, sym, ap, _∙_}
+use mathlib.Core.Bool.{true, false}
+use mathlib.Core.List.{List}
+use Prim.Native.Nat.{ℕ, suc, _+_, _-_, _≤_, _<_}
+use native.Mathlib.Omega.{arith}
+use lib.Ieee.{Float, binary32, add, sub, div, le}
+use Rattle.numbers.specs.Arith.{_⊕_, _⊖_, _⊘_}
+use Rattle.curve.specs.declared.Point.{Point}
+use Rattle.curve.specs.Points.{addPoint, subPoint, mulPoint}
+use Rattle.walk.specs.declared.Reach.the-variants.{Ends, Emits}
+use Rattle.walk.specs.Walk.{one, distanceOf, pointAt, reachIn}
+
+module _ (path : List Float) (n i : ℕ) (p : Point) (d : Float) where
+  pub reach-end : n ≤ i → reachIn (n - i) path i p d ≡ Ends p d
+  unfolding reachIn
+  reach-end h = let e : n - i ≡ 0 = omega arith in rw e
+
+  one-more : i < n → n - i ≡ suc (n - (i + 1))
+  one-more h = omega arith
+
+  -- q, v and l are what the code makes of the point i
+  module _ {q v : Point} {l : Float} (eq : q ≡ pointAt path i) (ev : v ≡ subPoint q p) (el : l ≡ distanceOf v) (h : i < n) where
+    pub reach-emit : {u r : Point} → u ≡ mulPoint v ((one ⊖ d) ⊘ l) → r ≡ addPoint p u → le one (d ⊕ l) ≡ true → reachIn (n - i) path i p d ≡ Emits r i
+    unfolding reachIn
+    reach-emit eu er t = rw (one-more h, er, eu, el, ev, eq, rw (el, ev, eq) at t)
+
+    pub reach-pass : le one (d ⊕ l) ≡ false → reachIn (n - i) path i p d ≡ reachIn (n - (i + 1)) path (i + 1) q (d ⊕ l)
+    unfolding reachIn
+    reach-pass t = rw (one-more h, el, ev, eq, rw (el, ev, eq) at t)
+
+-- Assumes nothing.

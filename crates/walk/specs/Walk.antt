@@ -1,0 +1,107 @@
+-- `for_each_equally_spaced_point` at a distance of 1: the points that it calls its closure with, and what a lent buffer then holds. Definitions only.
+-- 0x3f800000 is 1. The walk need not end (a step of 1 can round away), so it is said for at most k points; the laws on k are in proofs/Fuel.
+use mathlib.Core.Path.{_≡_}
+use mathlib.Core.Bool.{Bool, true, false}
+use mathlib.Core.List.{List, [], _∷_, _++_}
+use Prim.Native.Nat.{ℕ, zero, suc, _+_, _-_, _*_, _/_, min}
+use lib.ListN.{length, getD}
+use lib.IntN.{pos, _-ℤ_}
+use lib.Ieee.{Float, nan, binary32, le, ofInt}
+use Rattle.numbers.specs.Arith.{f, _⊕_, _⊖_, _⊗_, _⊘_}
+use Rattle.numbers.specs.Root.{sqrtOf}
+use Rattle.buffers.specs.Onto.{onto}
+use Rattle.curve.specs.declared.Point.{Point}
+use Rattle.curve.specs.Points.{addPoint, subPoint, mulPoint}
+use Rattle.walk.specs.declared.Reach.{Reach}
+use Rattle.walk.specs.declared.Reach.the-variants.{Ends, Emits}
+use Rattle.walk.specs.declared.Walked.{Walked}
+use Rattle.walk.specs.declared.Walked.the-variants.{Points, Room}
+
+abbrev pub one : Float
+one = f 0x3f800000
+
+-- ---- one unit of length
+
+-- sqrt(delta.x * delta.x + delta.y * delta.y)
+unfoldable pub distanceOf : Point → Float
+distanceOf delta = sqrtOf binary32 (delta .x ⊗ delta .x ⊕ delta .y ⊗ delta .y)
+
+-- point i of a list that holds two numbers a point
+unfoldable pub pointAt : List Float → ℕ → Point
+pointAt path i = record { x = getD path (2 * i) nan; y = getD path (2 * i + 1) nan }
+
+abbrev pub pick : Bool → Reach → Reach → Reach
+pick true a b = a
+pick false a b = b
+
+-- The inner loop: d was walked since the last point, previous is where it led, and k points are left, i the next.
+unfoldable pub reachIn : ℕ → List Float → ℕ → Point → Float → Reach
+reachIn zero path i previous d = Ends previous d
+reachIn (suc k) path i previous d =
+    let q = pointAt path i in
+    let delta = subPoint q previous in
+    let l = distanceOf delta in
+    let rest = reachIn k path (i + 1) q (d ⊕ l) in
+    pick (le one (d ⊕ l)) (Emits (addPoint previous (mulPoint delta ((one ⊖ d) ⊘ l))) i) rest
+
+-- from current, which lies before point i
+unfoldable pub reachOf : List Float → ℕ → Point → Reach
+reachOf path i current = reachIn (length path / 2 - i) path i current (f 0)
+
+-- ---- the walk
+
+-- what the closure is called with
+pub record PointToDraw : Type 0 where
+  pub point : Point
+  pub multiplier : Float
+
+abbrev pub toDraw : Point → Float → PointToDraw
+toDraw p m = record { point = p; multiplier = m }
+
+-- what is walked in at most some number of points: more are needed, or all of them
+pub data Walk : Type 0 where
+  More : Walk
+  Ended : List PointToDraw → Walk
+
+abbrev pub before : List PointToDraw → Walk → Walk
+before xs More = More
+before xs (Ended ys) = Ended (xs ++ ys)
+
+-- the path's end is the last point; a point that is emitted has others behind it
+abbrev pub afterReach : Reach → (Point → ℕ → Walk) → Walk
+afterReach (Ends q d) rest = Ended (toDraw q d ∷ [])
+afterReach (Emits q i) rest = before (toDraw q one ∷ []) (rest q i)
+
+-- the outer loop, in at most k points
+unfoldable pub walkFrom : ℕ → List Float → ℕ → Point → Walk
+walkFrom zero path i current = More
+walkFrom (suc k) path i current = afterReach (reachOf path i current) (λ q j. walkFrom k path j q)
+
+-- the walk along a path of one point or more, in at most k points
+unfoldable pub walkIn : ℕ → List Float → Walk
+walkIn zero path = More
+walkIn (suc k) path = before (toDraw (pointAt path 0) one ∷ []) (walkFrom k path 0 (pointAt path 0))
+
+-- `length`, of a walk of n points with the last multiplier
+unfoldable pub lengthOf : ℕ → Float → Float
+lengthOf n last = ofInt binary32 (pos n -ℤ pos 2) ⊗ one ⊕ last
+
+-- ---- in a lent buffer
+
+-- three numbers a point
+unfoldable pub flat : List PointToDraw → List Float
+flat [] = []
+flat (p ∷ l) = p .point .x ∷ p .point .y ∷ p .multiplier ∷ flat l
+
+-- how many points a buffer of n numbers has room for
+abbrev pub walkRoom : ℕ → ℕ
+walkRoom n = min (n / 3) 8388608
+
+abbrev pub walkedOf : Walk → Walked
+walkedOf More = Room
+walkedOf (Ended xs) = Points (length xs)
+
+-- o is the buffer before, e after; without room nothing is said of it
+abbrev pub WalkedOn : Walk → List Float → List Float → Type 0
+WalkedOn More o e = Unit
+WalkedOn (Ended xs) o e = e ≡ onto (flat xs) o
