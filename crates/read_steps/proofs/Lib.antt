@@ -1,0 +1,3 @@
+-- The laws of the crate `read_steps`.
+pub mod Numbers
+pub mod Turns

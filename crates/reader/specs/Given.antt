@@ -1,0 +1,86 @@
+-- The codes of reading, and when each is given: the table of codes, for the list.
+-- `Due` says what comes next, `Reached` how reading gets there with a rest of the list, and `Given` is the table.
+-- That a code is given at a place exactly when the table says so is `refused-exactly` and `given-exactly` of proofs/Given.antt.
+use mathlib.Core.Path.{_≡_}
+use mathlib.Core.Bool.{Bool, true, false, cond}
+use mathlib.Core.List.{List, _∷_}
+use Prim.Native.Nat.{ℕ, zero, suc, _+_, _-_, _*_, _≤_, _<_}
+use lib.Dec.{eqb}
+use lib.ListN.{length}
+use lib.IntN.{ℤ, pos}
+use Rattle.codes.specs.Codes.{numberOf}
+use Rattle.codes.specs.declared.Code.{Code}
+use Rattle.list.specs.List.{unpackSigned, posLimit, deltaLimit, beyond, Rooms, coordinate, lacking}
+
+-- what the list holds next
+pub data Due : Type 0 where
+  -- the spline count less one
+  count : Due
+  -- so many starts of s splines: is it the first, and the last one's x and y
+  starts : (s left : ℕ) (first : Bool) (x y : ℤ) → Due
+  -- the adjustment
+  adjustment : (s : ℕ) → Due
+  -- the point counts of so many splines, with the points before them
+  points : (s used : ℕ) → Due
+  -- so many pairs of double deltas, with splines to come and points up to here
+  deltas : (s used left : ℕ) → Due
+  -- so many coefficients
+  coefficients : (s used left : ℕ) → Due
+  -- nothing
+  nothing : Due
+
+-- how many values the next step takes
+abbrev pub wants : Due → ℕ
+wants count = 1
+wants (starts s zero first x y) = 0
+wants (starts s (suc n) first x y) = 2
+wants (adjustment s) = 1
+wants (points zero used) = 0
+wants (points (suc s) used) = 1
+wants (deltas s used zero) = 0
+wants (deltas s used (suc n)) = 2
+wants (coefficients s used zero) = 0
+wants (coefficients s used (suc n)) = 1
+wants nothing = 0
+
+module _ (limit : ℕ) (rooms : Rooms) where
+  -- reading the list l, with no refusal so far, comes to what is due, with r left
+  pub data Reached (l : List ℕ) : Due → List ℕ → Type 0 where
+    begin : Reached l count l
+    counted : {v : ℕ} {r : List ℕ} → Reached l count (v ∷ r) → v + 1 ≤ limit → lacking rooms (v + 1) ≡ false
+        → Reached l (starts (v + 1) (v + 1) true (pos 0) (pos 0)) r
+    started : {s n : ℕ} {first : Bool} {x y : ℤ} {a b : ℕ} {r : List ℕ} → Reached l (starts s (suc n) first x y) (a ∷ b ∷ r)
+        → beyond posLimit (coordinate first x a) (coordinate first y b) ≡ false → Reached l (starts s n false (coordinate first x a) (coordinate first y b)) r
+    all-started : {s : ℕ} {first : Bool} {x y : ℤ} {r : List ℕ} → Reached l (starts s zero first x y) r → Reached l (adjustment s) r
+    adjusted : {s u : ℕ} {r : List ℕ} → Reached l (adjustment s) (u ∷ r) → Reached l (points s 0) r
+    pointed : {s used n : ℕ} {r : List ℕ} → Reached l (points (suc s) used) (n ∷ r) → used + n ≤ limit → 2 * (used + n) ≤ rooms .deltas
+        → Reached l (deltas s (used + n) n) r
+    moved : {s used n a b : ℕ} {r : List ℕ} → Reached l (deltas s used (suc n)) (a ∷ b ∷ r) → beyond deltaLimit (unpackSigned a) (unpackSigned b) ≡ false
+        → Reached l (deltas s used n) r
+    all-moved : {s used : ℕ} {r : List ℕ} → Reached l (deltas s used zero) r → Reached l (coefficients s used 128) r
+    weighed : {s used n u : ℕ} {r : List ℕ} → Reached l (coefficients s used (suc n)) (u ∷ r) → Reached l (coefficients s used n) r
+    all-weighed : {s used : ℕ} {r : List ℕ} → Reached l (coefficients s used zero) r → Reached l (points s used) r
+    all-pointed : {used : ℕ} {r : List ℕ} → Reached l (points zero used) r → Reached l nothing r
+
+  -- the table: a code, what is due, and what is left of the list
+  pub data Given : Code → Due → List ℕ → Type 0 where
+    -- 1: the list ends before the next value
+    short : {d : Due} {r : List ℕ} → length r < wants d → Given Code.Short d r
+    -- 2: spline count above the limit
+    many-splines : {v : ℕ} {r : List ℕ} → limit < v + 1 → Given Code.Splines count (v ∷ r)
+    -- 3: a start with a coordinate of magnitude 2^23 or more
+    far-start : {s n : ℕ} {first : Bool} {x y : ℤ} {a b : ℕ} {r : List ℕ} → beyond posLimit (coordinate first x a) (coordinate first y b) ≡ true
+        → Given Code.Coord (starts s (suc n) first x y) (a ∷ b ∷ r)
+    -- 4: running total of points above the limit
+    many-points : {s used n : ℕ} {r : List ℕ} → limit < used + n → Given Code.Points (points (suc s) used) (n ∷ r)
+    -- 5: a double delta of magnitude 2^30 or more
+    far-delta : {s used n a b : ℕ} {r : List ℕ} → beyond deltaLimit (unpackSigned a) (unpackSigned b) ≡ true → Given Code.Delta (deltas s used (suc n)) (a ∷ b ∷ r)
+    -- 6: values left over
+    left-over : {a : ℕ} {r : List ℕ} → Given Code.Trail nothing (a ∷ r)
+    -- 7: no room for counts, starts or coefficients, at the count; no room for double deltas, at a point count
+    no-room : {v : ℕ} {r : List ℕ} → v + 1 ≤ limit → lacking rooms (v + 1) ≡ true → Given Code.Room count (v ∷ r)
+    no-deltas : {s used n : ℕ} {r : List ℕ} → used + n ≤ limit → rooms .deltas < 2 * (used + n) → Given Code.Room (points (suc s) used) (n ∷ r)
+
+-- the place: the list's length for SHORT, which is number 1, else the index of what is left
+abbrev pub placeOf : Code → ℕ → List ℕ → ℕ
+placeOf c total r = cond (eqb (numberOf c) 1) total (total - length r)

@@ -1,0 +1,65 @@
+-- What a call of `read` leaves: its answer and every lent cell, from the list, the two limits and the four lengths alone.
+use mathlib.Core.List.{List, _++_, map}
+use Prim.Native.Nat.{ℕ, _-_}
+use lib.ListN.{length, replicate}
+use lib.IntN.{ℤ, pos}
+use lib.Ieee.{Float}
+use Rattle.codes.specs.Codes.{numberOf}
+use Rattle.list.specs.List.{Got, got, stop, Rooms, Described, described, sum, limitOf, readOf}
+use Rattle.list.specs.Steps.{whole, zeroF32}
+use Rattle.reader.specs.declared.ReadAnswer.{ReadAnswer}
+
+-- an answer in the terms of the table of codes: the code's number, the place, and the counts
+pub record Told : Type 0 where
+  pub number : ℕ
+  pub place : ℕ
+  pub splines : ℕ
+  pub points : ℕ
+  pub adjustment : ℤ
+
+-- a success is number 0 at place 0; a refusal has counts of 0
+abbrev pub toldOf : ReadAnswer → Told
+toldOf (ReadAnswer.Done s n a) = record { number = 0; place = 0; splines = s; points = n; adjustment = a }
+toldOf (ReadAnswer.Refused c p) = record { number = numberOf c; place = p; splines = 0; points = 0; adjustment = pos 0 }
+
+-- the answer, what it tells, and the four lent buffers
+pub record Outcome : Type 0 where
+  pub answer : ReadAnswer
+  pub told : Told
+  pub counts : List ℕ
+  pub starts : List Float
+  pub deltas : List ℤ
+  pub coefficients : List ℤ
+
+abbrev pub leaves : ReadAnswer → List ℕ → List Float → List ℤ → List ℤ → Outcome
+leaves r ns zs ds cs = record { answer = r; told = toldOf r; counts = ns; starts = zs; deltas = ds; coefficients = cs }
+
+abbrev pub roomsOf : List ℕ → List Float → List ℤ → List ℤ → Rooms
+roomsOf ns zs ds cs = record { counts = length ns; starts = length zs; deltas = length ds; coefficients = length cs }
+
+-- n cells: the values, and zeros after them
+abbrev pub padded : {A : Type 0} → ℕ → A → List A → List A
+padded n zero vs = vs ++ replicate (n - length vs) zero
+
+-- what was read, or a refusal with every cell zero
+abbrev pub outcome : Rooms → Got Described → Outcome
+outcome rooms (got (described a zs ns ds cs) l) = record {
+  answer = ReadAnswer.Done (length ns) (sum ns) a;
+  told = record { number = 0; place = 0; splines = length ns; points = sum ns; adjustment = a };
+  counts = padded (rooms .counts) 0 ns;
+  starts = padded (rooms .starts) zeroF32 (map whole zs);
+  deltas = padded (rooms .deltas) (pos 0) ds;
+  coefficients = padded (rooms .coefficients) (pos 0) cs;
+}
+outcome rooms (stop c p) = record {
+  answer = ReadAnswer.Refused c p;
+  told = record { number = numberOf c; place = p; splines = 0; points = 0; adjustment = pos 0 };
+  counts = replicate (rooms .counts) 0;
+  starts = replicate (rooms .starts) zeroF32;
+  deltas = replicate (rooms .deltas) (pos 0);
+  coefficients = replicate (rooms .coefficients) (pos 0);
+}
+
+-- the outcome of reading a list
+abbrev pub readOutcome : ℕ → ℕ → Rooms → List ℕ → Outcome
+readOutcome configured pixels rooms list = outcome rooms (readOf (limitOf configured pixels) rooms list)
