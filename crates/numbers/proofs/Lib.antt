@@ -21,5 +21,6 @@ pub mod RootBy
 pub mod RootOfWhole
 pub mod Hypot
 pub mod Nearness
+pub mod Steps
 pub mod ByKind
 pub mod Logs

@@ -83,7 +83,7 @@ module _ (n d : ℕ) (D : 0 < d) where
 pub small-above : (x : Float) → Small x → T (positive x)
 small-above x s = above x (two-to 23) (s .over) (s .under)
 
-bound : (x : Float) → Small x → num x < 2 ^ 23 * den x
+pub bound : (x : Float) → Small x → num x < 2 ^ 23 * den x
 bound x s = subst (λ (z : ℕ). z < 2 ^ 23 * den x) (mul-one (num x)) (lt-yes x (two-to 23) (num x) (den x) (2 ^ 23) 1 (den-pos x) (zero-lt-suc 0) (own-value x (small-above x s)) (refl, refl) (s .under))
 
 less : (x : Float) → Small x → num x / den x < 2 ^ 23
@@ -127,7 +127,7 @@ ofInt-val n h = subst (λ (z : Float). HasValue z false n 1) (sym (ofInt-is bina
 wider : (t : ℕ) → t ≤ 8388608 → t ≤ 16777216
 wider t h = omega arith
 
--- the test of `raised_of`
+-- the test of `half_of`
 module _ (a : Float) (t : ℕ) (s : Small a) (M : Made cut a t) where
   t-lt : t < 2 ^ 23
   t-lt = subst (λ (z : ℕ). z < 2 ^ 23) (sym (M .is)) (less a s)
@@ -137,18 +137,6 @@ module _ (a : Float) (t : ℕ) (s : Small a) (M : Made cut a t) where
     where
       go : t < 8388608 → t + 1 ≤ 8388608
       go h = omega arith
-
-  pub up-yes : T (lt (ofInt binary32 (pos t)) a) → Made raised a (t + 1)
-  up-yes h =
-      let k : t * den a < num a * 1 = lt-yes (ofInt binary32 (pos t)) a t 1 (num a) (den a) (zero-lt-suc 0) (den-pos a) (ofInt-val t (wider t (M .most))) (own-value a (small-above a s)) h in
-      let l : num a / den a * den a < num a = subst (λ (z : ℕ). z * den a < num a) (M .is) (subst (λ (z : ℕ). t * den a < z) (mul-one (num a)) k) in
-      record { is = ap (λ (z : ℕ). z + 1) (M .is) ∙ sym (raised-up (num a) (den a) (den-pos a) l); most = one-more }
-
-  pub up-no : T (not (lt (ofInt binary32 (pos t)) a)) → Made raised a t
-  up-no h =
-      let k : num a * 1 ≤ t * den a = lt-no (ofInt binary32 (pos t)) a t 1 (num a) (den a) (ofInt-val t (wider t (M .most))) (own-value a (small-above a s)) h in
-      let l : num a ≤ num a / den a * den a = subst (λ (z : ℕ). num a ≤ z * den a) (M .is) (subst (λ (z : ℕ). z ≤ t * den a) (mul-one (num a)) k) in
-      record { is = M .is ∙ sym (raised-same (num a) (den a) (den-pos a) l); most = M .most }
 
   twice : t + t + 1 < 2 ^ 24
   twice = go t-lt

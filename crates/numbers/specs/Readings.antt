@@ -6,6 +6,7 @@ use lib.IntN.{ℤ, pos, negsuc}
 use lib.Ieee.{nan, inf, fin, binary32, ofInt, round, add, sub, mul, div, lt, ofBits, toBits}
 use Rattle.numbers.specs.Whole.{wholeBy, roundOf}
 use Rattle.numbers.specs.Narrow.{narrow}
+use Rattle.numbers.specs.Length.{lengthOf}
 use Rattle.numbers.specs.Ln.{lnOf, lnAbove, lnAt}
 
 -- R(2.5) is 3
@@ -27,6 +28,11 @@ tie-down = refl
 pub tie-up : ofInt binary32 (pos 16777219) ≡ fin false 4194305 (pos 2)
 unfolding ofInt
 tie-up = refl
+
+-- the difference (3, 4) has length 5
+pub length-five : lengthOf (pos 3) (pos 4) ≡ fin false 5 (pos 0)
+unfolding lengthOf
+length-five = refl
 
 -- ---- the logarithm
 -- ln 1 is 0

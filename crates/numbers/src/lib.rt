@@ -22,7 +22,7 @@ ghost use lib.IntN.{pos, natAbs};
 ghost use lib.Ieee as Ieee;
 ghost use lib.Ieee.{binary32, binary64, units};
 ghost use lib.Ieee.Nearest.{closest};
-ghost use lib.Ieee.Positive.{positive};
+ghost use lib.Ieee.Positive.{positive, num, den};
 ghost use Rattle.numbers.specs.Whole.{cut, raised, half, floorOf, ceilOf, roundOf};
 ghost use Rattle.numbers.specs.Kind.{cutI64, cutI32, cutU64, withinI32};
 ghost use Rattle.numbers.specs.Inner.{Small, Made, Split, Power};
@@ -55,15 +55,6 @@ fn cut_of(a: f32) -> u64
     std::num::truncating_f32_to_u64(a)
 }
 
-// a, or the next whole number up.
-fn raised_of(a: f32) -> u64
-    requires { ⌜ Small a ⌝ }
-    ensures { λ r. ⌜ Made raised a r ⌝ }
-{
-    let t = cut_of(a);
-    if (t as f32) < a { t + 1 } else { t }
-}
-
 // The whole number nearest to a, a half up.
 fn half_of(a: f32) -> u64
     requires { ⌜ Small a ⌝ }
@@ -77,19 +68,41 @@ fn half_of(a: f32) -> u64
     }
 }
 
+// The whole number nearest to a, a tie to the even one: 2^23 and more leaves a float no fraction.
+fn nearest_to(a: f32) -> f32
+    requires { ⌜ Small a ⌝ }
+    ensures { λ r. ⌜ r ≡ Ieee.ofInt binary32 (pos (closest (num a) (den a))) ⌝ }
+{
+    (a + 8388608.0) - 8388608.0
+}
+
+// The whole part of a, with no conversion to an integer.
+fn down_from(a: f32) -> f32
+    requires { ⌜ Small a ⌝ }
+    ensures { λ r. ⌜ r ≡ Ieee.ofInt binary32 (pos (cut (num a) (den a))) ⌝ }
+{
+    let t = nearest_to(a);
+    if a < t { t - 1.0 } else { t }
+}
+
+// a, or the next whole number up.
+fn up_from(a: f32) -> f32
+    requires { ⌜ Small a ⌝ }
+    ensures { λ r. ⌜ r ≡ Ieee.ofInt binary32 (pos (raised (num a) (den a))) ⌝ }
+{
+    let t = nearest_to(a);
+    if t < a { t + 1.0 } else { t }
+}
+
 // The largest whole number that is at most x. From 2^23 on every f32 is whole.
 pub fn floor(x: f32) -> f32
     ensures { λ r. ⌜ r ≡ floorOf binary32 x ⌝ }
 {
     if x > 0.0 {
-        if x < 8388608.0 { cut_of(x) as f32 } else { x }
+        if x < 8388608.0 { down_from(x) } else { x }
     } else if x < 0.0 {
         let a = -x;
-        if a < 8388608.0 {
-            -(raised_of(a) as f32)
-        } else {
-            x
-        }
+        if a < 8388608.0 { -up_from(a) } else { x }
     } else {
         x
     }
@@ -100,18 +113,10 @@ pub fn ceil(x: f32) -> f32
     ensures { λ r. ⌜ r ≡ ceilOf binary32 x ⌝ }
 {
     if x > 0.0 {
-        if x < 8388608.0 {
-            raised_of(x) as f32
-        } else {
-            x
-        }
+        if x < 8388608.0 { up_from(x) } else { x }
     } else if x < 0.0 {
         let a = -x;
-        if a < 8388608.0 {
-            -(cut_of(a) as f32)
-        } else {
-            x
-        }
+        if a < 8388608.0 { -down_from(a) } else { x }
     } else {
         x
     }

@@ -1,11 +1,12 @@
 -- Below 2 ^ 23 the magnitude is made whole by the rule of its sign, and the float of that number is the definition's; any other value is whole already.
-use native.Mathlib.Nat.{le-trans}
-use lib.Dec.{T, lit≤}
+use mathlib.Core.Path.{refl, ap, _∙_}
+use mathlib.Core.Bool.{true, false}
+use lib.Dec.{T}
 use lib.Ieee.{binary32, ofBits, neg, fits}
+use lib.Ieee.Positive.{num, den}
 use Rattle.numbers.specs.Inner.{Small}
 use Rattle.numbers.specs.Whole.{upward}
 use Rattle.numbers.proofs.Zero.{yes, no, flipped}
-use Rattle.numbers.proofs.Units.{castable}
 use Rattle.numbers.proofs.Wholes.{small-above, plain, turned, high-plus, high-minus, rest, ceil-id, ceil-nil}
 use Rattle.numbers.proofs.ceil.Statement.{statement}
 use Rattle.numbers.proofs.ceil.Tie as tie
@@ -21,23 +22,16 @@ minus : (c : tie.Then4) → Small (neg (c .before .before .before .args .x))
 unfolding ofBits
 minus c = record { over = flipped (c .before .before .before .args .x) (yes (c .before .if3 .taken)); under = yes (c .if4 .taken) }
 
-raised-of-requires : tie.Need-raised-of-requires
-raised-of-requires c κs = plus c
+up-from-requires : tie.Need-up-from-requires
+up-from-requires c κs = plus c
 
-int-to-float-result : tie.Need-int-to-float-result
-int-to-float-result c = castable binary32 (c .before .raised-of .result) (le-trans (c .before .raised-of .ensures .most) (lit≤ tt))
-
-cut-of-requires : tie.Need-cut-of-requires
-cut-of-requires c κs = minus c
-
-int-to-float-result-2 : tie.Need-int-to-float-result-2
-int-to-float-result-2 c = castable binary32 (c .before .cut-of .result) (le-trans (c .before .cut-of .ensures .most) (lit≤ tt))
+down-from-requires : tie.Need-down-from-requires
+down-from-requires c κs = minus c
 
 returns : tie.Need-returns
 returns c =
-    let s = c .before in
-    let x = s .before .before .before .args .x in
-    plain binary32 upward x (s .raised-of .result) (small-above x (plus (s .before))) (s .raised-of .ensures .is)
+    let x = c .before .before .before .args .x in
+    c .up-from .ensures ∙ plain binary32 upward x (upward false (num x) (den x)) (small-above x (plus (c .before))) refl
 
 returns-2 : tie.Need-returns-2
 unfolding ofBits
@@ -45,9 +39,8 @@ returns-2 c = high-plus upward ceil-id ceil-nil (c .before .before .args .x) (he
 
 returns-3 : tie.Need-returns-3
 returns-3 c =
-    let s = c .before in
-    let x = s .before .before .before .before .args .x in
-    turned binary32 upward x (s .cut-of .result) (small-above (neg x) (minus (s .before))) (s .cut-of .ensures .is)
+    let x = c .before .before .before .before .args .x in
+    ap neg (c .down-from .ensures) ∙ turned binary32 upward x (upward true (num (neg x)) (den (neg x))) (small-above (neg x) (minus (c .before))) refl
 
 returns-4 : tie.Need-returns-4
 unfolding ofBits
@@ -58,6 +51,6 @@ unfolding ofBits
 returns-5 c = rest upward ceil-id ceil-nil (c .before .before .args .x) (held (c .before .before)) (no (c .before .if1 .left)) (no (c .if3 .left))
 
 pub ceil-spec : {M : Type 1} → statement M
-ceil-spec = tie.close (tie.spec raised-of-requires int-to-float-result cut-of-requires int-to-float-result-2 returns returns-2 returns-3 returns-4 returns-5)
+ceil-spec = tie.close (tie.spec up-from-requires down-from-requires returns returns-2 returns-3 returns-4 returns-5)
 
 -- Assumes nothing.
