@@ -9,6 +9,7 @@ mod tally;
 
 use exported as ours;
 use patterns::{mixed, patterns, whole, wide};
+use std::cell::Cell;
 use std::process::ExitCode;
 use tally::Tally;
 
@@ -261,15 +262,17 @@ fn lengths(name: &'static str, stride: u32) -> Tally {
 
 /// All positive finite values: a difference is more than one neighbour; smaller ones are counted in the note.
 fn logarithms(name: &'static str, stride: u32) -> Tally {
-    let positive = || {
-        patterns(stride)
-            .filter(|&b| (1..0x7f80_0000).contains(&b))
-            .map(f32::from_bits)
+    let positive = patterns(stride)
+        .filter(|pattern| (1..0x7f80_0000).contains(pattern))
+        .map(f32::from_bits);
+    let beside = Cell::new(0);
+    let near = |x: f32| {
+        let steps = neighbours(ours::ln(x), x.ln());
+        beside.set(beside.get() + u64::from(steps == 1));
+        steps <= 1
     };
-    let near = |x: f32| neighbours(ours::ln(x), x.ln());
-    let mut tally = Tally::of(name, positive(), |x| near(x) <= 1, |_| true);
-    let beside = positive().filter(|&x| near(x) == 1).count();
-    tally.note = format!("{beside} differ by one neighbour");
+    let mut tally = Tally::of(name, positive, near, |_| true);
+    tally.note = format!("{} differ by one neighbour", beside.get());
     tally
 }
 
