@@ -1,5 +1,6 @@
--- Each code is given exactly when the table says so, and a list is read exactly when reading reaches its end. `from` is what becomes of reading from a point on: it is the same at every point that is reached,
--- which proves one direction; the other follows reading step by step to the point where it stops.
+-- Each code is given exactly when the table says so, and a list is read exactly when reading reaches its end.
+-- `from` is what becomes of reading from a point on: it is the same at every point that is reached, which proves one direction;
+-- the other follows reading step by step to the point where it stops.
 use mathlib.Core.Path.{_≡_, refl, sym, ap, subst, _∙_}
 use mathlib.Core.Bool.{Bool, true, false, cond}
 use mathlib.Core.List.{List, [], _∷_}
@@ -13,7 +14,7 @@ use borrow.Author.Tests.{lt-ltb, le-ltb, ltb-true, ltb-false}
 use Rattle.codes.specs.declared.Code.{Code}
 use Rattle.list.specs.List.{unpackSigned, posLimit, deltaLimit, beyond, Rooms, Got, got, stop, Spline, spline, Splines, splines, Described, andThen, onto, coordinate, startsOf, deltasOf, coefficientsOf, splineOf, ontoSplines, splinesOf, describe, ended, afterStarts, lacking, readOf}
 use Rattle.list.specs.List as L
-use Rattle.reader.specs.Given.{Due, count, starts, adjustment, points, deltas, coefficients, nothing, wants, Reached, begin, counted, started, all-started, adjusted, pointed, moved, all-moved, weighed, all-weighed, all-pointed, Given, short, many-splines, far-start, many-points, far-delta, left-over, no-room, no-deltas, placeOf}
+use Rattle.reader.specs.Given.{Due, count, starts, adjustment, points, deltas, coefficients, nothing, wants, Reached, begin, counted, started, all-started, adjusted, pointed, moved, all-moved, weighed, all-weighed, all-pointed, Given, short, many-splines, far-start, many-points, far-delta, left-over, no-room, no-deltas, placeOf, Refusal}
 
 -- what becomes of reading
 data Fate : Type 0 where
@@ -43,11 +44,6 @@ follow-onto vs (stop c p) k = refl
 follow-splines : (x : Spline) (g : Got Splines) (k : List ℕ → Fate) → follow (ontoSplines x g) k ≡ follow g k
 follow-splines (spline n es bs) (got (splines ns ds cs) l) k = refl
 follow-splines (spline n es bs) (stop c p) k = refl
-
-follow-then : {A B : Type 0} (g : Got A) (f : A → List ℕ → Got B) (k : List ℕ → Fate) (h : List ℕ → Fate) → ((a : A) (l : List ℕ) → follow (f a l) k ≡ h l)
-    → follow (andThen g f) k ≡ follow g h
-follow-then (got a l) f k h e = e a l
-follow-then (stop c p) f k h e = refl
 
 fate-then : {A B : Type 0} (g : Got A) (f : A → List ℕ → Got B) (h : List ℕ → Fate) → ((a : A) (l : List ℕ) → fate (f a l) ≡ h l) → fate (andThen g f) ≡ follow g h
 fate-then (got a l) f h e = e a l
@@ -270,13 +266,6 @@ given-exactly limit rooms l c d r q g =
     fate-stop (readOf limit rooms l) c (placeOf c (length l) r) (read-fate limit rooms l ∙ reached-from limit rooms (length l) q ∙ given-at limit rooms (length l) (under limit rooms (length l) q) g)
 
 -- ---- what is given is in the table
-
-pub record Refusal (limit : ℕ) (rooms : Rooms) (l : List ℕ) (c : Code) (p : ℕ) : Type 0 where
-  pub due : Due
-  pub rest : List ℕ
-  pub reached : Reached limit rooms l due rest
-  pub given : Given limit rooms c due rest
-  pub place : p ≡ placeOf c (length l) rest
 
 -- what is met at the end of reading: its end, or a refusal of the table
 abbrev Met : ℕ → Rooms → List ℕ → Fate → Type 0

@@ -1,6 +1,6 @@
 -- The codes of reading, and when each is given: the table of codes, for the list.
 -- `Due` says what comes next, `Reached` how reading gets there with a rest of the list, and `Given` is the table.
--- That a code is given at a place exactly when the table says so is `refused-exactly` and `given-exactly` of proofs/Given.antt.
+-- That a call refuses exactly so is `refused-exactly` and `given-exactly` of proofs/Promises.antt.
 use mathlib.Core.Path.{_≡_}
 use mathlib.Core.Bool.{Bool, true, false, cond}
 use mathlib.Core.List.{List, _∷_}
@@ -84,3 +84,11 @@ module _ (limit : ℕ) (rooms : Rooms) where
 -- the place: the list's length for SHORT, which is number 1, else the index of what is left
 abbrev pub placeOf : Code → ℕ → List ℕ → ℕ
 placeOf c total r = cond (eqb (numberOf c) 1) total (total - length r)
+
+-- a code is given at a place: reading reaches a point where the table has it
+pub record Refusal (limit : ℕ) (rooms : Rooms) (l : List ℕ) (c : Code) (p : ℕ) : Type 0 where
+  pub due : Due
+  pub rest : List ℕ
+  pub reached : Reached limit rooms l due rest
+  pub given : Given limit rooms c due rest
+  pub place : p ≡ placeOf c (length l) rest

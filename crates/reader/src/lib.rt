@@ -17,7 +17,6 @@ ghost use mathlib.Core.List.{[]};
 ghost use Prim.Native.Nat.{_*_, _≤_, _<_};
 ghost use lib.ListN.{length};
 ghost use Rattle.list.specs.List.{afterStarts, readOf};
-ghost use Rattle.list.specs.Steps.{whole};
 ghost use Rattle.reader.specs.Read.{leaves, roomsOf, readOutcome};
 ghost use Rattle.reader.specs.Rest.{RestLeft, ListLeft, Wiped};
 
