@@ -1,0 +1,3 @@
+-- The laws of the crate `write_laws`.
+pub mod Accepts
+pub mod When

@@ -1,0 +1,8 @@
+-- Numbers that an f32 holds, as every number of a lent slice of f32 is.
+use mathlib.Core.List.{List, [], _∷_}
+use lib.Dec.{T}
+use lib.Ieee.{Float, binary32, fits}
+
+abbrev pub Floats : List Float → Type 0
+Floats [] = Unit {0}
+Floats (x ∷ xs) = T (fits binary32 x) × Floats xs

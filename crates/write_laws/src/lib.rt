@@ -1,0 +1,1 @@
+// Laws on the contract of `write`, and no code.
