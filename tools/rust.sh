@@ -1,13 +1,14 @@
 # What `./test` and `./judge` need of Rust: the source of spline.rs, a compiler, and the programs of host/. Sourced from the repository's top.
 #   rust_ready        finds both, installing a compiler where there is none; says in $rust_missing what cannot be had
-#   rust_build        compiles host/
+#   rust_build ..     compiles host/, or with words for cargo a part of it
 #   rust_run NAME ..  runs a program of host/
 # Everything is compiled for x86-64, since the static libraries are; on another processor it runs under an emulator.
 
 rust_target=x86_64-unknown-linux-gnu
 rust_missing=''
 rust_linker='' rust_runner=''
-SPLINE_SRC=${SPLINE_SRC:-$PWD/../shared/docs/src}
+SPLINE_SRC=${SPLINE_SRC:-../shared/docs/src}
+case $SPLINE_SRC in /*) ;; *) SPLINE_SRC=$PWD/$SPLINE_SRC ;; esac
 export SPLINE_SRC
 
 if [ "$(uname -m)" != x86_64 ]; then
@@ -64,9 +65,9 @@ rust_ready() {
     return 1
 }
 
-rust_build() {
+rust_build() { # WORDS..
     RUSTC=$RUSTC CARGO_TARGET_DIR=$PWD/host/target CARGO_TARGET_X86_64_UNKNOWN_LINUX_GNU_LINKER=${rust_linker:-cc} \
-        "$CARGO" build --quiet --release --offline --target "$rust_target" --manifest-path host/Cargo.toml
+        "$CARGO" build --quiet --release --offline --target "$rust_target" --manifest-path host/Cargo.toml "$@"
 }
 
 # shellcheck disable=SC2086

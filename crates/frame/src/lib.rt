@@ -32,7 +32,7 @@ fn wide(x: u32) -> u64
     x as u64
 }
 
-fn count(x: u32) -> usize
+pub fn count(x: u32) -> usize
     ensures { λ r. ⌜ (r ≡ x) × (r < 4294967296) ⌝ }
 {
     x as usize
@@ -89,7 +89,7 @@ fn checksum(words: &[u32]) -> u32
 }
 
 // The words of a case that begins at a place: its three numbers, then what they say.
-fn size_of_case(words: &[u32], at: usize) -> usize
+pub fn size_of_case(words: &[u32], at: usize) -> usize
     requires { ⌜ at + 3 ≤ length (now words) ⌝ }
     ensures { λ r. ⌜ r ≡ 3 + getD (now (words .entry)) (at + 1) 0 + getD (now (words .entry)) (at + 2) 0 ⌝ }
 {

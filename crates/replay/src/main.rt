@@ -1,5 +1,9 @@
-// Reads the stored answers of the oracle from the files beside it, checks each file's frame, and says how many cases of each kind it holds.
+// Reads the stored answers of the oracle from the files beside it, checks each file's frame, and says how many cases of each kind it holds
+// and whether the port agrees with them.
+mod agree;
 mod kinds;
+mod number_leaves;
+mod words;
 
 ghost use Rattle.frame.specs.Frame.{IsWhole};
 use frame::Verdict;
@@ -14,16 +18,36 @@ fn say(path: &[u8], what: &[u8]) {
 }
 
 // How many cases of a kind a whole file holds, if any.
+fn report_held(kind: u32, held: u32) {
+    io::write_all(1, b"  ");
+    kinds::print_name(kind);
+    io::write_all(1, b" ");
+    io::print_decimal(1, held as u64);
+    io::write_all(1, b" cases");
+}
+
+// What the port makes of them.
+fn report_agreed(kind: u32, held: u32, agreed: u32) {
+    if !agree::compared(kind) {
+        io::write_all(1, b", not compared yet\n");
+        return;
+    }
+    if agreed == held {
+        io::write_all(1, b", all agree\n");
+        return;
+    }
+    io::write_all(1, b", THE PORT AGREES WITH ");
+    io::print_decimal(1, agreed as u64);
+    io::write_all(1, b"\n");
+}
+
 fn report_kind(words: &[u32], kind: u32)
     requires { ⌜ IsWhole (now words) ⌝ }
 {
     let held = frame::held(words, kind);
     if held > 0 {
-        io::write_all(1, b"  ");
-        kinds::print_name(kind);
-        io::write_all(1, b" ");
-        io::print_decimal(1, held as u64);
-        io::write_all(1, b" cases\n");
+        report_held(kind, held);
+        report_agreed(kind, held, agree::agreed(words, kind));
     }
 }
 
@@ -86,4 +110,8 @@ fn report(path: &[u8]) {
 
 fn main() {
     report(b"numbers.words");
+    report(b"list.words");
+    report(b"splines.words");
+    report(b"segments.words");
+    report(b"tables.words");
 }

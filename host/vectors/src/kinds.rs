@@ -27,4 +27,13 @@ kinds! {
     ERF = 11, "fast_erff";
     LN = 12, "ln";
     TOP = 13, "greater magnitude";
+    READ = 14, "read";
+    WRITE = 15, "write";
+    DEQUANTIZE = 16, "dequantize";
+    CURVE = 17, "curve";
+    WALK = 18, "walk";
+    TRANSFORM = 19, "transform";
+    SEGMENT = 20, "segment";
+    BUILD = 21, "build";
+    DRAW = 22, "draw";
 }

@@ -3,8 +3,13 @@
 
 mod frame;
 mod kinds;
+mod list;
 mod ln;
 mod numbers;
+mod segments;
+mod splines;
+mod tables;
+mod words;
 
 use frame::Case;
 use std::process::ExitCode;
@@ -13,22 +18,45 @@ const FOLDER: &str = "crates/replay/data";
 
 struct Layer {
     name: &'static str,
-    seed: u64,
+    /// Seeds of each kind of case, from 0 on; of the number leaves the seed itself.
+    seeds: u64,
     cases: fn(u64) -> Vec<Case>,
 }
 
-const LAYERS: [Layer; 1] = [Layer {
-    name: "numbers",
-    seed: 1,
-    cases: numbers::cases,
-}];
+const LAYERS: [Layer; 5] = [
+    Layer {
+        name: "numbers",
+        seeds: 1,
+        cases: numbers::cases,
+    },
+    Layer {
+        name: "list",
+        seeds: 8,
+        cases: list::cases,
+    },
+    Layer {
+        name: "splines",
+        seeds: 6,
+        cases: splines::cases,
+    },
+    Layer {
+        name: "segments",
+        seeds: 40,
+        cases: segments::cases,
+    },
+    Layer {
+        name: "tables",
+        seeds: 8,
+        cases: tables::cases,
+    },
+];
 
 fn path(layer: &Layer) -> String {
     format!("{FOLDER}/{}.words", layer.name)
 }
 
 fn make(layer: &Layer) -> Result<String, String> {
-    let cases = (layer.cases)(layer.seed);
+    let cases = (layer.cases)(layer.seeds);
     let bytes = frame::encode(&cases);
     std::fs::write(path(layer), &bytes).map_err(|why| format!("{}: {why}", path(layer)))?;
     Ok(format!(
@@ -48,7 +76,7 @@ fn stored(layer: &Layer) -> Result<(Vec<u8>, Vec<Case>), String> {
 /// The first case in which the stored answers differ from today's.
 fn check(layer: &Layer) -> Result<String, String> {
     let (bytes, old) = stored(layer)?;
-    let new = (layer.cases)(layer.seed);
+    let new = (layer.cases)(layer.seeds);
     if bytes == frame::encode(&new) {
         return Ok(format!(
             "{}: {} cases, as the oracle answers today",
@@ -102,6 +130,7 @@ fn main() -> ExitCode {
             return ExitCode::from(2);
         }
     };
+    oracle::set_ln(ln::ln);
     let mut good = true;
     for layer in &LAYERS {
         match act(layer) {

@@ -3,6 +3,7 @@
 use crate::frame::Case;
 use crate::kinds;
 use crate::ln::ln;
+use crate::words::halves;
 use cases::bits;
 use cases::random::Random;
 
@@ -48,10 +49,6 @@ fn floats(random: &mut Random) -> Vec<f32> {
     values.extend((0..20).map(|_| random.between(-40.0, 40.0)));
     values.extend((0..20).map(|_| f32::from_bits(random.next() as u32)));
     values
-}
-
-fn halves(n: u64) -> Vec<u32> {
-    vec![n as u32, (n >> 32) as u32]
 }
 
 /// The f32 nearest to the root of n, ties to even, by whole numbers: n has at most 49 bits, so 26 bits of its root and a sticky bit decide.

@@ -1,0 +1,3 @@
+-- The laws of the crate `replay`.
+pub mod Complements
+pub mod Patterns

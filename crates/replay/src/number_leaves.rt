@@ -1,0 +1,59 @@
+// The number leaves of the port against stored answers.
+use crate::words;
+
+// The leaves from f32 to f32, by kind.
+fn leaf(kind: u32, x: f32) -> f32 {
+    match kind {
+        1 => numbers::floor(x),
+        2 => numbers::ceil(x),
+        3 => numbers::round(x),
+        8 => numbers::root(x),
+        10 => numbers::fast_cos(x),
+        11 => numbers::fast_erff(x),
+        12 => numbers::ln(x),
+        _ => x,
+    }
+}
+
+// A leaf of one word.
+fn agrees_one(kind: u32, bits: u32, output: &[u32]) -> bool {
+    let x = words::float(bits);
+    match kind {
+        4 => words::is_signed(numbers::saturating_f32_to_i64(x), output),
+        5 => words::is_long(numbers::saturating_f32_to_u64(x), output),
+        _ => words::is_only_float(leaf(kind, x), output),
+    }
+}
+
+// A leaf of two words.
+fn agrees_two(kind: u32, low: u32, high: u32, output: &[u32]) -> bool {
+    match kind {
+        6 => words::is_only_float(numbers::nearest_u64_to_f32(words::long(low, high)), output),
+        7 => words::is_only_float(
+            numbers::nearest_f64_to_f32(words::double(words::long(low, high))),
+            output,
+        ),
+        9 => words::is_only_float(
+            numbers::length(words::signed_word(low), words::signed_word(high)),
+            output,
+        ),
+        13 => words::is_only_float(
+            numbers::top(
+                numbers::abs(words::float(low)),
+                numbers::abs(words::float(high)),
+            ),
+            output,
+        ),
+        _ => false,
+    }
+}
+
+pub fn agrees(kind: u32, input: &[u32], output: &[u32]) -> bool {
+    if input.len() == 1 {
+        return agrees_one(kind, input[0], output);
+    }
+    if input.len() == 2 {
+        return agrees_two(kind, input[0], input[1], output);
+    }
+    false
+}
