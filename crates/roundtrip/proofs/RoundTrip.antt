@@ -1,19 +1,18 @@
 -- Writing and reading undo each other: any outcome that the contract of one call allows, fed to any outcome that the contract of the other allows.
 -- A contract is an equation, so each theorem takes its outcomes by their equations.
-use mathlib.Core.Path.{_≡_, refl, sym, ap, subst, _∙_}
-use mathlib.Core.Bool.{Bool, true, false}
+use mathlib.Core.Path.{_≡_, refl, sym, ap, _∙_}
+use mathlib.Core.Bool.{true}
 use mathlib.Core.List.{List, [], _∷_, _++_, map}
-use Prim.Native.Nat.{ℕ, _+_, _-_, _*_, _^_, _≤_, _<_}
+use Prim.Native.Nat.{ℕ, _+_, _-_, _*_, _≤_}
 use native.Mathlib.Omega.{arith}
 use lib.Dec.{ltb}
-use lib.ListN.{length, take, drop, replicate, length-map}
+use lib.ListN.{length, take, replicate, length-map}
 use lib.Seq.{take-at}
 use lib.IntN.{ℤ, pos}
 use lib.Ieee.{Float}
-use borrow.Author.Tests.{lt-ltb, le-ltb, ltb-false}
-use Rattle.codes.specs.declared.Code.{Code}
+use borrow.Author.Tests.{le-ltb}
 use Rattle.codes.specs.declared.Code.the-variants.{Room}
-use Rattle.list.specs.List.{Rooms, Got, got, stop, Described, described, limitOf, sum, readOf, listOf, Valid}
+use Rattle.list.specs.List.{Rooms, Got, got, stop, Described, described, limitOf, sum, readOf, listOf}
 use Rattle.list.specs.Steps.{whole, zeroF32}
 use Rattle.list.proofs.RoundTrip.{Holds, written-is-read, read-is-written, read-is-valid}
 use Rattle.reader.specs.Read.{Outcome, padded, readOutcome}
@@ -23,7 +22,7 @@ use Rattle.writer.specs.Write.{Check, check, firstFault, contentChecks, wholeOf
 use Rattle.writer.specs.declared.Verdict.{Verdict}
 use Rattle.writer.specs.declared.Verdict.the-variants.{Fine, Fault}
 use Rattle.writer.specs.declared.WriteAnswer.{WriteAnswer}
-use Rattle.writer.proofs.Checks.{passes, passed, fine-before, both-fine, agreed, content-fine}
+use Rattle.writer.proofs.Checks.{passes, fine-before, both-fine, agreed, content-fine}
 use Rattle.write_laws.specs.Floats.{Floats}
 use Rattle.write_laws.proofs.Accepts.{fine-valid, valid-fine, wholes-back, floats-back}
 
@@ -42,10 +41,7 @@ pub record Written (ns : List ℕ) (ss : List Float) (ds cs : List ℤ) (a : ℤ
   pub is : list ≡ valuesOf ns ss ds cs a ++ replicate (room - n) 0
 
 module _ (ns : List ℕ) (ss : List Float) (ds cs : List ℤ) (a : ℤ) (configured pixels room : ℕ) where
-  -- any two outcomes that the contract of `write` allows are equal
-  pub one-written : (o o′ : WriteOutcome) → o ≡ writeOf ns ss ds cs a configured pixels room → o′ ≡ writeOf ns ss ds cs a configured pixels room → o ≡ o′
-  one-written o o′ p q = p ∙ sym q
-
+  -- an answer of success tells all
   pub done-written : (o : WriteOutcome) (n : ℕ) → o ≡ writeOf ns ss ds cs a configured pixels room → o .answer ≡ WriteAnswer.Done n
       → Written ns ss ds cs a (limitOf configured pixels) room n (o .list)
   unfolding writeOf

@@ -1,23 +1,22 @@
 -- What `write` accepts is just what has a list: the checks find nothing exactly when the description is valid.
-use mathlib.Core.Path.{_≡_, refl, sym, ap, subst, _∙_}
+use mathlib.Core.Path.{_≡_, refl, sym, subst, _∙_}
 use mathlib.Core.Bool.{Bool, true, false, _||_}
 use mathlib.Core.List.{List, [], _∷_, _++_, map}
 use Prim.Native.Nat.{ℕ, zero, suc, _+_, _-_, _*_, _^_, _≤_, _<_}
 use native.Mathlib.Omega.{arith}
 use lib.Dec.{T, ltb, leb, le→leb, lt→ltb}
 use lib.ListN.{length, take, drop, length-map, length-drop}
-use lib.Seq.{length-take-le}
 use lib.IntN.{ℤ, pos, negsuc, natAbs}
 use lib.Ieee.{Float, nan, inf, fin, binary32, ofInt, ofBits, lt, inFloat, fits, up, down, round}
 use lib.Ieee.Exact.{HasValue}
 use lib.Ieee.Back.{round-whole, positive-back, negative-back}
-use borrow.Author.Tests.{lt-ltb, le-ltb, lt-leb, ltb-false, leb-false}
+use borrow.Author.Tests.{le-ltb, lt-leb, ltb-false, leb-false}
 use Rattle.codes.specs.declared.Code.the-variants.{Coord, Points, Delta}
 use Rattle.list.specs.List.{posLimit, deltaLimit, beyond, sum, Near, Tame, Valid}
 use Rattle.list.specs.Steps.{whole}
-use Rattle.writer.specs.Write.{Check, check, firstFault, unfit, unfitAs, startChecks, deltaChecks, splineChecks, contentChecks, wholeOf}
+use Rattle.writer.specs.Write.{firstFault, unfit, unfitAs, startChecks, deltaChecks, splineChecks, contentChecks, wholeOf}
 use Rattle.writer.specs.declared.Verdict.the-variants.{Fine}
-use Rattle.writer.proofs.Checks.{neither, passes, passed, fine-before, both-fine, agree, agreed, well-counted, counted, content-rest, content-fine}
+use Rattle.writer.proofs.Checks.{neither, passed, fine-before, both-fine, agree, agreed, well-counted, counted, content-rest, content-fine}
 use Rattle.writer.proofs.Starts.{fit-any, fit-small, fit-back, whole-fit, first-signed}
 use Rattle.write_laws.specs.Floats.{Floats}
 

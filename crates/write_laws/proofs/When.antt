@@ -6,19 +6,19 @@ use mathlib.Core.List.{List, [], _∷_, _++_}
 use Prim.Native.Nat.{ℕ, zero, suc, _+_, _-_, _*_, _≤_, _<_}
 use native.Mathlib.Omega.{arith}
 use lib.Dec.{T, ltb}
-use lib.ListN.{length, take, drop, getD, length-drop, take-append-drop}
-use lib.Seq.{take-take, drop-nil, length-take-le}
+use lib.ListN.{length, take, drop, length-drop}
+use lib.Seq.{take-take, length-take-le}
 use lib.IntN.{ℤ}
 use lib.Ieee.{Float}
 use borrow.Author.Tests.{lt-ltb, le-ltb, ltb-true, ltb-false}
 use Rattle.codes.specs.declared.Code.{Code}
 use Rattle.codes.specs.declared.Code.the-variants.{Splines, Coord, Points, Delta, Room, Shape}
 use Rattle.list.specs.List.{deltaLimit, beyond, limitOf, sum, Tame}
-use Rattle.writer.specs.Write.{Check, check, firstFault, misshapen, miscounted, unfitAs, startChecks, deltaChecks, splineChecks, contentChecks, valuesOf, outcome, writeOf}
+use Rattle.writer.specs.Write.{Check, check, firstFault, misshapen, miscounted, unfitAs, startChecks, deltaChecks, splineChecks, contentChecks, valuesOf, WriteOutcome, outcome, writeOf}
 use Rattle.writer.specs.declared.Verdict.{Verdict}
 use Rattle.writer.specs.declared.Verdict.the-variants.{Fine, Fault}
 use Rattle.writer.specs.declared.WriteAnswer.the-variants.{Refused}
-use Rattle.writer.proofs.Checks.{fails, passes, passed, faults-before, fine-before, both-fine, agreed, content-shape, content-count, content-start, content-rest}
+use Rattle.writer.proofs.Checks.{fails, passes, passed, faults-before, fine-before, agreed, content-shape, content-count, content-start, content-rest}
 use Rattle.write_laws.specs.Given.{unfitPair, FitPairs, wildPair, pointsBefore, valuesBefore, SplineGiven, points, delta, Given, shape, splines, coord, spline, room}
 use Rattle.write_laws.proofs.Accepts.{fine-tame, tame-fine, fine-splines, splines-fine}
 
@@ -272,8 +272,8 @@ pub record Exactly (A B : Type 0) : Type 0 where
   pub from : B → A
 
 module _ (ns : List ℕ) (ss : List Float) (ds cs : List ℤ) (limit size rooms : ℕ) where
-  abbrev Told : Code → ℕ → Type 0
-  Told c p = Given ns ss ds cs limit size rooms c p
+  abbrev Here : Code → ℕ → Type 0
+  Here c p = Given ns ss ds cs limit size rooms c p
 
   abbrev content : List Check
   content = contentChecks ns ss ds cs limit
@@ -281,15 +281,15 @@ module _ (ns : List ℕ) (ss : List Float) (ds cs : List ℤ) (limit size rooms 
   abbrev last : List Check
   last = check (ltb rooms size) Room rooms ∷ []
 
-  moved : {c d : Code} {p q : ℕ} → Fault c p ≡ Fault d q → Told c p → Told d q
+  moved : {c d : Code} {p q : ℕ} → Fault c p ≡ Fault d q → Here c p → Here d q
   moved {c} {d} {p} {q} e g =
       let x : c ≡ d = cc in
       let y : p ≡ q = cc in
-      subst (λ (k : ℕ). Told d k) y (subst (λ (k : Code). Told k p) x g)
+      subst (λ (k : ℕ). Here d k) y (subst (λ (k : Code). Here k p) x g)
 
   module _ (shaped : misshapen ns ss ds cs ≡ false) (few : miscounted limit (length ns) ≡ false) where
     after-count : (c : Code) (p : ℕ) → firstFault (content ++ last) ≡ Fault c p
-        → (v : Verdict) → firstFault (startChecks true 1 ss) ≡ v → (w : Verdict) → firstFault (splineChecks limit 0 (2 * length ns + 2) ns ds) ≡ w → Told c p
+        → (v : Verdict) → firstFault (startChecks true 1 ss) ≡ v → (w : Verdict) → firstFault (splineChecks limit 0 (2 * length ns + 2) ns ds) ≡ w → Here c p
     after-count c p e (Fault d q) f w g =
         let t = starts-to true 1 ss d q f in
         let is : Fault Coord (1 + 2 * t .k) ≡ Fault c p
@@ -304,19 +304,19 @@ module _ (ns : List ℕ) (ss : List Float) (ds cs : List ℤ) (limit size rooms 
         let t = fine-splines limit 0 (2 * length ns + 2) ns ds (omega arith) (h .1) g in
         at-room (ltb rooms size) refl (sym (fine-before content last (content-rest ns ss ds cs limit shaped few f ∙ g)) ∙ e) (starts-fit (length ns) true 1 ss f) (t .0) (t .1)
       where
-        at-room : (b : Bool) → ltb rooms size ≡ b → firstFault (check b Room rooms ∷ []) ≡ Fault c p → FitPairs true (length ns) ss → 0 + sum ns ≤ limit → Tame ds → Told c p
+        at-room : (b : Bool) → ltb rooms size ≡ b → firstFault (check b Room rooms ∷ []) ≡ Fault c p → FitPairs true (length ns) ss → 0 + sum ns ≤ limit → Tame ds → Here c p
         at-room true b e f u w = moved (sym (fails true Room rooms [] refl) ∙ e) (room shaped few f (omega arith) w (ltb-true rooms size b))
         at-room false b e f u w = let z : _≡_ {A = ℕ} 0 1 = cc (passes false Room rooms [] refl, none) in absurd (omega arith)
 
-  given-to : (c : Code) (p : ℕ) → firstFault (content ++ last) ≡ Fault c p → Told c p
+  given-to : (c : Code) (p : ℕ) → firstFault (content ++ last) ≡ Fault c p → Here c p
   given-to c p e = go (misshapen ns ss ds cs) refl (miscounted limit (length ns)) refl
     where
-      go : (b : Bool) → misshapen ns ss ds cs ≡ b → (d : Bool) → miscounted limit (length ns) ≡ d → Told c p
+      go : (b : Bool) → misshapen ns ss ds cs ≡ b → (d : Bool) → miscounted limit (length ns) ≡ d → Here c p
       go true u d v = moved (sym (faults-before content last Shape 0 (content-shape ns ss ds cs limit u)) ∙ e) (shape u)
       go false u true v = moved (sym (faults-before content last Splines 0 (content-count ns ss ds cs limit u v)) ∙ e) (splines u v)
       go false u false v = after-count u v c p e (firstFault (startChecks true 1 ss)) refl (firstFault (splineChecks limit 0 (2 * length ns + 2) ns ds)) refl
 
-  given-from : (c : Code) (p : ℕ) → Told c p → firstFault (content ++ last) ≡ Fault c p
+  given-from : (c : Code) (p : ℕ) → Here c p → firstFault (content ++ last) ≡ Fault c p
   given-from c p (shape u) = faults-before content last Shape 0 (content-shape ns ss ds cs limit u)
   given-from c p (splines u v) = faults-before content last Splines 0 (content-count ns ss ds cs limit u v)
   given-from c p (coord u v k f w) = faults-before content last Coord (1 + 2 * k) (content-start ns ss ds cs limit u v Coord (1 + 2 * k) (starts-from k true 1 ss f w))
@@ -351,5 +351,9 @@ module _ (ns : List ℕ) (ss : List Float) (ds cs : List ℤ) (a : ℤ) (configu
           let x : d ≡ c = cc in
           let y : q ≡ p = cc in
           cc
+
+  -- any two outcomes that the contract of `write` allows are equal
+  pub one-outcome : (o o′ : WriteOutcome) → o ≡ writeOf ns ss ds cs a configured pixels rooms → o′ ≡ writeOf ns ss ds cs a configured pixels rooms → o ≡ o′
+  one-outcome o o′ p q = p ∙ sym q
 
 -- Assumes nothing.

@@ -42,22 +42,29 @@ valuesBefore k ns = 2 * pointsBefore k ns + 129 * k
 
 -- a code and a place that the splines give, under a limit, with the points before them and the place of the first point count
 pub data SplineGiven (limit total place : ℕ) (ns : List ℕ) (ds : List ℤ) : Code → ℕ → Type 0 where
+  -- 4: the running total passes the limit at spline k's count, and no double delta before it is wild
   points : (k : ℕ) → k < length ns → total + pointsBefore k ns ≤ limit → limit < total + pointsBefore (suc k) ns
       → Tame (take (2 * pointsBefore k ns) ds)
       → SplineGiven limit total place ns ds Points (place + valuesBefore k ns)
+  -- 5: pair j of spline k is wild, the running total is within the limit there, and no double delta before it is wild
   delta : (k j : ℕ) → k < length ns → j < getD ns k 0 → total + pointsBefore (suc k) ns ≤ limit
       → Tame (take (2 * (pointsBefore k ns + j)) ds) → wildPair ds (pointsBefore k ns + j) ≡ true
       → SplineGiven limit total place ns ds Delta (place + valuesBefore k ns + (1 + 2 * j))
 
 -- a code and a place that a description gives, under a limit, where its list has so many values and so many cells are lent
 pub data Given (ns : List ℕ) (ss : List Float) (ds cs : List ℤ) (limit size room : ℕ) : Code → ℕ → Type 0 where
+  -- 9: lengths disagree
   shape : misshapen ns ss ds cs ≡ true → Given ns ss ds cs limit size room Shape 0
+  -- 2: a count of 0 or above the limit
   splines : misshapen ns ss ds cs ≡ false → miscounted limit (length ns) ≡ true → Given ns ss ds cs limit size room Splines 0
+  -- 3: pair k of the starts is the first that can't be written
   coord : misshapen ns ss ds cs ≡ false → miscounted limit (length ns) ≡ false
       → (k : ℕ) → FitPairs true k ss → unfitPair true ss k ≡ true
       → Given ns ss ds cs limit size room Coord (1 + 2 * k)
+  -- 4 and 5: all starts can be written, and the splines give the code
   spline : misshapen ns ss ds cs ≡ false → miscounted limit (length ns) ≡ false → FitPairs true (length ns) ss
       → {c : Code} {p : ℕ} → SplineGiven limit 0 (2 * length ns + 2) ns ds c p
       → Given ns ss ds cs limit size room c p
+  -- 7: nothing else is given, and the list is too short
   room : misshapen ns ss ds cs ≡ false → miscounted limit (length ns) ≡ false → FitPairs true (length ns) ss → sum ns ≤ limit → Tame ds → room < size
       → Given ns ss ds cs limit size room Room room

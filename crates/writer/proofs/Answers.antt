@@ -1,6 +1,5 @@
 -- Laws of the whole: what `write` answers and leaves after each way through it.
-use mathlib.Core.Path.{_≡_, refl, sym, ap, subst, _∙_}
-use mathlib.Core.Bool.{Bool, true, false}
+use mathlib.Core.Path.{_≡_, ap, _∙_}
 use mathlib.Core.List.{List, [], _∷_, _++_}
 use Prim.Native.Nat.{ℕ, _+_, _-_, _*_, _^_, _≤_, _<_}
 use native.Mathlib.Omega.{arith}
@@ -12,10 +11,9 @@ use lib.Ieee.{Float}
 use borrow.Author.Tests.{lt-ltb, le-ltb}
 use Rattle.codes.specs.declared.Code.{Code}
 use Rattle.codes.specs.declared.Code.the-variants.{Room}
-use Rattle.list.specs.List.{limitOf, sum}
-use Rattle.writer.specs.Write.{Check, check, firstFault, contentChecks, valuesOf, leaves, outcome, writeOf}
+use Rattle.list.specs.List.{limitOf}
+use Rattle.writer.specs.Write.{check, firstFault, contentChecks, valuesOf, leaves, writeOf}
 use Rattle.writer.specs.Steps.{Writable}
-use Rattle.writer.specs.declared.Verdict.{Verdict}
 use Rattle.writer.specs.declared.Verdict.the-variants.{Fine, Fault}
 use Rattle.writer.specs.declared.WriteAnswer.the-variants.{Done, Refused}
 use Rattle.writer.proofs.Checks.{fails, passes, faults-before, fine-before, agreed, counted, content-fine}

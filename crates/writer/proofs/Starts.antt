@@ -2,7 +2,7 @@
 use mathlib.Core.Path.{_≡_, refl, sym, ap, subst, _∙_}
 use mathlib.Core.Bool.{Bool, true, false, not, cond, _&&_, _||_}
 use Prim.Native.Nat.{ℕ, zero, suc, _+_, _-_, _*_, _/_, _%_, _^_, _≤_, _<_, min}
-use native.Mathlib.Nat.{not-suc-le-zero, mul-lt-mul-of-pos-right, div-lt-iff-lt-mul, min-le-left, mul-one, mul-mod-left, mul-pos}
+use native.Mathlib.Nat.{mul-lt-mul-of-pos-right, div-lt-iff-lt-mul, min-le-left, mul-one, mul-mod-left, mul-pos}
 use native.Mathlib.Omega.{arith}
 use lib.Dec.{T, eqb, ltb, leb, le→leb, lt→ltb}
 use lib.IntN.{ℤ, pos, negsuc, natAbs, negℤ, _-ℤ_, _+ℤ_}
@@ -14,7 +14,7 @@ use lib.Ieee.Bits.{ofBits-toBits}
 use lib.Ieee.Fits.{down-pos, up-pos, ofInt-fits}
 use mir.Syntax.{w32}
 use mir.Val.{SFits}
-use borrow.Author.Tests.{lt-ltb, le-ltb, le-leb, lt-leb, ltb-true, ltb-false, leb-false, leb-true, eq-eqb, ne-eqb, eqb-true, eqb-false, not-false}
+use borrow.Author.Tests.{lt-ltb, le-leb, lt-leb, ltb-true, ltb-false, leb-false, eq-eqb, ne-eqb, eqb-true, not-false}
 use Rattle.writer.proofs.Checks.{neither}
 use Rattle.writer.specs.Write.{unfit, unfitAs, wholeOf}
 

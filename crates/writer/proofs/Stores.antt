@@ -1,8 +1,8 @@
 -- Laws of writing: what a loop has stored, with what it has still to store, is what it stores in all.
-use mathlib.Core.Path.{_≡_, refl, sym, ap, subst, _∙_}
+use mathlib.Core.Path.{_≡_, refl, sym, ap, _∙_}
 use mathlib.Core.Bool.{Bool, true, false}
 use mathlib.Core.List.{List, [], _∷_, _++_, map}
-use Prim.Native.Nat.{ℕ, zero, suc, _+_, _-_, _*_, _^_, _%_, _≤_, _<_}
+use Prim.Native.Nat.{ℕ, zero, suc, _+_, _-_, _*_, _%_, _≤_, _<_}
 use native.Mathlib.Nat.{add-zero, sub-zero}
 use native.Mathlib.Omega.{arith}
 use lib.ListN.{length, take, drop, set, getD, replicate, length-set, length-drop, length-append, length-map, length-replicate, drop-of-length-le}
@@ -10,7 +10,7 @@ use lib.Seq.{drop-cons, drop-drop, sets, length-sets, sets-eq, length-take-le}
 use lib.IntN.{ℤ, pos, natAbs, _-ℤ_}
 use lib.Ieee.{Float, nan}
 use Rattle.list.specs.List.{packSigned, sum, startsList, splineList, splinesList}
-use Rattle.writer.specs.Write.{firstFault, unfit, unfitAs, startChecks, wholeOf, valuesOf}
+use Rattle.writer.specs.Write.{firstFault, unfit, startChecks, wholeOf, valuesOf}
 use Rattle.writer.specs.Steps.{laterList}
 use Rattle.writer.specs.declared.Verdict.the-variants.{Fine}
 use Rattle.writer.proofs.Checks.{sum-turn, starts-fine}

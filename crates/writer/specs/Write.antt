@@ -1,6 +1,5 @@
 -- Writing a description as a list: the checks in their order, the values, and what `write` leaves.
 -- The checks stand in list order, and the first that fails gives the answer's code and place.
-use mathlib.Core.Path.{_≡_, refl}
 use mathlib.Core.Bool.{Bool, true, false, not, _||_, _&&_}
 use mathlib.Core.List.{List, [], _∷_, _++_, map}
 use Prim.Native.Nat.{ℕ, _+_, _-_, _*_, _%_}
@@ -37,7 +36,7 @@ misshapen counts starts deltas coefficients =
 unfoldable pub miscounted : ℕ → ℕ → Bool
 miscounted limit splines = eqb splines 0 || ltb limit splines
 
--- a number that is no start of the list: NaN, of magnitude 2^23 or more, not whole, or minus zero
+-- a number that is no start of the list: NaN, of magnitude 2^23 or more, not whole, or minus zero; `fin s m e` has the magnitude m * up e / down e
 unfoldable pub unfit : Float → Bool
 unfit nan = true
 unfit (inf s) = true
@@ -48,7 +47,7 @@ unfoldable pub unfitAs : Bool → Float → Bool
 unfitAs true x = unfit x || lt x (ofBits binary32 0)
 unfitAs false x = unfit x
 
--- the pairs of starts, with the place of the first of them
+-- the pairs of starts, with the place of the first of them: a pair is checked as one, at its x
 unfoldable pub startChecks : Bool → ℕ → List Float → List Check
 startChecks first place [] = []
 startChecks first place (x ∷ []) = []
@@ -75,10 +74,11 @@ contentChecks counts starts deltas coefficients limit =
     ∷ check (miscounted limit (length counts)) Splines 0
     ∷ startChecks true 1 starts ++ splineChecks limit 0 (2 * length counts + 2) counts deltas
 
--- the values that stand for a description
+-- the whole number of a start
 abbrev pub wholeOf : Float → ℤ
 wholeOf x = toSigned 31 x
 
+-- the values of a description
 unfoldable pub valuesOf : List ℕ → List Float → List ℤ → List ℤ → ℤ → List ℕ
 valuesOf counts starts deltas coefficients adjustment = listOf (described adjustment (map wholeOf starts) counts deltas coefficients)
 

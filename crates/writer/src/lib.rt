@@ -5,15 +5,15 @@ use list::limit;
 use list::pack_signed;
 ghost use mathlib.Core.Path.{_≡_};
 ghost use mathlib.Core.Bool.{Bool};
-ghost use mathlib.Core.List.{List, _∷_, _++_, map};
-ghost use Prim.Native.Nat.{ℕ, _+_, _-_, _*_, _≤_, _<_, _^_, _%_};
+ghost use mathlib.Core.List.{_∷_, _++_, map};
+ghost use Prim.Native.Nat.{_+_, _-_, _*_, _≤_, _<_, _^_, _%_};
 ghost use lib.Dec.{eqb, leb};
-ghost use lib.ListN.{length, take, drop, getD};
+ghost use lib.ListN.{length, getD};
 ghost use lib.Seq.{sets};
-ghost use lib.IntN.{ℤ, pos, natAbs, _-ℤ_};
+ghost use lib.IntN.{pos, natAbs, _-ℤ_};
 ghost use Rattle.list.specs.List.{packSigned, deltaLimit, sum, startsList, splinesList};
 ghost use Rattle.writer.specs.Steps.{laterList, Writable};
-ghost use Rattle.writer.specs.Write.{firstFault, misshapen, miscounted, unfit, unfitAs, startChecks, deltaChecks, splineChecks, contentChecks, wholeOf, valuesOf, leaves, writeOf};
+ghost use Rattle.writer.specs.Write.{firstFault, misshapen, unfit, unfitAs, startChecks, deltaChecks, splineChecks, contentChecks, wholeOf, valuesOf, leaves, writeOf};
 
 pub enum WriteAnswer {
     Done(usize),
@@ -26,7 +26,7 @@ pub enum Verdict {
     Fault(Code, usize),
 }
 
-// Whether the counts sum to just so many points.
+// Whether the counts sum to just so many points: the sum itself may be too large to hold, so points are taken away instead.
 fn sum_is(counts: &[u32], points: usize) -> bool
     ensures { λ r. ⌜ r ≡ eqb (sum (now (counts .entry))) points ⌝ }
 {
@@ -43,7 +43,7 @@ fn sum_is(counts: &[u32], points: usize) -> bool
     left == 0
 }
 
-// Whether the lengths disagree.
+// Whether the lengths disagree: 128 times a count may be too large to hold, so the coefficients are divided instead.
 fn disagree(counts: &[u32], starts: &[f32], deltas: &[i32], coefficients: &[i32]) -> bool
     ensures { λ r. ⌜ r ≡ misshapen (now (counts .entry)) (now (starts .entry)) (now (deltas .entry)) (now (coefficients .entry)) ⌝ }
 {
@@ -97,7 +97,7 @@ fn judge_deltas(deltas: &[i32], place: usize) -> Verdict
     Verdict::Fine
 }
 
-// The first fault of the splines.
+// The first fault of the splines, whose first point count stands behind the starts and the adjustment.
 fn judge_splines(counts: &[u32], deltas: &[i32], limit: u32) -> Verdict
     requires { ⌜ (length (now counts) < 2 ^ 32) × (length (now deltas) ≡ 2 * sum (now counts)) ⌝ }
     ensures { λ r. ⌜ r ≡ firstFault (splineChecks limit 0 (2 * length (now (counts .entry)) + 2) (now (counts .entry)) (now (deltas .entry))) ⌝ }
@@ -170,7 +170,7 @@ fn judge_starts(starts: &[f32]) -> Verdict
     Verdict::Fine
 }
 
-// The value of a first start.
+// The value of a coordinate of the first start.
 fn first_value(x: f32) -> u32
     requires { ⌜ unfitAs Bool.true x ≡ Bool.false ⌝ }
     ensures { λ r. ⌜ r ≡ natAbs (wholeOf x) ⌝ }
@@ -178,7 +178,7 @@ fn first_value(x: f32) -> u32
     x as u32
 }
 
-// The value of a start after another.
+// The value of a coordinate of a later start.
 fn later_value(last: f32, x: f32) -> u32
     requires { ⌜ (unfit last ≡ Bool.false) × (unfit x ≡ Bool.false) ⌝ }
     ensures { λ r. ⌜ r ≡ packSigned (wholeOf x -ℤ wholeOf last) ⌝ }

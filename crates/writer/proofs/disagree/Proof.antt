@@ -1,10 +1,9 @@
 -- `writer::disagree` meets its contract: each test is one of the three comparisons of lengths, taken apart so that nothing wraps.
-use mathlib.Core.Path.{_≡_, refl, sym, ap, _∙_}
-use Prim.Native.Nat.{ℕ, _+_, _*_, _/_, _%_}
+use mathlib.Core.Path.{sym, _∙_}
+use Prim.Native.Nat.{_/_}
 use native.Mathlib.Omega.{arith}
 use borrow.Author.Needs.{needs}
 use borrow.Author.Tests.{eqb-true, eqb-false, not-true, not-false}
-use lib.Dec.{eqb}
 use lib.ListN.{length}
 use Rattle.list.specs.List.{sum}
 use Rattle.writer.proofs.Checks.{off-starts, off-deltas, off-coefficients, agree}

@@ -1,10 +1,8 @@
 -- `writer::judge` meets its contract: each test and each call is the next of the checks.
-use mathlib.Core.Path.{_≡_, sym, ap, _∙_}
-use mathlib.Core.Bool.{Bool, true, false}
+use mathlib.Core.Path.{sym, _∙_}
 use native.Mathlib.Omega.{arith}
 use borrow.Author.Needs.{needs}
 use lib.ListN.{length}
-use Rattle.writer.specs.Write.{misshapen}
 use Rattle.writer.proofs.Checks.{agreed, none-counted, many-counted, well-counted, content-shape, content-count, content-start, content-rest}
 use Rattle.writer.proofs.judge.Statement.{statement}
 use Rattle.writer.proofs.judge.Tie as tie

@@ -1,9 +1,9 @@
 -- `writer::judge_splines` meets its contract: what the checks of all splines say is what those of the splines left say.
-use mathlib.Core.Path.{_≡_, refl, sym, ap, _∙_}
-use Prim.Native.Nat.{ℕ, _+_, _-_, _*_, _≤_}
+use mathlib.Core.Path.{_≡_, refl, sym, _∙_}
+use Prim.Native.Nat.{_+_, _-_, _*_, _≤_}
 use native.Mathlib.Omega.{arith}
 use borrow.Author.Needs.{needs}
-use lib.ListN.{length, take, drop, getD}
+use lib.ListN.{length, drop, getD}
 use Rattle.list.specs.List.{sum}
 use Rattle.writer.specs.Write.{firstFault, splineChecks}
 use Rattle.writer.proofs.Checks.{length-part, sum-turn, spline-over, spline-wild, spline-pass, splines-end}

@@ -1,11 +1,9 @@
 -- `writer::later_value` meets its contract: both starts are small whole numbers, so their difference fits.
-use mathlib.Core.Path.{_≡_, sym, ap, _∙_}
 use native.Mathlib.Omega.{arith}
-use lib.IntN.{ℤ, _-ℤ_}
+use lib.IntN.{_-ℤ_}
 use mir.Syntax.{w32}
 use mir.Facts.{toZ-ofZ}
 use borrow.Author.Needs.{needs}
-use Rattle.list.specs.List.{packSigned}
 use Rattle.writer.specs.Write.{wholeOf}
 use Rattle.writer.proofs.Starts.{fit-signed, fit-fits, apart-fits}
 use Rattle.writer.proofs.later_value.Statement.{statement}

@@ -1,9 +1,9 @@
 -- `writer::put_starts` meets its contract: the first start is stored as it is, and the others after it.
-use mathlib.Core.Path.{_≡_, refl, sym, ap, _∙_}
-use mathlib.Core.Bool.{Bool, true, false}
+use mathlib.Core.Path.{_∙_}
+use mathlib.Core.Bool.{true}
 use native.Mathlib.Omega.{arith}
 use borrow.Author.Needs.{needs}
-use lib.ListN.{length, length-set}
+use lib.ListN.{length-set}
 use Rattle.writer.proofs.Checks.{starts-fine}
 use Rattle.writer.proofs.Stores.{starts-stored}
 use Rattle.writer.proofs.put_starts.Statement.{statement}

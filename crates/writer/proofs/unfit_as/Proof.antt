@@ -1,6 +1,5 @@
 -- `writer::unfit_as` meets its contract: by cases on whether the start is the first.
-use mathlib.Core.Path.{_≡_, sym, ap, _∙_}
-use mathlib.Core.Bool.{Bool, true, false}
+use mathlib.Core.Path.{sym, _∙_}
 use borrow.Author.Needs.{needs}
 use Rattle.writer.proofs.Starts.{unfit-any, fit-first, fit-later}
 use Rattle.writer.proofs.unfit_as.Statement.{statement}

@@ -1,9 +1,7 @@
 -- `writer::unfit_start` meets its contract: out of range by its order, and in range by the bits of its integer part.
-use mathlib.Core.Path.{_≡_, sym, ap, subst, _∙_}
-use Prim.Native.Nat.{ℕ, _<_, _^_}
+use mathlib.Core.Path.{sym, subst, _∙_}
 use lib.Dec.{T}
-use lib.IntN.{natAbs}
-use lib.Ieee.{ofBits, neg, toBits, toSigned, ofInt, binary32}
+use lib.Ieee.{ofBits, neg, toSigned, ofInt, binary32}
 use mir.Syntax.{w64}
 use mir.Facts.{toZ-ofZ}
 use Rattle.writer.proofs.Starts.{between, far-below, far-above, small-float, whole-fit, fit-number, bits-same, bits-other}

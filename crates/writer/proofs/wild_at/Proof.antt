@@ -1,7 +1,6 @@
 -- `writer::wild_at` meets its contract: the number is itself when it is read, and its order to -2^30 and 2^30 gives its magnitude.
-use mathlib.Core.Path.{_≡_, sym, _∙_}
 use lib.ListN.{getD}
-use lib.IntN.{ℤ, pos}
+use lib.IntN.{pos}
 use mir.Syntax.{w32}
 use mir.Facts.{toZ-ofZ}
 use borrow.Author.Needs.{needs}
