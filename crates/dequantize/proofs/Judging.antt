@@ -1,10 +1,9 @@
 -- A run over the splines: k of them are judged, at numbers of the double deltas are used, total is the sum, and what is left gives what the whole gives.
-use mathlib.Core.Path.{_≡_, refl, sym, ap, _∙_}
+use mathlib.Core.Path.{_≡_, refl, sym, _∙_}
 use mathlib.Core.List.{List, [], _∷_}
 use Prim.Native.Nat.{ℕ, zero, suc, _+_, _-_, _*_, _≤_, _<_}
 use native.Mathlib.Numerals.{add-one}
 use native.Mathlib.Omega.{arith}
-use lib.IntN.{ℤ}
 use lib.ListN.{length, getD, take, drop}
 use lib.Ieee.{nan}
 use Rattle.codes.specs.declared.Code.{Code}

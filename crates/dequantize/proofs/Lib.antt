@@ -7,3 +7,8 @@ pub mod Coincide
 pub mod Walks
 pub mod Tables
 pub mod Judging
+pub mod Exactly
+pub mod Accepted
+pub mod Judgement
+pub mod Readings
+pub mod AreaLimit

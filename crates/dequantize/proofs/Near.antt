@@ -1,12 +1,11 @@
 -- The f32 test of COINCIDE on whole numbers is their equality: within the range every whole number and every difference of two is exact in f32, and 1 is above 1e-3.
-use mathlib.Core.Path.{_≡_, refl, sym, ap, subst, _∙_}
+use mathlib.Core.Path.{_≡_, refl, sym, _∙_}
 use mathlib.Core.Bool.{Bool, true, false, not, cond, _&&_}
-use Prim.Native.Nat.{ℕ, zero, suc, _+_, _-_, _*_, _^_, _≤_, _<_}
-use native.Mathlib.Nat.{mul-one, mul-pos, mul-comm, mul-assoc, mul-right-comm, lt-of-mul-lt-mul-right, le-of-mul-le-mul-right, add-mul, mul-sub}
+use Prim.Native.Nat.{ℕ, zero, suc, _+_, _-_, _*_, _≤_, _<_}
+use native.Mathlib.Nat.{mul-one, mul-pos, mul-comm, mul-assoc, lt-of-mul-lt-mul-right, le-of-mul-le-mul-right, add-mul, mul-sub}
 use native.Mathlib.Omega.{arith}
-use lib.Dec.{leb, ltb, eqb, lit<}
+use lib.Dec.{ltb, eqb, lit<}
 use lib.IntN.{ℤ, pos, negsuc}
-use lib.Signed.{mag}
 use lib.Ieee.{Float, nan, inf, fin, binary32, up, down, round, sum, add, sub, neg, lt, ofInt, ofBits}
 use lib.Ieee.Exact.{HasValue}
 use lib.Ieee.Back.{round-whole}

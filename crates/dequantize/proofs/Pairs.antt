@@ -1,10 +1,10 @@
 -- Pairs that passed a check are small, and the sum of two small pairs is the machine's.
-use mathlib.Core.Path.{_≡_, refl, sym, ap, subst, _∙_}
+use mathlib.Core.Path.{_≡_, refl, sym, ap, _∙_}
 use mathlib.Core.Bool.{Bool, true, false, cond, true≢false}
-use Prim.Native.Nat.{ℕ, zero, suc, _+_, _-_, _<_, _≤_}
+use Prim.Native.Nat.{ℕ, suc, _+_, _-_, _<_, _≤_}
 use native.Mathlib.Omega.{arith}
 use lib.IntN.{ℤ, pos, negsuc, natAbs, _+ℤ_, _-ℤ_}
-use lib.Signed.{mag, ltZ, leZ, nonNeg}
+use lib.Signed.{mag, leZ, nonNeg}
 use lib.Dec.{T, ltb, leb}
 use borrow.Author.Tests.{ltb-true, leb-true, le-leb}
 use mir.Syntax.{w32}

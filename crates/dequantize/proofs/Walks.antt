@@ -1,10 +1,10 @@
 -- The control points of a spline that a trace has passed may be gone through again: every sum fits, and every point is in the range.
-use mathlib.Core.Path.{_≡_, refl, sym, ap, subst, _∙_}
+use mathlib.Core.Path.{_≡_, refl}
 use mathlib.Core.Bool.{Bool, true, false, cond}
 use mathlib.Core.List.{List, [], _∷_}
-use Prim.Native.Nat.{ℕ, zero, suc, _+_, _*_, _/_, _<_, _≤_}
+use Prim.Native.Nat.{ℕ, _+_, _*_, _/_, _<_, _≤_}
 use native.Mathlib.Omega.{arith}
-use lib.IntN.{ℤ, pos}
+use lib.IntN.{ℤ}
 use lib.ListN.{length, drop}
 use Rattle.dequantize.specs.ControlPoints.{onward, stepOf, traceFrom, traceOf, runAt, pairAt, plusOf, movedOf, placeAt, laterPoints, controlPoints, validDoubleDelta, validPointPos, walks, Walk, Moves}
 use Rattle.dequantize.specs.declared.control_points.Pair.{Pair}

@@ -8,7 +8,6 @@ use lib.IntN.{ℤ}
 use lib.ListN.{length, getD, take, drop}
 use lib.Ieee.{Float, nan}
 use Rattle.codes.specs.Codes.{numberOf}
-use Rattle.codes.specs.declared.Code.{Code}
 use Rattle.codes.specs.declared.Code.the-variants.{Area, Coincide}
 use Rattle.numbers.specs.Saturating.{satAdd}
 use Rattle.dequantize.specs.Dequantize.{dequantizeOf}

@@ -1,5 +1,5 @@
 -- Each answer of the code is a case of the definition, by what the start and the trace gave.
-use mathlib.Core.Path.{_≡_, sym, _∙_}
+use mathlib.Core.Path.{sym, _∙_}
 use borrow.Author.Needs.{needs}
 use Rattle.dequantize.specs.Dequantize.{dequantizeOf}
 use Rattle.dequantize.proofs.Starts.{start-valid}

@@ -1,5 +1,4 @@
 -- The rows and the estimate are the calls' answers, over the inverse quant of the adjustment.
-use mathlib.Core.Path.{_≡_}
 use native.Mathlib.Omega.{arith}
 use borrow.Author.Needs.{needs}
 use mir.Syntax.{w32}

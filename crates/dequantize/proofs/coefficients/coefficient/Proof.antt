@@ -1,5 +1,4 @@
 -- The products are the definition's, in its order; the test on the index picks the factor.
-use mathlib.Core.Path.{_≡_}
 use Prim.Native.Nat.{_+_}
 use borrow.Author.Needs.{needs}
 use borrow.Author.Tests.{eq-eqb, ne-eqb}

@@ -1,5 +1,4 @@
 -- The code makes the definition's test, and the same operations on either side of it.
-use mathlib.Core.Path.{_≡_}
 use borrow.Author.Needs.{needs}
 use mir.Syntax.{w32}
 use mir.Facts.{toZ-ofZ}

@@ -5,7 +5,7 @@ use mir.Syntax.{w32}
 use mir.Val.{toZ, ofZ}
 use mir.Facts.{toZ-ofZ}
 use Rattle.numbers.proofs.Signs.{nan-yes, nan-no}
-use Rattle.dequantize.specs.ControlPoints.{inRange, roundedOf}
+use Rattle.dequantize.specs.ControlPoints.{roundedOf}
 use Rattle.dequantize.proofs.control_points.rounded.Statement.{statement}
 use Rattle.dequantize.proofs.control_points.rounded.Tie as tie
 

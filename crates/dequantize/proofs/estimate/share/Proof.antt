@@ -1,5 +1,4 @@
 -- The calls are the definition's operations, last call first.
-use mathlib.Core.Path.{_≡_}
 use borrow.Author.Needs.{needs}
 use lib.IntN.{pos}
 use lib.ListN.{getD}

@@ -1,5 +1,5 @@
 -- Each test of the code is the definition's test at the same place.
-use mathlib.Core.Path.{_≡_, sym, _∙_}
+use mathlib.Core.Path.{sym, _∙_}
 use borrow.Author.Needs.{needs}
 use borrow.Author.Tests.{eq-eqb, ne-eqb, le-leb, lt-leb}
 use Rattle.dequantize.specs.Judge.{settleOf}

@@ -1,5 +1,4 @@
 -- Both numbers are in the slice, and each is an i32 as it stands there.
-use mathlib.Core.Path.{_≡_}
 use borrow.Author.Needs.{needs}
 use mir.Syntax.{w32}
 use mir.Facts.{toZ-ofZ}

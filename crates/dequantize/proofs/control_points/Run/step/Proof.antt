@@ -6,7 +6,7 @@ use native.Mathlib.Omega.{arith}
 use lib.Dec.{leb, eqb}
 use borrow.Author.Needs.{needs}
 use borrow.Author.Tests.{not-true, not-false, le-leb, lt-leb}
-use Rattle.dequantize.specs.ControlPoints.{stepOf, validDoubleDelta, validPointPos, plusOf, manhattanOf, samePoint}
+use Rattle.dequantize.specs.ControlPoints.{stepOf, validDoubleDelta, validPointPos, manhattanOf, samePoint}
 use Rattle.dequantize.proofs.Pairs.{double-delta-fine, point-fine}
 use Rattle.dequantize.proofs.Coincide.{same-next}
 use Rattle.dequantize.proofs.control_points.Run.step.Statement.{statement}
