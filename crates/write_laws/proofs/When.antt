@@ -1,4 +1,4 @@
--- `write` refuses with a code at a place exactly when the table gives that code at that place.
+-- `write` refuses with a code at a place exactly when the table gives that code at that place, and writes exactly when it gives none.
 -- Each list of checks is taken apart by recursion, both ways.
 use mathlib.Core.Path.{_≡_, refl, sym, ap, subst, _∙_}
 use mathlib.Core.Bool.{Bool, true, false, _||_}
@@ -17,9 +17,9 @@ use Rattle.list.specs.List.{deltaLimit, beyond, limitOf, sum, Tame}
 use Rattle.writer.specs.Write.{Check, check, firstFault, misshapen, miscounted, unfitAs, startChecks, deltaChecks, splineChecks, contentChecks, valuesOf, WriteOutcome, outcome, writeOf}
 use Rattle.writer.specs.declared.Verdict.{Verdict}
 use Rattle.writer.specs.declared.Verdict.the-variants.{Fine, Fault}
-use Rattle.writer.specs.declared.WriteAnswer.the-variants.{Refused}
-use Rattle.writer.proofs.Checks.{fails, passes, passed, faults-before, fine-before, agreed, content-shape, content-count, content-start, content-rest}
-use Rattle.write_laws.specs.Given.{unfitPair, FitPairs, wildPair, pointsBefore, valuesBefore, SplineGiven, points, delta, Given, shape, splines, coord, spline, room}
+use Rattle.writer.specs.declared.WriteAnswer.the-variants.{Done, Refused}
+use Rattle.writer.proofs.Checks.{fails, passes, passed, faults-before, fine-before, both-fine, agreed, content-shape, content-count, content-start, content-rest, content-fine}
+use Rattle.write_laws.specs.Given.{unfitPair, FitPairs, wildPair, pointsBefore, valuesBefore, SplineGiven, points, delta, Given, shape, splines, coord, spline, room, Accepted}
 use Rattle.write_laws.proofs.Accepts.{fine-tame, tame-fine, fine-splines, splines-fine}
 
 none : firstFault [] ≡ Fine
@@ -328,6 +328,30 @@ module _ (ns : List ℕ) (ss : List Float) (ds cs : List ℤ) (limit size rooms 
       fine-before content last (content-rest ns ss ds cs limit u v (fit-starts (length ns) true 1 ss (g .0) f) ∙ splines-fine limit 0 (2 * length ns + 2) ns ds (omega arith) w)
       ∙ fails _ Room rooms [] (lt-ltb rooms size h)
 
+  -- nothing fails
+  fine-to : firstFault (content ++ last) ≡ Fine → Accepted ns ss ds cs limit size rooms size
+  fine-to e =
+      let b = both-fine content last e in
+      let f = content-fine ns ss ds cs limit (b .0) in
+      let t = fine-splines limit 0 (2 * length ns + 2) ns ds (omega arith) (agreed ns ss ds cs (f .0) .1) (f .3) in
+      record {
+        shaped = f .0;
+        counted = f .1;
+        fit = starts-fit (length ns) true 1 ss (f .2);
+        within = omega (arith, t .0);
+        tame = t .1;
+        held = ltb-false rooms size (passed (ltb rooms size) Room rooms [] (b .1) .0);
+        all = refl;
+      }
+
+  fine-from : (values : ℕ) → Accepted ns ss ds cs limit size rooms values → firstFault (content ++ last) ≡ Fine
+  fine-from values g =
+      let h = agreed ns ss ds cs (g .shaped) in
+      fine-before content last
+      (content-rest ns ss ds cs limit (g .shaped) (g .counted) (fit-starts (length ns) true 1 ss (h .0) (g .fit))
+      ∙ splines-fine limit 0 (2 * length ns + 2) ns ds (omega (arith, g .within)) (g .tame))
+      ∙ passes _ Room rooms [] (le-ltb rooms size (g .held)) ∙ none
+
 -- `write` refuses with a code at a place exactly when the table gives it
 module _ (ns : List ℕ) (ss : List Float) (ds cs : List ℤ) (a : ℤ) (configured pixels rooms : ℕ) where
   abbrev size : ℕ
@@ -351,6 +375,23 @@ module _ (ns : List ℕ) (ss : List Float) (ds cs : List ℤ) (a : ℤ) (configu
           let x : d ≡ c = cc in
           let y : q ≡ p = cc in
           cc
+
+  -- and it writes so many values exactly when nothing is given
+  pub done-exactly-when : (n : ℕ) → Exactly (writeOf ns ss ds cs a configured pixels rooms .answer ≡ Done n) (Accepted ns ss ds cs (limitOf configured pixels) size rooms n)
+  unfolding writeOf
+  done-exactly-when n =
+      record {
+        to = λ e. told verdict refl e;
+        from =
+            λ g. ap (λ (v : Verdict). outcome rooms (valuesOf ns ss ds cs a) v .answer) (fine-from ns ss ds cs (limitOf configured pixels) size rooms n g)
+            ∙ ap Done (sym (g .all));
+      }
+    where
+      told : (v : Verdict) → verdict ≡ v → outcome rooms (valuesOf ns ss ds cs a) v .answer ≡ Done n → Accepted ns ss ds cs (limitOf configured pixels) size rooms n
+      told (Fault d q) f e = let z : _≡_ {A = ℕ} 0 1 = cc in absurd (omega arith)
+      told Fine f e =
+          let k : size ≡ n = cc in
+          subst (λ (m : ℕ). Accepted ns ss ds cs (limitOf configured pixels) size rooms m) k (fine-to ns ss ds cs (limitOf configured pixels) size rooms f)
 
   -- any two outcomes that the contract of `write` allows are equal
   pub one-outcome : (o o′ : WriteOutcome) → o ≡ writeOf ns ss ds cs a configured pixels rooms → o′ ≡ writeOf ns ss ds cs a configured pixels rooms → o ≡ o′

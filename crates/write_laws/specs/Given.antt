@@ -68,3 +68,13 @@ pub data Given (ns : List ℕ) (ss : List Float) (ds cs : List ℤ) (limit size 
   -- 7: nothing else is given, and the list is too short
   room : misshapen ns ss ds cs ≡ false → miscounted limit (length ns) ≡ false → FitPairs true (length ns) ss → sum ns ≤ limit → Tame ds → room < size
       → Given ns ss ds cs limit size room Room room
+
+-- 0: nothing is given, and so many values are written
+pub record Accepted (ns : List ℕ) (ss : List Float) (ds cs : List ℤ) (limit size room values : ℕ) : Type 0 where
+  pub shaped : misshapen ns ss ds cs ≡ false
+  pub counted : miscounted limit (length ns) ≡ false
+  pub fit : FitPairs true (length ns) ss
+  pub within : sum ns ≤ limit
+  pub tame : Tame ds
+  pub held : size ≤ room
+  pub all : values ≡ size
