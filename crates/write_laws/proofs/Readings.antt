@@ -5,7 +5,7 @@ use mathlib.Core.List.{List, [], _∷_, _++_}
 use Prim.Native.Nat.{ℕ}
 use lib.ListN.{replicate}
 use lib.IntN.{ℤ, pos, negsuc}
-use lib.Ieee.{Float, nan, fin, binary32, lt, ofBits, toSigned}
+use lib.Ieee.{Float, nan, fin, lt, ofBits, toSigned}
 use Rattle.codes.specs.declared.Code.the-variants.{Splines, Coord, Points, Delta, Room, Shape}
 use Rattle.writer.specs.Write.{firstFault, misshapen, miscounted, unfit, unfitAs, startChecks, deltaChecks, splineChecks, contentChecks, valuesOf, leaves, writeOf}
 use Rattle.writer.specs.declared.WriteAnswer.{WriteAnswer}
