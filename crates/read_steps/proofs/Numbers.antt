@@ -1,5 +1,5 @@
 -- Coordinates as numbers: a sum's magnitude, and the test against 2^23. By cases on the signs.
-use mathlib.Core.Path.{_≡_, refl, sym, subst}
+use mathlib.Core.Path.{_≡_, refl, sym, subst, _∙_}
 use mathlib.Core.Bool.{Bool, true, false, _||_, cond}
 use Prim.Native.Nat.{ℕ, suc, _+_, _-_, _≤_, _<_, _^_}
 use native.Mathlib.Omega.{arith}
@@ -42,6 +42,13 @@ pub not-far : (x y : ℤ) → beyond posLimit x y ≡ false → (mag x < 2 ^ 23)
 not-far x y e =
     let h = neither (leb posLimit (natAbs x)) (leb posLimit (natAbs y)) e in
     (near-mag x (h .0), near-mag y (h .1))
+
+-- what `far` said of coordinates that have passed through the machine's 64 bits
+pub judge : {x y x′ y′ : ℤ} {far t : Bool} → x′ ≡ x → y′ ≡ y → far ≡ beyond posLimit x′ y′ → far ≡ t → beyond posLimit x y ≡ t
+judge p q e i = rw (← p, ← q) (sym e ∙ i)
+
+pub as-small : {x x′ : ℤ} → x′ ≡ x → mag x < 2 ^ 23 → mag x′ < 2 ^ 23
+as-small p h = rw p h
 
 -- and each is an f32
 pub small-exact : (z : ℤ) → mag z < 2 ^ 23 → T (inFloat binary32 z)

@@ -1,6 +1,6 @@
 -- `read_steps::read_starts` meets its contract. What is read stands before `i`, and the rest of the list, after the last start, gives what is left.
 use mathlib.Core.Path.{_≡_, refl, ap, _∙_}
-use mathlib.Core.Bool.{true}
+use mathlib.Core.Bool.{true, false}
 use Prim.Native.Nat.{_+_, _-_, _*_, _≤_, _<_, _^_}
 use native.Mathlib.Omega.{arith}
 use borrow.Author.Needs.{needs}
@@ -10,10 +10,10 @@ use lib.Signed.{mag}
 use mir.Syntax.{w64}
 use mir.Val.{toZ}
 use mir.Facts.{toZ-ofZ}
-use Rattle.list.specs.List.{onto, startsOf}
+use Rattle.list.specs.List.{posLimit, beyond, onto, startsOf}
 use Rattle.codes.specs.declared.Code.{Code}
 use Rattle.read_steps.specs.Steps.{floats}
-use Rattle.read_steps.proofs.Numbers.{not-far}
+use Rattle.read_steps.proofs.Numbers.{not-far, judge, as-small}
 use Rattle.read_steps.proofs.Turns.{keep-two, onto-none, filled-done, filled-stop, pair-is, starts-short, starts-far, starts-more}
 use Rattle.read_steps.proofs.read_starts.Statement.{statement}
 use Rattle.read_steps.proofs.read_starts.Tie as tie
@@ -67,15 +67,19 @@ returns-2 c =
     let v = c .before .before .before .before .before .before .before .before .before .loop in
     let zx = toZ-ofZ {w = w64} {z = c .before .before .before .coordinate-of .result} (record { sfits = c .before .before .before .coordinate-of .ok }) in
     let zy = toZ-ofZ {w = w64} {z = c .before .before .coordinate-of2 .result} (record { sfits = c .before .before .coordinate-of2 .ok }) in
+    let judged : beyond posLimit (c .before .before .before .coordinate-of .result) (c .before .before .coordinate-of2 .result) ≡ true
+    = judge zx zy (c .before .far .ensures) (c .if1 .taken) in
     filled-stop _ (take (v .i) (v .out)) _ _ Code.Coord (a .total - length (v .rest .now))
-    (v .inv .6 ∙ rw (starts-far (a .total) (v .first) (toZ w64 (v .last-x)) (toZ w64 (v .last-y)) (c .before .before .before .coordinate-of .result) (c .before .before .coordinate-of2 .result) (v .left) (v .rest .now) (c .before .before .before .before .before .a .given .0 .0) (c .before .before .before .before .before .a .given .0 .1 .0) (omega arith) (cc) (cc) (cc) (cc)))
+    (v .inv .6 ∙ rw (starts-far (a .total) (v .first) (toZ w64 (v .last-x)) (toZ w64 (v .last-y)) (c .before .before .before .coordinate-of .result) (c .before .before .coordinate-of2 .result) (v .left) (v .rest .now) (c .before .before .before .before .before .a .given .0 .0) (c .before .before .before .before .before .a .given .0 .1 .0) (omega arith) (cc) (cc) (cc) judged))
 
 start-of-requires : tie.Need-start-of-requires Inv-loop μ-loop
 start-of-requires c κs =
     let zx = toZ-ofZ {w = w64} {z = c .before .before .before .coordinate-of .result} (record { sfits = c .before .before .before .coordinate-of .ok }) in
     let zy = toZ-ofZ {w = w64} {z = c .before .before .coordinate-of2 .result} (record { sfits = c .before .before .coordinate-of2 .ok }) in
-    let near = not-far (c .before .before .before .coordinate-of .result) (c .before .before .coordinate-of2 .result) (cc) in
-    rw zx (near .0)
+    let judged : beyond posLimit (c .before .before .before .coordinate-of .result) (c .before .before .coordinate-of2 .result) ≡ false
+    = judge zx zy (c .before .far .ensures) (c .if1 .left) in
+    let near = not-far (c .before .before .before .coordinate-of .result) (c .before .before .coordinate-of2 .result) judged in
+    as-small zx (near .0)
 
 mul-out : tie.Need-mul-out Inv-loop μ-loop
 mul-out c = search needs
@@ -87,8 +91,10 @@ start-of-requires-2 : tie.Need-start-of-requires-2 Inv-loop μ-loop
 start-of-requires-2 c κs =
     let zx = toZ-ofZ {w = w64} {z = c .before .before .before .before .coordinate-of .result} (record { sfits = c .before .before .before .before .coordinate-of .ok }) in
     let zy = toZ-ofZ {w = w64} {z = c .before .before .before .coordinate-of2 .result} (record { sfits = c .before .before .before .coordinate-of2 .ok }) in
-    let near = not-far (c .before .before .before .before .coordinate-of .result) (c .before .before .before .coordinate-of2 .result) (cc) in
-    rw zy (near .1)
+    let judged : beyond posLimit (c .before .before .before .before .coordinate-of .result) (c .before .before .before .coordinate-of2 .result) ≡ false
+    = judge zx zy (c .before .before .far .ensures) (c .before .if1 .left) in
+    let near = not-far (c .before .before .before .before .coordinate-of .result) (c .before .before .before .coordinate-of2 .result) judged in
+    as-small zy (near .1)
 
 add-out : tie.Need-add-out Inv-loop μ-loop
 add-out c = search needs
@@ -121,7 +127,9 @@ loop-again : tie.Need-loop-again Inv-loop μ-loop
 loop-again c =
     let zx = toZ-ofZ {w = w64} {z = c .before .before .before .before .before .before .coordinate-of .result} (record { sfits = c .before .before .before .before .before .before .coordinate-of .ok }) in
     let zy = toZ-ofZ {w = w64} {z = c .before .before .before .before .before .coordinate-of2 .result} (record { sfits = c .before .before .before .before .before .coordinate-of2 .ok }) in
-    let near = not-far (c .before .before .before .before .before .before .coordinate-of .result) (c .before .before .before .before .before .coordinate-of2 .result) (cc) in
+    let judged : beyond posLimit (c .before .before .before .before .before .before .coordinate-of .result) (c .before .before .before .before .before .coordinate-of2 .result) ≡ false
+    = judge zx zy (c .before .before .before .before .far .ensures) (c .before .before .before .if1 .left) in
+    let near = not-far (c .before .before .before .before .before .before .coordinate-of .result) (c .before .before .before .before .before .coordinate-of2 .result) judged in
     let a = c .before .before .before .before .before .before .before .before .before .before .before .before .before .before .before .args in
     let v = c .before .before .before .before .before .before .before .before .before .before .before .before .loop in
     let x = c .before .before .before .before .before .before .coordinate-of .result in
@@ -132,8 +140,8 @@ loop-again c =
       simp length-set (v .inv .1),
       omega (arith, c .rest .given .2),
       keep-two (v .out) (a .out .now) (v .i) _ _ (v .inv .3),
-      rw zx (near .0),
-      rw zy (near .1),
+      as-small zx (near .0),
+      as-small zy (near .1),
       rw (c .before .before .start-of .ensures, c .before .start-of2 .ensures, zx, zy)
           (starts-more (a .total) (a .n) (v .left) (v .i) (a .list .now) (v .rest .now) (v .out) (v .first) (toZ w64 (v .last-x)) (toZ w64 (v .last-y)) x y ux uy
           (v .inv .6) (omega arith) (omega arith) (cc) (cc) (cc) (cc)),
