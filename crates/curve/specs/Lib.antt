@@ -1,2 +1,4 @@
 pub mod Points
 pub mod Windows
+pub mod Curve
+pub mod Turns

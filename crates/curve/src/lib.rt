@@ -1,9 +1,18 @@
 // The curve of a spline: points by value, windows of four points, and the path through the control points.
 ghost use mathlib.Core.Path.{_≡_};
-ghost use Prim.Native.Nat.{_<_};
-ghost use lib.Ieee.{binary32, add, sub, mul};
+ghost use mathlib.Core.Bool.{true};
+ghost use Prim.Native.Nat.{_+_, _*_, _/_, _≤_, _<_};
+ghost use lib.ListN.{length, drop};
+ghost use lib.Seq.{sets};
+ghost use lib.Ieee.{binary32, add, sub, mul, ofInt};
+ghost use Rattle.buffers.specs.Onto.{onto};
+ghost use Rattle.dequantize.specs.ControlPoints.{validPointPos, placeAt, Walk};
 ghost use Rattle.curve.specs.Points.{addPoint, subPoint, mulPoint};
 ghost use Rattle.curve.specs.Windows.{toward, time, levels, windowPoint};
+ghost use Rattle.curve.specs.Curve.{pointOf, reflected, interpolated, windowPoints, pathOf, flat, pathRoom, curvedOf, curvedOn};
+ghost use Rattle.curve.specs.Turns.{rootLength, nextPlace, firstTurn, nextTurn, turnWindow, lastWindow};
+use dequantize::control_points::Pair;
+use dequantize::control_points::Place;
 
 // ---- points
 
@@ -45,6 +54,24 @@ impl Point {
         ensures { λ r. ⌜ r ≡ toward self q tt t d ⌝ }
     {
         self.add(q.sub(self).scale((tt - t) / d))
+    }
+
+    // The point on the other side of this one, as far away as q.
+    fn reflected(self, q: Point) -> Point
+        ensures { λ r. ⌜ r ≡ reflected self q ⌝ }
+    {
+        self.add(self.sub(q))
+    }
+
+    // A control point. In the range every whole number is exact.
+    fn of(p: Pair) -> Point
+        requires { ⌜ validPointPos p ≡ true ⌝ }
+        ensures { λ r. ⌜ r ≡ pointOf p ⌝ }
+    {
+        Point {
+            x: p.x as f32,
+            y: p.y as f32,
+        }
     }
 }
 
@@ -91,4 +118,180 @@ impl Window {
         let t2 = t1 + self.d1;
         self.levels(self.time(i), t1, t2)
     }
+}
+
+// A window's 15 points after its second one, written from cell k on.
+fn put_interpolated(out: &mut [f32], k: usize, w: Window)
+    requires { ⌜ k + 30 ≤ length (now out) ⌝ }
+    ensures { λ _. ⌜ now (out .exit) ≡ sets (now (out .entry)) k (flat (interpolated w 15)) ⌝ }
+{
+    let mut i = 0;
+    while i < 15 {
+        let p = w.point(i + 1);
+        buffers::put2(out, k + 2 * i, p.x, p.y);
+        i += 1;
+    }
+}
+
+// A window's second point and the 15 after it, written from cell k on.
+fn put_window(out: &mut [f32], k: usize, w: Window)
+    requires { ⌜ k + 32 ≤ length (now out) ⌝ }
+    ensures { λ _. ⌜ now (out .exit) ≡ sets (now (out .entry)) k (flat (windowPoints w)) ⌝ }
+{
+    buffers::put2(out, k, w.p1.x, w.p1.y);
+    put_interpolated(out, k + 2, w);
+}
+
+// ---- turns
+
+// Three points that follow one another, with the place of the last one and the roots of both distances.
+struct Turn {
+    p: Point,
+    q: Point,
+    r: Point,
+    place: Place,
+    d0: f32,
+    d1: f32,
+}
+
+// The root of a delta's length. The delta is the exact difference of two control points.
+fn root_length(delta: Pair) -> f32
+    ensures { λ r. ⌜ r ≡ rootLength delta ⌝ }
+{
+    numbers::root(numbers::length(delta.x, delta.y))
+}
+
+// The place that the double delta k leads to.
+fn next_place(place: Place, deltas: &[i32], k: usize) -> Place
+    requires { ⌜ Walk place (drop (2 * k) (now deltas)) × (2 * k + 2 ≤ length (now deltas)) ⌝ }
+    ensures { λ r. ⌜ r ≡ nextPlace place (now (deltas .entry)) k ⌝ }
+{
+    place.moved(Pair::of(deltas, k))
+}
+
+impl Turn {
+    // At the start, which is followed by a place. The reflected point lies as far away as the next one.
+    fn first(start: Pair, place: Place) -> Turn
+        requires { ⌜ (validPointPos start ≡ true) × (validPointPos (place .point) ≡ true) ⌝ }
+        ensures { λ r. ⌜ r ≡ firstTurn start place ⌝ }
+    {
+        let q = Point::of(start);
+        let r = Point::of(place.point);
+        let p = q.reflected(r);
+        let d = root_length(place.delta);
+        Turn {
+            p,
+            q,
+            r,
+            place,
+            d0: d,
+            d1: d,
+        }
+    }
+
+    fn next(self, place: Place) -> Turn
+        requires { ⌜ validPointPos (place .point) ≡ true ⌝ }
+        ensures { λ r. ⌜ r ≡ nextTurn self place ⌝ }
+    {
+        let p = self.q;
+        let q = self.r;
+        let r = Point::of(place.point);
+        let d = root_length(place.delta);
+        Turn {
+            p,
+            q,
+            r,
+            place,
+            d0: self.d1,
+            d1: d,
+        }
+    }
+
+    // The window of the three points and s, which lies at the distance whose root is d.
+    fn window(self, s: Point, d: f32) -> Window
+        ensures { λ r. ⌜ r ≡ turnWindow self s d ⌝ }
+    {
+        let p0 = self.p;
+        let p1 = self.q;
+        let p2 = self.r;
+        Window {
+            p0,
+            p1,
+            p2,
+            p3: s,
+            d0: self.d0,
+            d1: self.d1,
+            d2: d,
+        }
+    }
+
+    fn last(self) -> Window
+        ensures { λ r. ⌜ r ≡ lastWindow self ⌝ }
+    {
+        self.window(self.r.reflected(self.q), self.d1)
+    }
+}
+
+// ---- the path
+
+// The turn at the start of a path of two control points or more.
+fn first_turn(start: Pair, deltas: &[i32]) -> Turn
+    requires { ⌜ Walk (placeAt start) (now deltas) × (2 ≤ length (now deltas)) ⌝ }
+    ensures { λ r. ⌜ r ≡ firstTurn start (nextPlace (placeAt start) (now (deltas .entry)) 0) ⌝ }
+{
+    Turn::first(start, next_place(Place::at(start), deltas, 0))
+}
+
+// The path through m + 1 control points.
+fn put_path(start: Pair, deltas: &[i32], out: &mut [f32], m: usize)
+    requires { ⌜ Walk (placeAt start) (now deltas) × (m ≡ length (now deltas) / 2) × (0 < m) × (32 * m + 2 ≤ length (now out)) ⌝ }
+    ensures { λ _. ⌜ now (out .exit) ≡ onto (flat (pathOf start (now (deltas .entry)))) (now (out .entry)) ⌝ }
+{
+    let mut t = first_turn(start, deltas);
+    let mut k = 0;
+    while k + 1 < m {
+        let next = t.next(next_place(t.place, deltas, k + 1));
+        put_window(out, 32 * k, t.window(next.r, next.d1));
+        t = next;
+        k += 1;
+    }
+    put_window(out, 32 * k, t.last());
+    buffers::put2(out, 32 * k + 32, t.r.x, t.r.y);
+}
+
+// The path's points, or that there is no room for them.
+pub enum Curved {
+    Points(usize),
+    Room,
+}
+
+// How many points a path may have in a buffer of len numbers.
+fn path_room(len: usize) -> usize
+    ensures { λ r. ⌜ r ≡ pathRoom len ⌝ }
+{
+    let n = len / 2;
+    if n <= 8388608 { n } else { 8388608 }
+}
+
+// The path of a spline that was traced before, on the front of out.
+pub fn curve(start: Pair, deltas: &[i32], out: &mut [f32]) -> Curved
+    requires { ⌜ Walk (placeAt start) (now deltas) ⌝ }
+    ensures { λ r. ⌜ (r ≡ curvedOf (pathRoom (length (now (out .entry)))) (pathOf start (now (deltas .entry))))
+        × (now (out .exit) ≡ curvedOn (pathRoom (length (now (out .entry)))) (pathOf start (now (deltas .entry))) (now (out .entry))) ⌝ }
+{
+    let room = path_room(out.len());
+    if room == 0 {
+        return Curved::Room;
+    }
+    let m = deltas.len() / 2;
+    if m > (room - 1) / 16 {
+        return Curved::Room;
+    }
+    if m == 0 {
+        let p = Point::of(start);
+        buffers::put2(out, 0, p.x, p.y);
+        return Curved::Points(1);
+    }
+    put_path(start, deltas, out, m);
+    Curved::Points(16 * m + 1)
 }

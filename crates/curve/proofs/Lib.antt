@@ -1,0 +1,4 @@
+-- The laws of the crate `curve`.
+pub mod Wholes
+pub mod Paths
+pub mod Turning

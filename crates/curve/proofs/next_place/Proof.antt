@@ -1,0 +1,21 @@
+-- `curve::next_place`: a walk that was traced can move on.
+use mathlib.Core.Path.{ap, _∙_}
+use borrow.Author.Needs.{needs}
+use Rattle.dequantize.specs.ControlPoints.{movedOf}
+use Rattle.dequantize.proofs.Walks.{walk-moves}
+use Rattle.curve.proofs.next_place.Statement.{statement}
+use Rattle.curve.proofs.next_place.Tie as tie
+
+of-requires : tie.Need-of-requires
+of-requires c κs = search needs
+
+moved-requires : tie.Need-moved-requires
+moved-requires c κs = rw (c .of .ensures) (walk-moves _ _ _ (c .before .pre .1) (c .before .pre .0))
+
+returns : tie.Need-returns
+returns c = rw (c .moved .ensures, c .before .of .ensures)
+
+pub next-place-spec : {M : Type 1} → statement M
+next-place-spec = tie.close (tie.spec of-requires moved-requires returns)
+
+-- Assumes nothing.
