@@ -1,4 +1,4 @@
-# What `./test` and `./judge` need of Rust: the source of spline.rs, a compiler, and the programs of host/. Sourced from the repository's top.
+# What `./test` and `./show` need of Rust: the source of spline.rs, a compiler, and the programs of host/. Sourced from the repository's top.
 #   rust_ready        finds both, installing a compiler where there is none; says in $rust_missing what cannot be had
 #   rust_build ..     compiles host/, or with words for cargo a part of it
 #   rust_run NAME ..  runs a program of host/
