@@ -1,0 +1,2 @@
+-- The laws of the crate `transform`.
+pub mod Dots
