@@ -1,0 +1,137 @@
+-- The cells below k of each channel have the segment added, from turn to turn; one law turns each channel.
+use mathlib.Core.Path.{_≡_, refl, _∙_}
+use Prim.Native.Nat.{_+_, _-_, _≤_}
+use native.Mathlib.Omega.{arith}
+use lib.ListN.{length, getD, length-set}
+use lib.Ieee.{nan}
+use borrow.Author.Needs.{needs}
+use Rattle.shade.specs.Edit.{edit, below}
+use Rattle.shade.specs.Shade.{addedAt}
+use Rattle.shade.proofs.Edits.{edit-none, edit-all, stored}
+use Rattle.shade.proofs.add.Statement.{statement}
+use Rattle.shade.proofs.add.Tie as tie
+
+abbrev Inv-loop : tie.InvT-loop
+Inv-loop segment distances r0₀ r1₀ r2₀ k₀ r0 r1 r2 k =
+    (k ≤ length r0₀) × (length r0₀ ≤ 32) × (length r0 ≡ length r0₀) × (length r1 ≡ length r0₀) × (length r2 ≡ length r0₀)
+    × (r0 ≡ edit (below k (λ j v. addedAt segment (getD distances j nan) 0 v)) r0₀)
+    × (r1 ≡ edit (below k (λ j v. addedAt segment (getD distances j nan) 1 v)) r1₀)
+    × (r2 ≡ edit (below k (λ j v. addedAt segment (getD distances j nan) 2 v)) r2₀)
+
+abbrev μ-loop : tie.MeasureT-loop
+μ-loop segment distances r0₀ r1₀ r2₀ k₀ r0 r1 r2 k = length r0₀ - k
+
+loop-holds : tie.Need-loop-holds Inv-loop μ-loop
+loop-holds c = (omega arith, omega arith, refl, omega arith, omega arith, edit-none _ _, edit-none _ _, edit-none _ _)
+
+mul-intensity : tie.Need-mul-intensity Inv-loop μ-loop
+mul-intensity c = omega arith
+
+element-copy-out-intensity : tie.Need-element-copy-out-intensity Inv-loop μ-loop
+element-copy-out-intensity c = omega arith
+
+intensity-requires : tie.Need-intensity-requires Inv-loop μ-loop
+intensity-requires c κs = tt
+
+mul-r0 : tie.Need-mul-r0 Inv-loop μ-loop
+mul-r0 c = omega arith
+
+slice-read-r0 : tie.Need-slice-read-r0 Inv-loop μ-loop
+slice-read-r0 c = omega arith
+
+mul-r0-2 : tie.Need-mul-r0-2 Inv-loop μ-loop
+mul-r0-2 c = omega arith
+
+slice-write-r0 : tie.Need-slice-write-r0 Inv-loop μ-loop
+slice-write-r0 c = omega arith
+
+mul-r1 : tie.Need-mul-r1 Inv-loop μ-loop
+mul-r1 c = omega arith
+
+slice-read-r1 : tie.Need-slice-read-r1 Inv-loop μ-loop
+slice-read-r1 c = omega arith
+
+mul-r1-2 : tie.Need-mul-r1-2 Inv-loop μ-loop
+mul-r1-2 c = omega arith
+
+slice-write-r1 : tie.Need-slice-write-r1 Inv-loop μ-loop
+slice-write-r1 c = omega arith
+
+mul-r2 : tie.Need-mul-r2 Inv-loop μ-loop
+mul-r2 c = omega arith
+
+slice-read-r2 : tie.Need-slice-read-r2 Inv-loop μ-loop
+slice-read-r2 c = omega arith
+
+mul-r2-2 : tie.Need-mul-r2-2 Inv-loop μ-loop
+mul-r2-2 c = omega arith
+
+slice-write-r2 : tie.Need-slice-write-r2 Inv-loop μ-loop
+slice-write-r2 c = omega arith
+
+add-k : tie.Need-add-k Inv-loop μ-loop
+add-k c = omega arith
+
+loop-less : tie.Need-loop-less Inv-loop μ-loop
+loop-less c = omega arith
+
+loop-again : tie.Need-loop-again Inv-loop μ-loop
+unfolding addedAt
+loop-again c =
+    let l = c .before .before .before .before .before .before .before .before .before .loop in
+    let g = c .before .before .before .before .before .before .intensity .ensures in (
+      omega arith,
+      omega arith,
+      simp length-set (omega arith),
+      simp length-set (omega arith),
+      simp length-set (omega arith),
+      stored _ _ _ (l .k) _ (omega arith) (l .inv .5) (rw g),
+      stored _ _ _ (l .k) _ (omega arith) (l .inv .6) (rw g),
+      stored _ _ _ (l .k) _ (omega arith) (l .inv .7) (rw g),
+    )
+
+same-length : tie.Need-same-length Inv-loop μ-loop
+same-length c = omega arith
+
+same-length-2 : tie.Need-same-length-2 Inv-loop μ-loop
+same-length-2 c = omega arith
+
+same-length-3 : tie.Need-same-length-3 Inv-loop μ-loop
+same-length-3 c = omega arith
+
+returns : tie.Need-returns Inv-loop μ-loop
+returns c =
+    let l = c .before .loop in
+    (l .inv .5 ∙ edit-all _ _ _ (omega arith), (l .inv .6 ∙ edit-all _ _ _ (omega arith), l .inv .7 ∙ edit-all _ _ _ (omega arith)))
+
+pub add-spec : {M : Type 1} → statement M
+add-spec =
+    tie.close
+    (tie.spec
+    Inv-loop
+    μ-loop
+    loop-holds
+    mul-intensity
+    element-copy-out-intensity
+    intensity-requires
+    mul-r0
+    slice-read-r0
+    mul-r0-2
+    slice-write-r0
+    mul-r1
+    slice-read-r1
+    mul-r1-2
+    slice-write-r1
+    mul-r2
+    slice-read-r2
+    mul-r2-2
+    slice-write-r2
+    add-k
+    loop-less
+    loop-again
+    same-length
+    same-length-2
+    same-length-3
+    returns)
+
+-- Assumes nothing.

@@ -1,0 +1,3 @@
+-- The definitions of the crate `shade`.
+pub mod Edit
+pub mod Shade

@@ -1,0 +1,53 @@
+-- `draw_segment_inner`: what one segment adds at one pixel, operation by operation. Definitions only.
+-- A multiply-add is a rounded product, then a rounded sum. The numbers are f32 patterns: 0.5 and 0.353_553_38.
+use Prim.Native.Nat.{ℕ, zero, suc}
+use lib.IntN.{pos}
+use lib.Ieee.{Float, binary32, ofInt, neg}
+use Rattle.numbers.specs.Arith.{f, _⊕_, _⊖_, _⊗_}
+use Rattle.numbers.specs.Root.{sqrtOf}
+use Rattle.numbers.specs.Erf.{fastErff}
+use Rattle.segments.specs.declared.Segment.{Segment}
+
+-- the square of the distance of column x from a centre, by the square of the distance in y
+abbrev pub sqd : Float → Float → ℕ → Float
+sqd centerX dy2 x =
+    let dx = ofInt binary32 (pos x) ⊖ centerX in
+    dx ⊗ dx ⊕ dy2
+
+abbrev pub dy2 : Float → ℕ → Float
+dy2 centerY y =
+    let dy = ofInt binary32 (pos y) ⊖ centerY in
+    dy ⊗ dy
+
+-- the local intensity by the distance from the centre
+unfoldable pub intensityAt : Segment → Float → Float
+intensityAt s distance =
+    let arg1 = (distance ⊗ f 0x3f000000 ⊕ f 0x3eb504f3) ⊗ s .«inv_sigma» in
+    let arg2 = (distance ⊗ f 0x3f000000 ⊕ neg (f 0x3eb504f3)) ⊗ s .«inv_sigma» in
+    let oneDimensionalFactor = fastErff arg1 ⊖ fastErff arg2 in
+    s .«sigma_over_4_times_intensity» ⊗ oneDimensionalFactor ⊗ oneDimensionalFactor
+
+abbrev pub localIntensity : Segment → ℕ → ℕ → Float
+localIntensity s y x = intensityAt s (sqrtOf binary32 (sqd (s .«center_x») (dy2 (s .«center_y») y) x))
+
+-- the colours by number; there are three
+abbrev pub colorOf : Segment → ℕ → Float
+colorOf s zero = s .color0
+colorOf s (suc zero) = s .color1
+colorOf s (suc (suc c)) = s .color2
+
+-- what a segment adds at pixel (x, y) in colour c
+unfoldable pub shade : Segment → ℕ → ℕ → ℕ → Float
+shade s y x c = colorOf s c ⊗ localIntensity s y x
+
+-- a pixel with a segment added
+abbrev pub shaded : Segment → ℕ → ℕ → ℕ → Float → Float
+shaded s y x c v = shade s y x c ⊕ v
+
+-- ---- the same by what the code has at hand: the distance, or the square of the distance in y
+
+unfoldable pub addedAt : Segment → Float → ℕ → Float → Float
+addedAt s distance c v = colorOf s c ⊗ intensityAt s distance ⊕ v
+
+abbrev pub added : Segment → Float → ℕ → ℕ → Float → Float
+added s dy2 x c v = addedAt s (sqrtOf binary32 (sqd (s .«center_x») dy2 x)) c v
