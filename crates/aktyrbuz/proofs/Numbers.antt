@@ -1,0 +1,29 @@
+-- Signed numbers come back from their bits, and a layer's outcome is what its export leaves. Assumes nothing.
+use mathlib.Core.Path.{_≡_, refl}
+use mathlib.Core.List.{List, [], _∷_}
+use Prim.Native.Nat.{ℕ, _<_}
+use native.Mathlib.Omega.{arith}
+use lib.IntN.{ℤ, pos}
+use mir.Syntax.{w32, w64}
+use mir.Val.{toZ, ofZ, SFits}
+use mir.Facts.{toZ-ofZ}
+use lib.Ieee.{Float}
+use Rattle.reader.specs.Read as Read
+use Rattle.reader.specs.declared.ReadAnswer.{ReadAnswer}
+use Rattle.writer.specs.Write as Write
+use Rattle.writer.specs.declared.WriteAnswer.{WriteAnswer}
+use Rattle.aktyrbuz.specs.declared.Told.{Told}
+use Rattle.aktyrbuz.specs.Exported.{signedOf, toldIn, toldRead, toldWrite, readLeaves, readExport, writeLeaves, writeExport}
+
+pub signed-back : (n : ℕ) → toZ w64 (ofZ w64 (signedOf n)) ≡ signedOf n
+signed-back n = toZ-ofZ {w = w64} {z = signedOf n} (record { sfits = omega arith })
+
+pub read-exported : {o : Read.Outcome} (r : ReadAnswer) (t : Told) (five : List ℤ) (ns : List ℕ) (zs : List Float) (ds cs : List ℤ)
+    → Read.leaves r ns zs ds cs ≡ o → t ≡ toldRead r → five ≡ toldIn t
+    → readLeaves (t .number) five ns zs ds cs ≡ readExport o
+read-exported r t five ns zs ds cs p q s = rw (← p, s, q)
+
+pub write-exported : {o : Write.WriteOutcome} (r : WriteAnswer) (t : Told) (five : List ℤ) (l : List ℕ)
+    → Write.leaves r l ≡ o → t ≡ toldWrite r → five ≡ toldIn t
+    → writeLeaves (t .number) five l ≡ writeExport o
+write-exported r t five l p q s = rw (← p, s, q)

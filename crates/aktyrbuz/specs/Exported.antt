@@ -1,0 +1,60 @@
+-- What the exported calls return and leave: a layer's outcome in the terms of the C interface. Definitions only.
+-- Five numbers tell an answer: the place, then the counts, then zeros.
+use mathlib.Core.List.{List, [], _∷_}
+use Prim.Native.Nat.{ℕ, _^_, _-_, min}
+use lib.IntN.{ℤ, pos}
+use lib.Ieee.{Float}
+use Rattle.codes.specs.Codes.{numberOf}
+use Rattle.codes.specs.declared.Code.{Code}
+use Rattle.reader.specs.Read.{Outcome}
+use Rattle.reader.specs.declared.ReadAnswer.{ReadAnswer}
+use Rattle.writer.specs.Write.{WriteOutcome}
+use Rattle.writer.specs.declared.WriteAnswer.{WriteAnswer}
+use Rattle.aktyrbuz.specs.declared.Told.{Told}
+
+-- a number as an int64_t
+abbrev pub signedOf : ℕ → ℤ
+signedOf n = pos (min n (2 ^ 63 - 1))
+
+-- a success is number 0 at place 0; a refusal has counts of 0
+abbrev pub toldRefusal : Code → ℕ → Told
+toldRefusal c p = record { number = numberOf c; place = signedOf p; first = pos 0; second = pos 0; third = pos 0 }
+
+abbrev pub toldRead : ReadAnswer → Told
+toldRead (ReadAnswer.Done s n a) = record { number = 0; place = pos 0; first = pos s; second = pos n; third = a }
+toldRead (ReadAnswer.Refused c p) = toldRefusal c p
+
+abbrev pub toldWrite : WriteAnswer → Told
+toldWrite (WriteAnswer.Done n) = record { number = 0; place = pos 0; first = signedOf n; second = pos 0; third = pos 0 }
+toldWrite (WriteAnswer.Refused c p) = toldRefusal c p
+
+-- the five numbers
+abbrev pub toldIn : Told → List ℤ
+toldIn t = t .place ∷ t .first ∷ t .second ∷ t .third ∷ pos 0 ∷ []
+
+-- the number returned, the five numbers, and every lent cell
+pub record ReadExport : Type 0 where
+  pub number : ℕ
+  pub answer : List ℤ
+  pub counts : List ℕ
+  pub starts : List Float
+  pub deltas : List ℤ
+  pub coefficients : List ℤ
+
+abbrev pub readLeaves : ℕ → List ℤ → List ℕ → List Float → List ℤ → List ℤ → ReadExport
+readLeaves r five ns zs ds cs = record { number = r; answer = five; counts = ns; starts = zs; deltas = ds; coefficients = cs }
+
+abbrev pub readExport : Outcome → ReadExport
+readExport o =
+    readLeaves (toldRead (o .answer) .number) (toldIn (toldRead (o .answer))) (o .counts) (o .starts) (o .deltas) (o .coefficients)
+
+pub record WriteExport : Type 0 where
+  pub number : ℕ
+  pub answer : List ℤ
+  pub list : List ℕ
+
+abbrev pub writeLeaves : ℕ → List ℤ → List ℕ → WriteExport
+writeLeaves r five l = record { number = r; answer = five; list = l }
+
+abbrev pub writeExport : WriteOutcome → WriteExport
+writeExport o = writeLeaves (toldWrite (o .answer) .number) (toldIn (toldWrite (o .answer))) (o .list)
