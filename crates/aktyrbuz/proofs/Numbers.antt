@@ -1,11 +1,11 @@
 -- Signed numbers come back from their bits, and a layer's outcome is what its export leaves. Assumes nothing.
-use mathlib.Core.Path.{_≡_, refl}
-use mathlib.Core.List.{List, [], _∷_}
-use Prim.Native.Nat.{ℕ, _<_}
+use mathlib.Core.Path.{_≡_}
+use mathlib.Core.List.{List}
+use Prim.Native.Nat.{ℕ}
 use native.Mathlib.Omega.{arith}
-use lib.IntN.{ℤ, pos}
-use mir.Syntax.{w32, w64}
-use mir.Val.{toZ, ofZ, SFits}
+use lib.IntN.{ℤ}
+use mir.Syntax.{w64}
+use mir.Val.{toZ, ofZ}
 use mir.Facts.{toZ-ofZ}
 use lib.Ieee.{Float}
 use Rattle.reader.specs.Read as Read
