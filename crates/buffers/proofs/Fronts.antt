@@ -3,7 +3,7 @@ use mathlib.Core.Path.{_≡_, refl, sym, ap, _∙_}
 use mathlib.Core.List.{List, [], _∷_, _++_, append-assoc}
 use Prim.Native.Nat.{ℕ, suc, _+_, _≤_}
 use native.Mathlib.Omega.{arith}
-use lib.ListN.{length, drop, set, length-append, length-drop}
+use lib.ListN.{length, take, drop, set, length-append, length-drop}
 use lib.Seq.{sets, sets-eq, take-at, drop-drop, drop-append-add}
 use Rattle.buffers.specs.Onto.{onto}
 
@@ -25,6 +25,15 @@ module _ {A : Type 0} where
       let d : drop (n + length vs) (xs ++ drop (length xs) o) ≡ drop (length (xs ++ vs)) o =
       rw (← e, drop-append-add, drop-drop, length-append) in
       sets-eq vs (xs ++ drop (length xs) o) n k ∙ rw (take-at, d, append-assoc)
+
+  -- stores from the first cell on
+  pub sets-front : (xs o : List A) → length xs ≤ length o → sets o 0 xs ≡ onto xs o
+  sets-front xs o h = ap (λ (t : List A). sets t 0 xs) (sym (onto-none o)) ∙ sets-onto [] xs o 0 refl (omega arith)
+
+  -- the front is what was written
+  pub take-onto : (xs o : List A) (n : ℕ) → length xs ≡ n → take n (onto xs o) ≡ xs
+  unfolding onto
+  take-onto xs o n e = take-at xs (drop (length xs) o) n e
 
   -- a run of stores after a run of stores
   pub sets-more : (xs ys l : List A) (i j : ℕ) → i + length xs ≡ j → sets (sets l i xs) j ys ≡ sets l i (xs ++ ys)

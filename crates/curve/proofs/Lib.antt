@@ -2,3 +2,4 @@
 pub mod Wholes
 pub mod Paths
 pub mod Turning
+pub mod Answers

@@ -2,3 +2,4 @@
 pub mod Reaches
 pub mod Walking
 pub mod Fuel
+pub mod Answers

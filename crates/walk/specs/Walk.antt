@@ -86,12 +86,22 @@ walkIn (suc k) path = before (toDraw (pointAt path 0) one ∷ []) (walkFrom k pa
 unfoldable pub lengthOf : ℕ → Float → Float
 lengthOf n last = ofInt binary32 (pos n -ℤ pos 2) ⊗ one ⊕ last
 
+-- points_to_draw[points_to_draw.len() - 1].1
+unfoldable pub lastMultiplier : List PointToDraw → Float
+lastMultiplier [] = nan
+lastMultiplier (p ∷ []) = p .multiplier
+lastMultiplier (p ∷ q ∷ l) = lastMultiplier (q ∷ l)
+
 -- ---- in a lent buffer
 
 -- three numbers a point
 unfoldable pub flat : List PointToDraw → List Float
 flat [] = []
 flat (p ∷ l) = p .point .x ∷ p .point .y ∷ p .multiplier ∷ flat l
+
+-- the point i of such a list
+unfoldable pub toDrawAt : List Float → ℕ → PointToDraw
+toDrawAt walk i = record { point = record { x = getD walk (3 * i) nan; y = getD walk (3 * i + 1) nan }; multiplier = getD walk (3 * i + 2) nan }
 
 -- how many points a buffer of n numbers has room for
 abbrev pub walkRoom : ℕ → ℕ

@@ -1,5 +1,5 @@
 -- `curve::put_interpolated`: the invariant is that the first i points are stored.
-use mathlib.Core.Path.{_≡_, refl, _∙_}
+use mathlib.Core.Path.{_≡_, refl}
 use Prim.Native.Nat.{_+_, _-_, _*_, _≤_}
 use native.Mathlib.Omega.{arith}
 use lib.ListN.{length}
@@ -49,8 +49,7 @@ loop-again c =
     let a = s .before .before .args in (
       omega arith,
       omega (arith, c .before .before .put2 .kept .0),
-      c .before .before .put2 .ensures
-          ∙ rw (l .inv .2, c .before .before .before .before .point .ensures, interpolated-more)
+      rw (c .before .before .put2 .ensures, l .inv .2, c .before .before .before .before .point .ensures, interpolated-more)
           (sets-more (flat (interpolated (a .w) (l .i))) (two (windowPoint (a .w) (l .i + 1))) _ (a .k) _ (omega (arith, length-flat-interpolated (a .w) (l .i)))),
     )
 
