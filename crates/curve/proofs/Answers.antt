@@ -11,7 +11,6 @@ use lib.Ieee.{Float}
 use Rattle.buffers.specs.Onto.{onto}
 use Rattle.buffers.proofs.Fronts.{take-onto}
 use Rattle.curve.specs.declared.Point.{Point}
-use Rattle.curve.specs.declared.Curved.{Curved}
 use Rattle.curve.specs.declared.Curved.the-variants.{Points, Room}
 use Rattle.curve.specs.Curve.{flat, pick, curvedOf, curvedOn}
 use Rattle.curve.proofs.Paths.{length-flat}

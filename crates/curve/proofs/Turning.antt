@@ -1,7 +1,7 @@
 -- The turns of the curve: every point and every difference of two is a whole number that is exact in f32, so the roots of distances are those of the deltas' lengths.
 use mathlib.Core.Path.{_≡_, refl, sym, ap, _∙_}
 use mathlib.Core.Bool.{Bool, true, false, cond}
-use mathlib.Core.List.{List, [], _∷_, _++_}
+use mathlib.Core.List.{List, [], _++_}
 use Prim.Native.Nat.{ℕ, zero, suc, _+_, _-_, _*_, _≤_, _<_}
 use native.Mathlib.Omega.{arith}
 use lib.Dec.{ltb}
@@ -10,19 +10,18 @@ use lib.ListN.{length, drop, length-drop}
 use lib.Seq.{sets}
 use lib.Ieee.{Float, binary32, add, sub, ofInt}
 use Rattle.numbers.specs.Root.{sqrtOf}
-use Rattle.numbers.specs.Length.{hypotOf, lengthOf}
+use Rattle.numbers.specs.Length.{hypotOf}
 use Rattle.numbers.proofs.Hypot.{hypot-is-length}
 use Rattle.buffers.specs.Onto.{onto}
-use Rattle.buffers.proofs.Filling.{Filled, filled-none, filled-more, filled-all}
-use Rattle.dequantize.specs.ControlPoints.{validPointPos, plusOf, pairAt, placeAt, movedOf, laterPoints, controlPoints, Walk}
+use Rattle.buffers.proofs.Filling.{Filled, filled-more, filled-all}
+use Rattle.dequantize.specs.ControlPoints.{validPointPos, plusOf, placeAt, movedOf, laterPoints, controlPoints, Walk}
 use Rattle.dequantize.specs.declared.control_points.Pair.{Pair}
-use Rattle.dequantize.specs.declared.control_points.Place.{Place}
 use Rattle.dequantize.proofs.Pairs.{in-range-mag, point-range, abs-mag}
 use Rattle.dequantize.proofs.Walks.{walk-more, points-more, points-done}
 use Rattle.curve.specs.declared.Point.{Point}
 use Rattle.curve.specs.declared.Window.{Window}
 use Rattle.curve.specs.declared.Turn.{Turn}
-use Rattle.curve.specs.Points.{addPoint, subPoint, absPoint}
+use Rattle.curve.specs.Points.{absPoint}
 use Rattle.curve.specs.Curve.{pointOf, pointsOf, reflected, rootDistance, windowOf, windowPoints, pathOf, flat}
 use Rattle.curve.specs.Turns.{rootLength, nextPlace, firstTurn, nextTurn, turnWindow, lastWindow}
 use Rattle.curve.proofs.Wholes.{add-wholes, sub-wholes}

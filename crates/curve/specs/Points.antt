@@ -1,5 +1,5 @@
 -- `Point`: a pair of f32, added, subtracted and multiplied by a number, and its length. Definitions only.
-use lib.Ieee.{Float, binary32, add, sub, mul}
+use lib.Ieee.{Float, binary32}
 use Rattle.numbers.specs.Arith.{_⊕_, _⊖_, _⊗_}
 use Rattle.numbers.specs.Length.{hypotOf}
 use Rattle.curve.specs.declared.Point.{Point}

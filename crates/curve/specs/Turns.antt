@@ -5,7 +5,7 @@ use lib.IntN.{ℤ}
 use lib.Ieee.{Float, binary32}
 use Rattle.numbers.specs.Root.{sqrtOf}
 use Rattle.numbers.specs.Length.{lengthOf}
-use Rattle.dequantize.specs.ControlPoints.{pairAt, placeAt, movedOf}
+use Rattle.dequantize.specs.ControlPoints.{pairAt, movedOf}
 use Rattle.dequantize.specs.declared.control_points.Pair.{Pair}
 use Rattle.dequantize.specs.declared.control_points.Place.{Place}
 use Rattle.curve.specs.declared.Point.{Point}

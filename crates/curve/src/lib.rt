@@ -4,7 +4,6 @@ ghost use mathlib.Core.Bool.{true};
 ghost use Prim.Native.Nat.{_+_, _*_, _/_, _≤_, _<_};
 ghost use lib.ListN.{length, drop};
 ghost use lib.Seq.{sets};
-ghost use lib.Ieee.{binary32, add, sub, mul, ofInt};
 ghost use Rattle.buffers.specs.Onto.{onto};
 ghost use Rattle.dequantize.specs.ControlPoints.{validPointPos, placeAt, Walk};
 ghost use Rattle.curve.specs.Points.{addPoint, subPoint, mulPoint};

@@ -1,8 +1,11 @@
 -- How many points are allowed changes no answer of the walk: two allowances are compared by induction on both, and where each walk ends, it ends the same.
 use mathlib.Core.Path.{_≡_, refl, sym, ap, _∙_}
-use mathlib.Core.List.{List, [], _∷_, _++_}
+use mathlib.Core.Bool.{Bool, true, false}
+use mathlib.Core.List.{List, [], _∷_}
 use Prim.Native.Nat.{ℕ, zero, suc, _+_, _≤_, _<_}
 use native.Mathlib.Omega.{arith}
+use borrow.Author.Tests.{ltb-true, ltb-false}
+use lib.Dec.{ltb}
 use lib.ListN.{length}
 use lib.Ieee.{Float}
 use Rattle.curve.specs.declared.Point.{Point}
@@ -107,5 +110,13 @@ walk-short a b path xs e h = go (walkIn b path) refl
         let v : walkIn (a + b) path ≡ Ended xs = walk-enough a (a + b) path xs e (omega arith) in
         let z : ys ≡ xs = cc in
         absurd (omega (arith, ap length z))
+
+-- and where b are not enough, a walk that ends has more than b points
+pub walk-needs : (a b : ℕ) (path : List Float) (xs : List PointToDraw) → walkIn b path ≡ More → walkIn a path ≡ Ended xs → b < length xs
+walk-needs a b path xs m e = go (ltb b (length xs)) refl
+  where
+    go : (t : Bool) → ltb b (length xs) ≡ t → b < length xs
+    go true h = ltb-true b (length xs) h
+    go false h = never (sym m ∙ walk-enough a b path xs e (ltb-false b (length xs) h))
 
 -- Assumes nothing.

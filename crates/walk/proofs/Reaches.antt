@@ -1,10 +1,10 @@
 -- One turn of the inner loop, by what the code makes of the point i: each law opens `reachIn` once.
-use mathlib.Core.Path.{_≡_, refl, sym, ap, _∙_}
+use mathlib.Core.Path.{_≡_}
 use mathlib.Core.Bool.{true, false}
 use mathlib.Core.List.{List}
 use Prim.Native.Nat.{ℕ, suc, _+_, _-_, _≤_, _<_}
 use native.Mathlib.Omega.{arith}
-use lib.Ieee.{Float, binary32, add, sub, div, le}
+use lib.Ieee.{Float, le}
 use Rattle.numbers.specs.Arith.{_⊕_, _⊖_, _⊘_}
 use Rattle.curve.specs.declared.Point.{Point}
 use Rattle.curve.specs.Points.{addPoint, subPoint, mulPoint}

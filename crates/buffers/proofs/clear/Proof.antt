@@ -1,6 +1,6 @@
 -- `buffers::clear`: the cells from k up to i are blank, and the loop's store blanks one more.
 use mathlib.Core.Path.{_≡_, _∙_}
-use Prim.Native.Nat.{ℕ, _+_, _-_, _≤_}
+use Prim.Native.Nat.{_+_, _-_, _≤_}
 use native.Mathlib.Omega.{arith}
 use lib.Ieee.{binary32, ofBits}
 use lib.ListN.{length, length-set}

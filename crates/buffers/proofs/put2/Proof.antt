@@ -1,5 +1,4 @@
 -- `buffers::put2`: two stores are `sets` of two numbers, once `k + 1` is `suc k`.
-use mathlib.Core.Path.{_≡_}
 use native.Mathlib.Omega.{arith}
 use native.Mathlib.Numerals.{add-one}
 use lib.ListN.{length-set}

@@ -1,11 +1,9 @@
 -- `curve::curve`: the path's length decides on the room, and the path is the start alone or what `put_path` writes.
 use mathlib.Core.Path.{_≡_, refl, _∙_}
 use mathlib.Core.List.{[]}
-use Prim.Native.Nat.{_+_, _*_, _/_}
 use native.Mathlib.Omega.{arith}
 use borrow.Author.Needs.{needs}
 use lib.ListN.{length}
-use lib.Seq.{sets}
 use Rattle.buffers.proofs.Filling.{filled-none, filled-more, filled-all}
 use Rattle.dequantize.specs.ControlPoints.{placeAt}
 use Rattle.curve.specs.Curve.{pointOf, pathOf, flat, pathRoom}

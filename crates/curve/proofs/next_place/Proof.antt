@@ -1,7 +1,5 @@
 -- `curve::next_place`: a walk that was traced can move on.
-use mathlib.Core.Path.{ap, _∙_}
 use borrow.Author.Needs.{needs}
-use Rattle.dequantize.specs.ControlPoints.{movedOf}
 use Rattle.dequantize.proofs.Walks.{walk-moves}
 use Rattle.curve.proofs.next_place.Statement.{statement}
 use Rattle.curve.proofs.next_place.Tie as tie

@@ -1,5 +1,4 @@
 -- `walk::distance`: the root's promise is the definition.
-use mathlib.Core.Path.{refl}
 use borrow.Author.Needs.{needs}
 use Rattle.walk.specs.Walk.{distanceOf}
 use Rattle.walk.proofs.distance.Statement.{statement}

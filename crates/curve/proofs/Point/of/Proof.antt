@@ -1,18 +1,17 @@
 -- `curve::Point::of`: a coordinate in the range is an i32 as it stands, and exact in f32.
-use mathlib.Core.Path.{_≡_, refl}
-use mathlib.Core.Bool.{Bool, true}
-use Prim.Native.Nat.{ℕ, _<_}
+use mathlib.Core.Path.{_≡_}
+use mathlib.Core.Bool.{true}
+use Prim.Native.Nat.{_<_}
 use native.Mathlib.Omega.{arith}
 use lib.Dec.{T, le→leb, lt→ltb}
 use lib.IntN.{ℤ, pos, negsuc}
 use lib.Signed.{mag}
-use lib.Ieee.{binary32, ofInt, inFloat}
+use lib.Ieee.{binary32, inFloat}
 use mir.Syntax.{w32}
 use mir.Val.{toZ, ofZ}
 use mir.Facts.{toZ-ofZ}
 use Rattle.dequantize.specs.ControlPoints.{inRange}
 use Rattle.dequantize.proofs.Pairs.{in-range-mag, point-range}
-use Rattle.curve.specs.declared.Point.{Point}
 use Rattle.curve.proofs.Point.of.Statement.{statement}
 use Rattle.curve.proofs.Point.of.Tie as tie
 

@@ -1,5 +1,4 @@
 -- `curve::Window::time`: a number below 16 is exact in f32, and the rest is the definition.
-use borrow.Author.Needs.{needs}
 use lib.Dec.{le→leb}
 use lib.Ieee.{inFloat}
 use native.Mathlib.Omega.{arith}
