@@ -1,0 +1,106 @@
+-- Laws of a row's entries, taken from the front: what is still to be drawn and to be counted after each of them.
+use mathlib.Core.Path.{_≡_, refl, sym, ap, _∙_, subst}
+use mathlib.Core.Bool.{Bool, true, false, cond, _&&_}
+use mathlib.Core.List.{List, [], _∷_}
+use Prim.Native.Nat.{ℕ, zero, suc, _+_, _*_, _^_, _<_, _≤_}
+use native.Mathlib.Nat.{le-trans, le-antisymm, suc-mul, mul-le-mul-left, mul-le-mul-right}
+use native.Mathlib.Numerals.{add-one}
+use native.Mathlib.Omega.{arith}
+use lib.ListN.{length, getD}
+use lib.Seq.{slice, slice-cons, slice-empty, length-slice}
+use lib.Dec.{ltb}
+use lib.Ieee.{Float, nan}
+use borrow.Author.Tests.{ltb-true}
+use Rattle.segments.specs.Segment.{segmentAt}
+use Rattle.segments.specs.Ranges.{hasColumn}
+use Rattle.shade.specs.Edit.{edit, below}
+use Rattle.shade.proofs.Edits.{is-edit, edit-cong, edit-edit}
+use Rattle.draw.specs.Draw.{addIn, pixel, count, updates, allBelow}
+
+pub slice-next : (i e : ℕ) (l : List ℕ) → i < e → e ≤ length l → slice i e l ≡ getD l i 0 ∷ slice (i + 1) e l
+slice-next i e l h k = rw (add-one i) (slice-cons i e l 0 h k)
+
+pub slice-none : (i e : ℕ) (l : List ℕ) → i ≤ e → e ≤ i → slice i e l ≡ []
+slice-none i e l h k = ap (λ (j : ℕ). slice j e l) (le-antisymm h k) ∙ slice-empty e l
+
+pub all-next : (m i e : ℕ) (l : List ℕ) → i < e → e ≤ length l → allBelow m (slice i e l) ≡ ltb (getD l i 0) m && allBelow m (slice (i + 1) e l)
+all-next m i e l h k = ap (allBelow m) (slice-next i e l h k)
+
+pub and-left : (a b : Bool) → a && b ≡ true → a ≡ true
+and-left true b h = refl
+and-left false b h = h
+
+pub and-right : (a b : Bool) → a && b ≡ true → b ≡ true
+and-right true b h = h
+and-right false b h = absurd (false-true h)
+  where
+    is-false : Bool → Type 0
+    is-false true = ⊥
+    is-false false = Unit
+
+    false-true : false ≡ true → ⊥
+    false-true p = subst is-false p tt
+
+-- the first entry is below m, and so are the others
+pub first-below : (m i e : ℕ) (l : List ℕ) → i < e → e ≤ length l → allBelow m (slice i e l) ≡ true → getD l i 0 < m
+first-below m i e l h k p = ltb-true (getD l i 0) m (and-left (ltb (getD l i 0) m) (allBelow m (slice (i + 1) e l)) (sym (all-next m i e l h k) ∙ p))
+
+pub rest-below : (m i e : ℕ) (l : List ℕ) → i < e → e ≤ length l → allBelow m (slice i e l) ≡ true → allBelow m (slice (i + 1) e l) ≡ true
+rest-below m i e l h k p = and-right (ltb (getD l i 0) m) (allBelow m (slice (i + 1) e l)) (sym (all-next m i e l h k) ∙ p)
+
+bit : (b : Bool) → cond b 1 0 ≤ 1
+bit true = omega arith
+bit false = omega arith
+
+pub count-le : (p : ℕ → Bool) (x0 n : ℕ) → count p x0 n ≤ n
+count-le p x0 zero = omega arith
+count-le p x0 (suc n) = omega (arith, bit (p (x0 + n)), count-le p x0 n)
+
+-- at most the width times the entries
+pub updates-le : (segs : List Float) (x0 n : ℕ) (es : List ℕ) → updates segs x0 n es ≤ length es * n
+updates-le segs x0 n [] = omega arith
+updates-le segs x0 n (s ∷ es) = rw (suc-mul (length es) n) (omega (arith, count-le (hasColumn (segmentAt segs s)) x0 n, updates-le segs x0 n es))
+
+-- and so no overflow
+pub updates-small : (segs : List Float) (x0 n b e : ℕ) (l : List ℕ) → n ≤ 2 ^ 23 → e ≤ length l → e ≤ 2 ^ 30 → updates segs x0 n (slice b e l) ≤ 2 ^ 53
+updates-small segs x0 n b e l h k g =
+    let w : length (slice b e l) ≤ 2 ^ 30 = rw (length-slice b e l k) (omega arith) in
+    le-trans (updates-le segs x0 n (slice b e l))
+    (le-trans (mul-le-mul-left (length (slice b e l)) h)
+    (mul-le-mul-right (2 ^ 23) w))
+
+pub total-next : (segs : List Float) (x0 n i e : ℕ) (l : List ℕ) (total r all : ℕ) → i < e → e ≤ length l → total + updates segs x0 n (slice i e l) ≡ all → r ≡ count (hasColumn (segmentAt segs (getD l i 0))) x0 n → total + r + updates segs x0 n (slice (i + 1) e l) ≡ all
+total-next segs x0 n i e l total r all h k p q = omega (arith, ap (updates segs x0 n) (slice-next i e l h k))
+
+twice-cond : (b : Bool) (g : Float → Float) (w v : Float) → cond b (g (cond b w v)) (cond b w v) ≡ cond b (g w) v
+twice-cond true g w v = refl
+twice-cond false g w v = refl
+
+same-cond : (b : Bool) (v : Float) → cond b v v ≡ v
+same-cond true v = refl
+same-cond false v = refl
+
+-- a channel with the entries from i on still to be drawn
+abbrev pub rest : ℕ → List Float → ℕ → ℕ → ℕ → List ℕ → List Float → List Float
+rest c segs y x0 n es xs = edit (below n (λ k v. pixel c segs y (x0 + k) es v)) xs
+
+pub rest-next : (c : ℕ) (segs : List Float) (y x0 n i e : ℕ) (l : List ℕ) (xs ys all : List Float) → i < e → e ≤ length l → rest c segs y x0 n (slice i e l) xs ≡ all → ys ≡ edit (below n (λ k v. addIn c segs y (x0 + k) v (getD l i 0))) xs → rest c segs y x0 n (slice (i + 1) e l) ys ≡ all
+rest-next c segs y x0 n i e l xs ys all h k p q =
+    ap (rest c segs y x0 n (slice (i + 1) e l)) q
+    ∙ edit-edit (below n (λ j v. addIn c segs y (x0 + j) v (getD l i 0))) (below n (λ j v. pixel c segs y (x0 + j) (slice (i + 1) e l) v)) xs
+    ∙ edit-cong _ (below n (λ j v. pixel c segs y (x0 + j) (getD l i 0 ∷ slice (i + 1) e l) v)) xs (λ j v m. twice-cond (ltb j n) (λ w. pixel c segs y (x0 + j) (slice (i + 1) e l) w) (addIn c segs y (x0 + j) v (getD l i 0)) v)
+    ∙ ap (λ (es : List ℕ). rest c segs y x0 n es xs) (sym (slice-next i e l h k))
+    ∙ p
+
+pub rest-none : (c : ℕ) (segs : List Float) (y x0 n i e : ℕ) (l : List ℕ) (xs : List Float) → i ≤ e → e ≤ i → rest c segs y x0 n (slice i e l) xs ≡ xs
+rest-none c segs y x0 n i e l xs h k =
+    ap (λ (es : List ℕ). rest c segs y x0 n es xs) (slice-none i e l h k)
+    ∙ sym (is-edit (below n (λ j v. v)) xs xs refl (λ j m. sym (same-cond (ltb j n) (getD xs j nan))))
+
+pub all-none : (m i e : ℕ) (l : List ℕ) → i ≤ e → e ≤ i → allBelow m (slice i e l) ≡ true
+all-none m i e l h k = ap (allBelow m) (slice-none i e l h k)
+
+pub total-none : (segs : List Float) (x0 n i e : ℕ) (l : List ℕ) (total all : ℕ) → i ≤ e → e ≤ i → total + updates segs x0 n (slice i e l) ≡ all → total ≡ all
+total-none segs x0 n i e l total all h k p = omega (arith, ap (updates segs x0 n) (slice-none i e l h k))
+
+-- Assumes nothing.

@@ -1,0 +1,4 @@
+-- The definitions of the crate `draw`.
+pub mod Draw
+pub mod Reach
+pub mod Parts
