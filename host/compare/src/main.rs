@@ -3,20 +3,9 @@
 //! `compare` runs all layers, `compare LAYER..` only some. Prints a table; ends with 1, and the smallest input, where an
 //! answer differs in a way that docs/DIFFERENCES.md does not list.
 
-mod build;
-mod curve;
-mod dequantize;
-mod draw;
-mod numbers;
-mod read;
-mod segments;
-mod tally;
-mod transform;
-mod verdict;
-mod write;
-
+use compare::tally::Tally;
+use compare::{build, curve, dequantize, draw, numbers, read, segments, transform, write};
 use std::process::ExitCode;
-use tally::Tally;
 
 /// A layer's name, and what runs its cases.
 type Layer = (&'static str, fn(&mut Tally));

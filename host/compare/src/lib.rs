@@ -1,0 +1,15 @@
+//! Comparisons on fixed cases: spline.rs against the second reading of document 01, and the port against both.
+
+pub mod build;
+pub mod curve;
+pub mod dequantize;
+pub mod draw;
+pub mod numbers;
+#[cfg(feature = "port")]
+pub mod port;
+pub mod read;
+pub mod segments;
+pub mod tally;
+pub mod transform;
+pub mod verdict;
+pub mod write;

@@ -1,0 +1,39 @@
+//! The proved port, through its C interface, against spline.rs where that decides and against the second reading everywhere.
+
+pub mod great;
+pub mod lent;
+pub mod read;
+pub mod tally;
+pub mod write;
+
+use cases::{Description, Refusal};
+use port::Answer;
+
+/// The code and answer that stand for a description that was read, or for a refusal.
+fn told_read(expected: &Result<Description, Refusal>) -> (u32, Answer) {
+    match expected {
+        Ok(description) => (
+            0,
+            [
+                0,
+                description.counts.len() as i64,
+                description.deltas.len() as i64 / 2,
+                description.adjustment.into(),
+                0,
+            ],
+        ),
+        Err(refusal) => told_refusal(refusal),
+    }
+}
+
+/// The code and answer that stand for a list that was written, or for a refusal.
+fn told_write(expected: &Result<Vec<u32>, Refusal>) -> (u32, Answer) {
+    match expected {
+        Ok(list) => (0, [0, list.len() as i64, 0, 0, 0]),
+        Err(refusal) => told_refusal(refusal),
+    }
+}
+
+fn told_refusal(refusal: &Refusal) -> (u32, Answer) {
+    (refusal.code as u32, [refusal.place as i64, 0, 0, 0, 0])
+}

@@ -1,0 +1,85 @@
+//! What the cases of one call of the port came to.
+
+use cases::{Code, Refusal};
+use std::collections::BTreeMap;
+use std::fmt::{self, Display, Formatter};
+
+#[derive(Default)]
+pub struct Tally {
+    call: &'static str,
+    /// Lists or descriptions.
+    pub cases: u64,
+    /// Calls of the port: each case with several rooms.
+    calls: u64,
+    /// Calls that spline.rs decides: the same numbers, or the same refusal at the same value.
+    pub by_rust: u64,
+    /// Calls where how much spline.rs takes of the list tells SHORT or TRAIL.
+    pub by_taken: u64,
+    accepted: u64,
+    refused: BTreeMap<String, u64>,
+    pub round_trips: u64,
+    differences: u64,
+    smallest: Option<String>,
+}
+
+impl Tally {
+    pub const HEAD: &'static str =
+        "call    cases    calls  by spline.rs  by its progress  accepted  round trips  differences";
+
+    pub fn new(call: &'static str) -> Tally {
+        Tally {
+            call,
+            ..Tally::default()
+        }
+    }
+
+    /// Counts a call by its expected answer.
+    pub fn called<T>(&mut self, expected: &Result<T, Refusal>) {
+        self.calls += 1;
+        match expected {
+            Ok(_) => self.accepted += 1,
+            Err(refusal) => *self.refused.entry(name(refusal.code)).or_default() += 1,
+        }
+    }
+
+    /// Counts a difference, and keeps the shortest in words.
+    pub fn differs(&mut self, words: String) {
+        self.differences += 1;
+        let shorter = |kept: &String| words.len() < kept.len();
+        if self.smallest.as_ref().map_or(true, shorter) {
+            self.smallest = Some(words);
+        }
+    }
+
+    pub fn smallest(&self) -> Option<&str> {
+        self.smallest.as_deref()
+    }
+}
+
+/// A code as document 01 writes it.
+fn name(code: Code) -> String {
+    format!("{code:?}").to_uppercase()
+}
+
+impl Display for Tally {
+    fn fmt(&self, f: &mut Formatter) -> fmt::Result {
+        write!(
+            f,
+            "{:<6} {:>6} {:>8} {:>13} {:>16} {:>9} {:>12} {:>12}",
+            self.call,
+            self.cases,
+            self.calls,
+            self.by_rust,
+            self.by_taken,
+            self.accepted,
+            self.round_trips,
+            self.differences
+        )?;
+        let refused: Vec<String> = self
+            .refused
+            .iter()
+            .map(|(code, count)| format!("{code} {count}"))
+            .collect();
+        write!(f, "\n  refused: {}", refused.join(", "))
+    }
+}

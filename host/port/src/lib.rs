@@ -1,0 +1,82 @@
+//! The proved port through its C interface, as safe calls on slices.
+
+pub mod symbols;
+
+/// What a call fills: the place, then the counts, then zeros.
+pub type Answer = [i64; 5];
+
+/// What stands in an answer before a call, so that a number that is not filled shows.
+const UNFILLED: Answer = [i64::MIN; 5];
+
+/// The natural logarithm.
+pub fn ln(x: f32) -> f32 {
+    // SAFETY: plain numbers.
+    unsafe { symbols::aktyrbuz_ln(x) }
+}
+
+/// Reads a list into the lent buffers: the code's number and the answer.
+pub fn read(
+    list: &[u32],
+    configured: u32,
+    pixels: u32,
+    counts: &mut [u32],
+    starts: &mut [f32],
+    deltas: &mut [i32],
+    coefficients: &mut [i32],
+) -> (u32, Answer) {
+    let mut answer = UNFILLED;
+    // SAFETY: each pointer comes with its slice's length, and no two slices overlap.
+    let code = unsafe {
+        symbols::aktyrbuz_read(
+            list.as_ptr(),
+            list.len(),
+            configured,
+            pixels,
+            counts.as_mut_ptr(),
+            counts.len(),
+            starts.as_mut_ptr(),
+            starts.len(),
+            deltas.as_mut_ptr(),
+            deltas.len(),
+            coefficients.as_mut_ptr(),
+            coefficients.len(),
+            &mut answer,
+        )
+    };
+    (code, answer)
+}
+
+/// The four parts of a description and its adjustment, as writing takes them.
+#[derive(Clone, Copy, Debug)]
+pub struct Parts<'a> {
+    pub counts: &'a [u32],
+    pub starts: &'a [f32],
+    pub deltas: &'a [i32],
+    pub coefficients: &'a [i32],
+    pub adjustment: i32,
+}
+
+/// Writes a description into the lent list: the code's number and the answer.
+pub fn write(parts: &Parts, configured: u32, pixels: u32, list: &mut [u32]) -> (u32, Answer) {
+    let mut answer = UNFILLED;
+    // SAFETY: each pointer comes with its slice's length, and the list overlaps no other slice.
+    let code = unsafe {
+        symbols::aktyrbuz_write(
+            parts.counts.as_ptr(),
+            parts.counts.len(),
+            parts.starts.as_ptr(),
+            parts.starts.len(),
+            parts.deltas.as_ptr(),
+            parts.deltas.len(),
+            parts.coefficients.as_ptr(),
+            parts.coefficients.len(),
+            parts.adjustment,
+            configured,
+            pixels,
+            list.as_mut_ptr(),
+            list.len(),
+            &mut answer,
+        )
+    };
+    (code, answer)
+}
