@@ -4,3 +4,4 @@ pub mod Entries
 pub mod Checks
 pub mod Reaches
 pub mod Parts
+pub mod Image

@@ -1,21 +1,20 @@
 -- A row drawn in parts, in any order, is the row drawn whole: each column lies in one part, so each pixel is changed once, and a sum over the parts does not mind their order.
 use mathlib.Core.Path.{_≡_, refl, sym, ap, _∙_}
-use mathlib.Core.Bool.{Bool, true, false, cond, _&&_}
+use mathlib.Core.Bool.{Bool, true, false, cond}
 use mathlib.Core.Logic.{⊎-elim}
-use mathlib.Core.List.{List, [], _∷_, _++_, List·Permᴰ, List·Permᴰ·nil, List·Permᴰ·cons, List·Permᴰ·swap, List·Permᴰ·trans}
-use Prim.Native.Nat.{ℕ, zero, suc, _+_, _*_, _^_, _<_, _≤_}
+use mathlib.Core.List.{List, [], _∷_, List·Permᴰ, List·Permᴰ·nil, List·Permᴰ·cons, List·Permᴰ·swap, List·Permᴰ·trans}
+use Prim.Native.Nat.{ℕ, zero, suc, _+_, _^_, _<_, _≤_}
 use native.Mathlib.Nat.{add-assoc, add-zero, zero-add, add-suc}
 use native.Mathlib.Omega.{arith}
-use lib.ListN.{length, take, drop, length-take, length-drop}
-use lib.Dec.{leb, ltb}
+use lib.ListN.{length, length-take, length-drop}
 use lib.Ieee.{Float}
 use borrow.Author.Tests.{lt-ltb, le-ltb, le-leb, lt-leb}
 use Rattle.segments.specs.Segment.{segmentAt}
 use Rattle.segments.specs.Ranges.{hasColumn}
 use Rattle.shade.specs.Edit.{edit, inside}
 use Rattle.shade.proofs.Edits.{lt-or-ge, length-edit, is-edit, edit-cong, edit-edit, edit-part-of}
-use Rattle.draw.specs.Draw.{pixel, count, updates, Table, rowOf, countsGood, spanGood, rowGood, judgeOf, toldOf, Channels, DrawOutcome, leaves, drawn, outcome, drawOf}
-use Rattle.draw.specs.Parts.{Part, cuts, total, lent, back, lentOf, backOf, Wide, Draws, Drawn, none, more, Whole}
+use Rattle.draw.specs.Draw.{pixel, count, updates, Table, rowOf, countsGood, spanGood, rowGood, judgeOf, Channels, DrawOutcome, leaves, drawn, outcome, drawOf}
+use Rattle.draw.specs.Parts.{Part, cuts, total, lent, back, lentOf, Wide, Draws, Drawn, none, more, Whole}
 use Rattle.draw.specs.declared.DrawAnswer.{DrawAnswer}
 use Rattle.draw.specs.declared.Verdict.{Verdict}
 use Rattle.draw.specs.declared.Verdict.the-variants.{Fine}

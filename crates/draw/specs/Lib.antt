@@ -2,3 +2,4 @@
 pub mod Draw
 pub mod Reach
 pub mod Parts
+pub mod Image

@@ -1,7 +1,7 @@
 -- A row drawn in parts: adjacent parts that hold the row, drawn one after another in any order, each by an outcome that the contract of `draw` allows.
 use mathlib.Core.Path.{_≡_}
-use mathlib.Core.List.{List, [], _∷_, _++_, List·Permᴰ}
-use Prim.Native.Nat.{ℕ, _+_, _*_, _≤_}
+use mathlib.Core.List.{List, [], _∷_, _++_}
+use Prim.Native.Nat.{ℕ, _+_, _≤_}
 use lib.ListN.{length, take, drop}
 use lib.Ieee.{Float}
 use Rattle.shade.specs.Edit.{edit}

@@ -1,5 +1,5 @@
 -- A refusal leaves the channels; where every check passed, the row's entries are drawn and counted.
-use mathlib.Core.Path.{_≡_, sym, _∙_}
+use mathlib.Core.Path.{sym, _∙_}
 use Prim.Native.Nat.{_+_}
 use native.Mathlib.Omega.{arith}
 use borrow.Author.Needs.{needs}

@@ -1,5 +1,4 @@
 -- The columns are cut to the part; where any are left, the part of each channel that holds them comes back with the segment added.
-use mathlib.Core.Path.{_≡_}
 use Prim.Native.Nat.{_<_}
 use native.Mathlib.Omega.{arith}
 use borrow.Author.Needs.{needs}

@@ -4,7 +4,6 @@ use mathlib.Core.Bool.{true}
 use Prim.Native.Nat.{_-_, _≤_}
 use native.Mathlib.Omega.{arith}
 use lib.Seq.{slice}
-use borrow.Author.Needs.{needs}
 use Rattle.draw.specs.Draw.{allBelow}
 use Rattle.draw.specs.Reach.{none, reachOver}
 use Rattle.draw.proofs.Entries.{first-below, rest-below}

@@ -1,5 +1,5 @@
 -- The columns of the segment, cut at 2^24, begin where its reach begins or past every column.
-use mathlib.Core.Path.{_≡_, ap}
+use mathlib.Core.Path.{ap}
 use borrow.Author.Needs.{needs}
 use Rattle.segments.specs.Ranges.{columnsOf}
 use Rattle.segments.specs.declared.Range.{Range}

@@ -1,5 +1,5 @@
 -- Each way out is a case of the float that is the last, and `Reaches` has the law of each.
-use mathlib.Core.Path.{_≡_, sym, ap, subst, _∙_}
+use mathlib.Core.Path.{sym, ap, subst, _∙_}
 use Prim.Native.Nat.{min}
 use native.Mathlib.Omega.{arith}
 use lib.Dec.{T}

@@ -1,10 +1,9 @@
 -- The cells below k of each channel have the segment added, from turn to turn; one law turns each channel.
 use mathlib.Core.Path.{_≡_, refl, _∙_}
-use Prim.Native.Nat.{_+_, _-_, _≤_}
+use Prim.Native.Nat.{_-_, _≤_}
 use native.Mathlib.Omega.{arith}
 use lib.ListN.{length, getD, length-set}
 use lib.Ieee.{nan}
-use borrow.Author.Needs.{needs}
 use Rattle.shade.specs.Edit.{edit, below}
 use Rattle.shade.specs.Shade.{addedAt}
 use Rattle.shade.proofs.Edits.{edit-none, edit-all, stored}

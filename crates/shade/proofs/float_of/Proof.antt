@@ -1,10 +1,10 @@
 -- The bits of a number below 2^31 stand for it as a signed number too, and a number up to 2^24 is a float exactly.
-use mathlib.Core.Path.{_≡_, sym, ap, subst}
+use mathlib.Core.Path.{sym, ap, subst}
 use Prim.Native.Nat.{_<_, _^_}
 use native.Mathlib.Nat.{le-trans}
 use native.Mathlib.Omega.{arith}
 use lib.Dec.{T, lit≤}
-use lib.IntN.{ℤ, pos}
+use lib.IntN.{ℤ}
 use lib.Ieee.{binary32, ofInt, inFloat}
 use mir.Syntax.{w32}
 use mir.Val.{hbits}
