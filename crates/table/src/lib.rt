@@ -1,0 +1,50 @@
+// The build: all splines to segments, and the rows that list them, in lent buffers.
+ghost use mathlib.Core.Path.{_≡_};
+ghost use Prim.Native.Nat.{_+_, _*_, _≤_};
+ghost use lib.ListN.{length, getD, take, drop};
+ghost use lib.Ieee.{nan};
+ghost use Rattle.points.specs.Points.{segmentRoom, FilledOn};
+ghost use Rattle.dequantize.specs.ControlPoints.{startingPoint};
+ghost use Rattle.dequantize.specs.Dequantize.{dequantizeOf};
+ghost use Rattle.dequantize.proofs.Accepted.{Accepted};
+ghost use Rattle.curve.specs.Curve.{pathRoom};
+ghost use Rattle.walk.specs.Walk.{walkRoom};
+ghost use Rattle.strand.specs.Strand.{strandFilled, segmentsOf};
+ghost use Rattle.table.specs.Table.{strandAt};
+use dequantize::Given;
+use dequantize::control_points::Start;
+use points::Filled;
+
+// The segments of the spline k, whose double deltas are given.
+fn draw_one(
+    starts: &[f32],
+    deltas: &[i32],
+    coefficients: &[i32],
+    k: usize,
+    given: Given,
+    high_precision: bool,
+    path: &mut [f32],
+    walk: &mut [f32],
+    out: &mut [f32],
+    from: usize,
+) -> Filled
+    requires { ⌜ (2 * k + 2 ≤ length (now starts)) × (128 * k + 128 ≤ length (now coefficients)) × (from ≤ segmentRoom (length (now out)))
+        × Accepted (getD (now starts) (2 * k) nan) (getD (now starts) (2 * k + 1) nan) (now deltas) (take 128 (drop (128 * k) (now coefficients))) given ⌝ }
+    ensures { λ r. ⌜ (r ≡ strandFilled (segmentRoom (length (now (out .entry)))) from (strandAt (pathRoom (length (now (path .entry)))) (walkRoom (length (now (walk .entry)))) (startingPoint (getD (now (starts .entry)) (2 * k) nan) (getD (now (starts .entry)) (2 * k + 1) nan)) (now (deltas .entry)) (dequantizeOf (getD (now (starts .entry)) (2 * k) nan) (getD (now (starts .entry)) (2 * k + 1) nan) (now (deltas .entry)) (take 128 (drop (128 * k) (now (coefficients .entry)))) given) «high_precision»))
+        × FilledOn r from (segmentsOf (strandAt (pathRoom (length (now (path .entry)))) (walkRoom (length (now (walk .entry)))) (startingPoint (getD (now (starts .entry)) (2 * k) nan) (getD (now (starts .entry)) (2 * k + 1) nan)) (now (deltas .entry)) (dequantizeOf (getD (now (starts .entry)) (2 * k) nan) (getD (now (starts .entry)) (2 * k + 1) nan) (now (deltas .entry)) (take 128 (drop (128 * k) (now (coefficients .entry)))) given) «high_precision»)) (now (out .entry)) (now (out .exit)) ⌝ }
+{
+    let spline = dequantize::judge::spline_at(starts, deltas, coefficients, k, given);
+    match dequantize::control_points::starting_point(starts[2 * k], starts[2 * k + 1]) {
+        Start::Out => Filled::Room,
+        Start::At(start) => strand::draw_spline(
+            start,
+            deltas,
+            spline,
+            high_precision,
+            path,
+            walk,
+            out,
+            from,
+        ),
+    }
+}
