@@ -1,2 +1,3 @@
 -- The laws of the crate `table`.
 pub mod Starts
+pub mod Painting

@@ -1,10 +1,12 @@
 -- `initialize_draw_cache` of spline.rs over lent buffers: the checks in their order, all splines judged, then each drawn, then the rows listed. Definitions only.
+use mathlib.Core.Path.{_≡_}
 use mathlib.Core.Bool.{Bool, true, false, _&&_}
 use mathlib.Core.List.{List, [], _++_}
-use Prim.Native.Nat.{ℕ, zero, suc, _+_, _-_, _*_, _^_}
+use Prim.Native.Nat.{ℕ, zero, suc, _≤_, _+_, _-_, _*_, _^_}
 use lib.Dec.{leb, eqb}
 use lib.IntN.{ℤ}
 use lib.ListN.{length, replicate}
+use lib.Seq.{sets}
 use lib.Ieee.{Float, binary32, ofBits}
 use Rattle.codes.specs.declared.Code.{Code}
 use Rattle.codes.specs.declared.Code.the-variants as Code
@@ -27,6 +29,8 @@ use Rattle.strand.specs.Strand.{Strand, NoRoom, strandOf, strandFilled, segment
 use Rattle.rows.specs.declared.Listed.{Listed}
 use Rattle.rows.specs.declared.Listed.the-variants as Listed
 use Rattle.rows.specs.Rows.{inRow, built, Outcome}
+use Rattle.table.specs.declared.Drawn.{Drawn}
+use Rattle.table.specs.declared.Drawn.the-variants as Drawn
 
 -- ---- what a build is given
 
@@ -79,6 +83,20 @@ paintFrom d g high p w room (suc n) k done =
 
 unfoldable pub paintOf : Description → Given → Bool → ℕ → ℕ → ℕ → Painted
 paintOf d g high p w room = paintFrom d g high p w room (length (d .counts)) 0 []
+
+-- the description was judged
+pub record Passed (d : Description) (g : Given) : Type 0 where
+  pub total : ℕ
+  pub fine : judgeOf d g ≡ Judged.Fine total
+
+abbrev pub drawnOf : Painted → Drawn
+drawnOf (All segs) = Drawn.Count (length segs)
+drawnOf (NoRoomAt k) = Drawn.Room k
+
+-- o is the buffer before, e after; without room nothing is said of it
+abbrev pub DrawnOn : Painted → List Float → List Float → Type 0
+DrawnOn (NoRoomAt k) o e = Unit
+DrawnOn (All segs) o e = (e ≡ sets o 0 (eights segs)) × (length segs ≤ segmentRoom (length o))
 
 -- ---- the build
 

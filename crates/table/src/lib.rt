@@ -10,10 +10,17 @@ ghost use Rattle.dequantize.proofs.Accepted.{Accepted};
 ghost use Rattle.curve.specs.Curve.{pathRoom};
 ghost use Rattle.walk.specs.Walk.{walkRoom};
 ghost use Rattle.strand.specs.Strand.{strandFilled, segmentsOf};
-ghost use Rattle.table.specs.Table.{strandAt};
+ghost use Rattle.dequantize.specs.Judge.{descriptionOf, Shaped};
+ghost use Rattle.table.specs.Table.{strandAt, Passed, paintOf, drawnOf, DrawnOn};
 use dequantize::Given;
 use dequantize::control_points::Start;
 use points::Filled;
+
+// How many segments there are, or the number of the spline that has no room.
+enum Drawn {
+    Count(usize),
+    Room(usize),
+}
 
 // The segments of the spline k, whose double deltas are given.
 fn draw_one(
@@ -47,4 +54,52 @@ fn draw_one(
             from,
         ),
     }
+}
+
+fn wide(x: u32) -> usize
+    ensures { λ r. ⌜ r ≡ x ⌝ }
+{
+    x as usize
+}
+
+// The segments of all splines of a description that was judged before.
+fn draw_all(
+    counts: &[u32],
+    starts: &[f32],
+    deltas: &[i32],
+    coefficients: &[i32],
+    given: Given,
+    high_precision: bool,
+    path: &mut [f32],
+    walk: &mut [f32],
+    out: &mut [f32],
+) -> Drawn
+    requires { ⌜ Shaped (descriptionOf (now counts) (now starts) (now deltas) (now coefficients)) × Passed (descriptionOf (now counts) (now starts) (now deltas) (now coefficients)) given ⌝ }
+    ensures { λ r. ⌜ (r ≡ drawnOf (paintOf (descriptionOf (now (counts .entry)) (now (starts .entry)) (now (deltas .entry)) (now (coefficients .entry))) given «high_precision» (pathRoom (length (now (path .entry)))) (walkRoom (length (now (walk .entry)))) (segmentRoom (length (now (out .entry))))))
+        × DrawnOn (paintOf (descriptionOf (now (counts .entry)) (now (starts .entry)) (now (deltas .entry)) (now (coefficients .entry))) given «high_precision» (pathRoom (length (now (path .entry)))) (walkRoom (length (now (walk .entry)))) (segmentRoom (length (now (out .entry))))) (now (out .entry)) (now (out .exit)) ⌝ }
+{
+    let mut k = 0;
+    let mut at = 0;
+    let mut count = 0;
+    while k < counts.len() {
+        let end = at + 2 * wide(counts[k]);
+        let Filled::Count(more) = draw_one(
+            starts,
+            &deltas[at..end],
+            coefficients,
+            k,
+            given,
+            high_precision,
+            path,
+            walk,
+            out,
+            count,
+        ) else {
+            return Drawn::Room(k);
+        };
+        count = more;
+        at = end;
+        k += 1;
+    }
+    Drawn::Count(count)
 }

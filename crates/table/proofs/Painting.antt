@@ -1,0 +1,86 @@
+-- A buffer that takes the segments of all splines, spline by spline: what is drawn and what is still to come make up the whole at every moment.
+use mathlib.Core.Path.{_≡_, refl, sym, ap, _∙_}
+use mathlib.Core.Bool.{Bool}
+use mathlib.Core.List.{List, [], _++_}
+use Prim.Native.Nat.{ℕ, zero, suc, _+_, _-_, _*_, _≤_, _<_}
+use native.Mathlib.Omega.{arith}
+use native.Mathlib.Numerals.{add-one}
+use lib.ListN.{length, getD, take, drop, length-append}
+use lib.Seq.{sets}
+use lib.Ieee.{Float}
+use Rattle.buffers.proofs.Fronts.{sets-more}
+use Rattle.dequantize.specs.declared.Given.{Given}
+use Rattle.dequantize.specs.Judge.{Description, deltasAt, deltasOf}
+use Rattle.dequantize.proofs.Judging.{deltas-more}
+use Rattle.segments.specs.declared.Segment.{Segment}
+use Rattle.points.specs.declared.Filled.{Filled}
+use Rattle.points.specs.declared.Filled.the-variants.{Count, Room}
+use Rattle.points.specs.Points.{eights, FilledOn}
+use Rattle.points.proofs.Adding.{eights-append, length-eights, count-got, on-count}
+use Rattle.strand.specs.Strand.{Strand, NoRoom, Segments, strandFilled, segmentsOf}
+use Rattle.table.specs.Table.{strandOfSpline, Painted, All, NoRoomAt, afterStrand, paintFrom, paintOf, drawnOf, DrawnOn}
+
+-- the double deltas of the spline k, cut from all of them
+pub part-is : (d : Description) (k at w : ℕ) → w ≡ getD (d .counts) k 0 → at ≡ deltasAt d k → take (at + 2 * w - at) (drop at (d .deltas)) ≡ deltasOf d k
+unfolding deltasOf
+part-is d k at w e f = let j : at + 2 * w - at ≡ 2 * w = omega arith in rw (j, e, f)
+
+-- a strand that had room
+strand-got : (room count : ℕ) (s : Strand) (n : ℕ) → Count n ≡ strandFilled room count s → (n ≡ count + length (segmentsOf s)) × (n ≤ room)
+strand-got room count NoRoom n e = absurd (let z : _≡_ {A = ℕ} 0 1 = cc in omega arith)
+strand-got room count (Segments segs) n e = let g = count-got room count segs n e in omega (arith, g .0, g .1)
+
+module _ (d : Description) (g : Given) (high : Bool) (p w room : ℕ) (o₀ : List Float) where
+  -- the splines below k are done, whose double deltas end at `at`, and count segments are in the buffer o
+  pub record Painting (o : List Float) (k at count : ℕ) : Type 0 where
+    pub done : List Segment
+    pub left : paintOf d g high p w room ≡ paintFrom d g high p w room (length (d .counts) - k) k done
+    pub used : at ≡ deltasAt d k
+    pub size : length done ≡ count
+    pub fits : count ≤ room
+    pub buffer : o ≡ sets o₀ 0 (eights done)
+
+  pub painting-none : Painting o₀ 0 0 0
+  unfolding paintOf eights deltasAt
+  painting-none = record {
+    done = [];
+    left = (let e : length (d .counts) - 0 ≡ length (d .counts) = omega arith in rw e);
+    used = refl;
+    size = refl;
+    fits = omega arith;
+    buffer = refl;
+  }
+
+  module _ (o : List Float) (k at count : ℕ) (a : Painting o k at count) where
+    pub painting-all : length (d .counts) ≤ k → paintOf d g high p w room ≡ All (a .done)
+    unfolding paintFrom
+    painting-all h = let e : length (d .counts) - k ≡ 0 = omega arith in a .left ∙ rw e
+
+    module _ (h : k < length (d .counts)) {r : Filled} (f : r ≡ strandFilled room count (strandOfSpline d g high p w k)) where
+      next : paintOf d g high p w room
+          ≡ afterStrand r k (paintFrom d g high p w room (length (d .counts) - (k + 1)) (k + 1) (a .done ++ segmentsOf (strandOfSpline d g high p w k)))
+      unfolding paintFrom
+      next = let e : length (d .counts) - k ≡ suc (length (d .counts) - (k + 1)) = omega arith in a .left ∙ rw (e, a .size, f, add-one k)
+
+      pub painting-room : r ≡ Room → paintOf d g high p w room ≡ NoRoomAt k
+      painting-room q = next ∙ rw q
+
+      pub painting-more : {o′ : List Float} (n : ℕ) → FilledOn r count (segmentsOf (strandOfSpline d g high p w k)) o o′ → r ≡ Count n
+          → Painting o′ (k + 1) (at + 2 * getD (d .counts) k 0) n
+      painting-more {o′} n t q =
+          let s = strandOfSpline d g high p w k in
+          let c = strand-got room count s n (sym q ∙ f) in
+          let b : o′ ≡ sets o (8 * count) (eights (segmentsOf s)) = on-count r n count (segmentsOf s) o o′ q t in
+          record {
+            done = a .done ++ segmentsOf s;
+            left = next ∙ rw q;
+            used = omega (arith, a .used, deltas-more d k h);
+            size = omega (arith, length-append (a .done) (segmentsOf s), a .size, c .0);
+            fits = c .1;
+            buffer = b
+                ∙ ap (λ (x : List Float). sets x (8 * count) (eights (segmentsOf s))) (a .buffer)
+                ∙ sets-more (eights (a .done)) (eights (segmentsOf s)) o₀ 0 (8 * count) (omega (arith, length-eights (a .done), a .size))
+                ∙ ap (sets o₀ 0) (sym (eights-append (a .done) (segmentsOf s)));
+          }
+
+-- Assumes nothing.
