@@ -12,8 +12,12 @@ use Rattle.reader.specs.Read as Read
 use Rattle.reader.specs.declared.ReadAnswer.{ReadAnswer}
 use Rattle.writer.specs.Write as Write
 use Rattle.writer.specs.declared.WriteAnswer.{WriteAnswer}
+use Rattle.draw.specs.Draw as Draw
+use Rattle.draw.specs.Reach as Reach
+use Rattle.draw.specs.declared.DrawAnswer.{DrawAnswer}
+use Rattle.draw.specs.declared.ReachAnswer.{ReachAnswer}
 use Rattle.aktyrbuz.specs.declared.Told.{Told}
-use Rattle.aktyrbuz.specs.Exported.{signedOf, toldIn, toldRead, toldWrite, readLeaves, readExport, writeLeaves, writeExport}
+use Rattle.aktyrbuz.specs.Exported.{signedOf, toldIn, toldRead, toldWrite, toldDraw, toldReach, readLeaves, readExport, writeLeaves, writeExport, drawLeaves, drawExport, reachLeaves, reachExport}
 
 pub signed-back : (n : ℕ) → toZ w64 (ofZ w64 (signedOf n)) ≡ signedOf n
 signed-back n = toZ-ofZ {w = w64} {z = signedOf n} (record { sfits = omega arith })
@@ -27,3 +31,13 @@ pub write-exported : {o : Write.WriteOutcome} (r : WriteAnswer) (t : Told) (five
     → Write.leaves r l ≡ o → t ≡ toldWrite r → five ≡ toldIn t
     → writeLeaves (t .number) five l ≡ writeExport o
 write-exported r t five l p q s = rw (← p, s, q)
+
+pub draw-exported : {o : Draw.DrawOutcome} (r : DrawAnswer) (t : Told) (five : List ℤ) (a : Draw.Channels)
+    → Draw.leaves r a ≡ o → t ≡ toldDraw r → five ≡ toldIn t
+    → drawLeaves (t .number) five a ≡ drawExport o
+draw-exported r t five a p q s = rw (← p, s, q)
+
+pub reach-exported : {o : Reach.ReachOutcome} (r : ReachAnswer) (t : Told) (five : List ℤ)
+    → Reach.tells r ≡ o → t ≡ toldReach r → five ≡ toldIn t
+    → reachLeaves (t .number) five ≡ reachExport o
+reach-exported r t five p q s = rw (← p, s, q)

@@ -10,6 +10,10 @@ use Rattle.reader.specs.Read.{Outcome}
 use Rattle.reader.specs.declared.ReadAnswer.{ReadAnswer}
 use Rattle.writer.specs.Write.{WriteOutcome}
 use Rattle.writer.specs.declared.WriteAnswer.{WriteAnswer}
+use Rattle.draw.specs.Draw.{Channels, DrawOutcome}
+use Rattle.draw.specs.Reach.{ReachOutcome}
+use Rattle.draw.specs.declared.DrawAnswer.{DrawAnswer}
+use Rattle.draw.specs.declared.ReachAnswer.{ReachAnswer}
 use Rattle.aktyrbuz.specs.declared.Told.{Told}
 
 -- a number as an int64_t
@@ -27,6 +31,14 @@ toldRead (ReadAnswer.Refused c p) = toldRefusal c p
 abbrev pub toldWrite : WriteAnswer → Told
 toldWrite (WriteAnswer.Done n) = record { number = 0; place = pos 0; first = signedOf n; second = pos 0; third = pos 0 }
 toldWrite (WriteAnswer.Refused c p) = toldRefusal c p
+
+abbrev pub toldDraw : DrawAnswer → Told
+toldDraw (DrawAnswer.Done n) = record { number = 0; place = pos 0; first = signedOf n; second = pos 0; third = pos 0 }
+toldDraw (DrawAnswer.Refused c p) = toldRefusal c p
+
+abbrev pub toldReach : ReachAnswer → Told
+toldReach (ReachAnswer.Done a e) = record { number = 0; place = pos 0; first = pos a; second = pos e; third = pos 0 }
+toldReach (ReachAnswer.Refused c p) = toldRefusal c p
 
 -- the five numbers
 abbrev pub toldIn : Told → List ℤ
@@ -58,3 +70,24 @@ writeLeaves r five l = record { number = r; answer = five; list = l }
 
 abbrev pub writeExport : WriteOutcome → WriteExport
 writeExport o = writeLeaves (toldWrite (o .answer) .number) (toldIn (toldWrite (o .answer))) (o .list)
+
+pub record DrawExport : Type 0 where
+  pub number : ℕ
+  pub answer : List ℤ
+  pub channels : Channels
+
+abbrev pub drawLeaves : ℕ → List ℤ → Channels → DrawExport
+drawLeaves r five a = record { number = r; answer = five; channels = a }
+
+abbrev pub drawExport : DrawOutcome → DrawExport
+drawExport o = drawLeaves (toldDraw (o .answer) .number) (toldIn (toldDraw (o .answer))) (o .channels)
+
+pub record ReachExport : Type 0 where
+  pub number : ℕ
+  pub answer : List ℤ
+
+abbrev pub reachLeaves : ℕ → List ℤ → ReachExport
+reachLeaves r five = record { number = r; answer = five }
+
+abbrev pub reachExport : ReachOutcome → ReachExport
+reachExport o = reachLeaves (toldReach (o .answer) .number) (toldIn (toldReach (o .answer)))

@@ -5,8 +5,12 @@ ghost use lib.ListN.{length};
 ghost use Rattle.numbers.specs.Ln.{lnOf};
 ghost use Rattle.reader.specs.Read.{readOutcome, roomsOf};
 ghost use Rattle.writer.specs.Write.{writeOf};
-ghost use Rattle.aktyrbuz.specs.Exported.{signedOf, toldIn, toldRefusal, toldRead, toldWrite, readLeaves, readExport, writeLeaves, writeExport};
+ghost use Rattle.draw.specs.Draw.{tableOf, three, drawOf};
+ghost use Rattle.draw.specs.Reach.{reachOf};
+ghost use Rattle.aktyrbuz.specs.Exported.{signedOf, toldIn, toldRefusal, toldRead, toldWrite, toldDraw, toldReach, readLeaves, readExport, writeLeaves, writeExport, drawLeaves, drawExport, reachLeaves, reachExport};
 use codes::Code;
+use draw::DrawAnswer;
+use draw::ReachAnswer;
 use reader::ReadAnswer;
 use writer::WriteAnswer;
 
@@ -80,6 +84,36 @@ fn told_write(answer: WriteAnswer) -> Told
     }
 }
 
+fn told_draw(answer: DrawAnswer) -> Told
+    ensures { λ r. ⌜ r ≡ toldDraw answer ⌝ }
+{
+    match answer {
+        DrawAnswer::Done(updates) => Told {
+            number: 0,
+            place: 0,
+            first: signed(updates as usize),
+            second: 0,
+            third: 0,
+        },
+        DrawAnswer::Refused(code, place) => told_refusal(code, place),
+    }
+}
+
+fn told_reach(answer: ReachAnswer) -> Told
+    ensures { λ r. ⌜ r ≡ toldReach answer ⌝ }
+{
+    match answer {
+        ReachAnswer::Done(first, past) => Told {
+            number: 0,
+            place: 0,
+            first: first as i64,
+            second: past as i64,
+            third: 0,
+        },
+        ReachAnswer::Refused(code, place) => told_refusal(code, place),
+    }
+}
+
 // The five numbers.
 fn five(told: Told) -> [i64; 5]
     ensures { λ r. ⌜ r ≡ toldIn told ⌝ }
@@ -149,6 +183,72 @@ pub extern "C" fn aktyrbuz_write(
         configured,
         pixels,
         list,
+    ));
+    tell(answer, told);
+    told.number
+}
+
+#[no_mangle]
+pub extern "C" fn aktyrbuz_draw(
+    segments: &[f32],
+    segment_count: u32,
+    entries: &[u32],
+    entry_count: u32,
+    row_starts: &[u32],
+    height: u32,
+    y: u32,
+    x0: u32,
+    n: u32,
+    r0: &mut [f32],
+    r1: &mut [f32],
+    r2: &mut [f32],
+    answer: &mut [i64; 5],
+) -> u32
+    ensures { λ r. ⌜ drawLeaves r (now (answer .exit)) (three (now (r0 .exit)) (now (r1 .exit)) (now (r2 .exit)))
+        ≡ drawExport (drawOf (tableOf (now (segments .entry)) «segment_count» (now (entries .entry)) «entry_count» (now («row_starts» .entry)) height) y x0 n (three (now (r0 .entry)) (now (r1 .entry)) (now (r2 .entry)))) ⌝ }
+{
+    let told = told_draw(draw::draw(
+        segments,
+        segment_count,
+        entries,
+        entry_count,
+        row_starts,
+        height,
+        y,
+        x0,
+        n,
+        r0,
+        r1,
+        r2,
+    ));
+    tell(answer, told);
+    told.number
+}
+
+#[no_mangle]
+pub extern "C" fn aktyrbuz_reach(
+    segments: &[f32],
+    segment_count: u32,
+    entries: &[u32],
+    entry_count: u32,
+    row_starts: &[u32],
+    height: u32,
+    y: u32,
+    width: u32,
+    answer: &mut [i64; 5],
+) -> u32
+    ensures { λ r. ⌜ reachLeaves r (now (answer .exit))
+        ≡ reachExport (reachOf (tableOf (now (segments .entry)) «segment_count» (now (entries .entry)) «entry_count» (now («row_starts» .entry)) height) y width) ⌝ }
+{
+    let told = told_reach(draw::reach(
+        segments,
+        segment_count,
+        entries,
+        entry_count,
+        row_starts,
+        height,
+        y,
+        width,
     ));
     tell(answer, told);
     told.number
