@@ -2,12 +2,13 @@
 ghost use Prim.Native.Nat.{_≤_};
 ghost use lib.ListN.{length, getD};
 ghost use Rattle.frame.specs.Frame.{caseEnd, IsWhole};
+use crate::lists;
 use crate::number_leaves;
 
 // Whether cases of a kind are compared yet.
 pub fn compared(kind: u32) -> bool {
     match kind {
-        1..=13 => true,
+        1..=15 => true,
         _ => false,
     }
 }
@@ -15,6 +16,8 @@ pub fn compared(kind: u32) -> bool {
 fn agrees(kind: u32, input: &[u32], output: &[u32]) -> bool {
     if kind < 14 {
         number_leaves::agrees(kind, input, output)
+    } else if kind < 16 {
+        lists::agrees(kind, input, output)
     } else {
         false
     }

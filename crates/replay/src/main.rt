@@ -2,6 +2,7 @@
 // and whether the port agrees with them.
 mod agree;
 mod kinds;
+mod lists;
 mod number_leaves;
 mod words;
 
