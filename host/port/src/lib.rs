@@ -80,3 +80,68 @@ pub fn write(parts: &Parts, configured: u32, pixels: u32, list: &mut [u32]) -> (
     };
     (code, answer)
 }
+
+/// A table as drawing and reach take it.
+#[derive(Clone, Copy, Debug)]
+pub struct Table<'a> {
+    pub segments: &'a [f32],
+    pub segment_count: u32,
+    pub entries: &'a [u32],
+    pub entry_count: u32,
+    pub row_starts: &'a [u32],
+    pub height: u32,
+}
+
+/// Draws n pixels of row y from x0 on into channels that begin there: the code's number and the answer.
+pub fn draw(table: &Table, y: u32, x0: u32, n: u32, channels: [&mut [f32]; 3]) -> (u32, Answer) {
+    let mut answer = UNFILLED;
+    let [r0, r1, r2] = channels;
+    // SAFETY: each pointer comes with its slice's length, and the channels overlap no other slice.
+    let code = unsafe {
+        symbols::aktyrbuz_draw(
+            table.segments.as_ptr(),
+            table.segments.len(),
+            table.segment_count,
+            table.entries.as_ptr(),
+            table.entries.len(),
+            table.entry_count,
+            table.row_starts.as_ptr(),
+            table.row_starts.len(),
+            table.height,
+            y,
+            x0,
+            n,
+            r0.as_mut_ptr(),
+            r0.len(),
+            r1.as_mut_ptr(),
+            r1.len(),
+            r2.as_mut_ptr(),
+            r2.len(),
+            &mut answer,
+        )
+    };
+    (code, answer)
+}
+
+/// The reach of row y in an image of this width: the code's number and the answer.
+pub fn reach(table: &Table, y: u32, width: u32) -> (u32, Answer) {
+    let mut answer = UNFILLED;
+    // SAFETY: each pointer comes with its slice's length.
+    let code = unsafe {
+        symbols::aktyrbuz_reach(
+            table.segments.as_ptr(),
+            table.segments.len(),
+            table.segment_count,
+            table.entries.as_ptr(),
+            table.entries.len(),
+            table.entry_count,
+            table.row_starts.as_ptr(),
+            table.row_starts.len(),
+            table.height,
+            y,
+            width,
+            &mut answer,
+        )
+    };
+    (code, answer)
+}

@@ -35,4 +35,41 @@ extern "C" {
         list_len: usize,
         answer: *mut [i64; 5],
     ) -> u32;
+
+    pub fn aktyrbuz_draw(
+        segments: *const f32,
+        segments_len: usize,
+        segment_count: u32,
+        entries: *const u32,
+        entries_len: usize,
+        entry_count: u32,
+        row_starts: *const u32,
+        row_starts_len: usize,
+        height: u32,
+        y: u32,
+        x0: u32,
+        n: u32,
+        r0: *mut f32,
+        r0_len: usize,
+        r1: *mut f32,
+        r1_len: usize,
+        r2: *mut f32,
+        r2_len: usize,
+        answer: *mut [i64; 5],
+    ) -> u32;
+
+    pub fn aktyrbuz_reach(
+        segments: *const f32,
+        segments_len: usize,
+        segment_count: u32,
+        entries: *const u32,
+        entries_len: usize,
+        entry_count: u32,
+        row_starts: *const u32,
+        row_starts_len: usize,
+        height: u32,
+        y: u32,
+        width: u32,
+        answer: *mut [i64; 5],
+    ) -> u32;
 }

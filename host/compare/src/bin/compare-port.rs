@@ -1,15 +1,20 @@
-//! The port through its C interface on fixed cases: reading and writing, every cell of every lent buffer, and both round trips.
+//! The port through its C interface on fixed cases: reading and writing with both round trips, drawing whole and in parts, and reach; every cell of every lent buffer.
 //!
 //! Prints a table; ends with 1, and the smallest input, where an answer differs.
 
 use compare::port::tally::Tally;
-use compare::port::{read, write};
+use compare::port::{draw, read, write};
 use std::process::ExitCode;
 
 /// A call's name, and what runs its cases.
 type Call = (&'static str, fn(&mut Tally));
 
-const CALLS: [Call; 2] = [("read", read::compare), ("write", write::compare)];
+const CALLS: [Call; 4] = [
+    ("read", read::compare),
+    ("write", write::compare),
+    ("draw", draw::compare),
+    ("reach", draw::compare_reach),
+];
 
 fn main() -> ExitCode {
     oracle::set_ln(port::ln);

@@ -1,0 +1,220 @@
+//! Drawing: sound, strange and hostile tables and requests as they come, and rows of built tables cut into parts that are drawn in any order; reach beside them.
+
+use super::tally::Tally;
+use super::told_refusal;
+use crate::verdict::same_floats;
+use cases::descriptions::build_case;
+use cases::random::Random;
+use cases::tables::{request, table, REQUEST_KINDS, TABLE_KINDS};
+use cases::{each, FlatTable, Refusal, Table};
+use oracle::Outcome;
+use port::Answer;
+
+const CASES_A_KIND: u64 = 16_000;
+const BUILT_TABLES: u64 = 2_000;
+
+/// Descriptions whose tables are drawn.
+const BUILT_KINDS: [&str; 5] = ["fibres", "straight", "sigma", "colours", "correlations"];
+
+/// Rows drawn of a built table, and the width that they are drawn to.
+const ROWS: u64 = 12;
+const WIDTH: u32 = 160;
+
+type Channels = [Vec<f32>; 3];
+
+pub fn compare(tally: &mut Tally) {
+    for (kind, seed) in each(&TABLE_KINDS, CASES_A_KIND) {
+        let table = table(kind, seed);
+        let request = request(REQUEST_KINDS[seed as usize % 3], seed, table.height.max(1));
+        tally.cases += 1;
+        let (y, x0, n) = (request.y, request.x0, request.n);
+        let expected = expected_part(&table, y, x0, n, &request.channels);
+        let drawn = drawn_part(&table, y, x0, n, &request.channels);
+        check(tally, &expected, &drawn, || {
+            format!("{kind}, seed {seed}: {table:?} {request:?}")
+        });
+        if expected.0.is_ok() {
+            tally.by_rust += 1;
+            let theirs = rust_part(&table, y, x0, n, &request.channels);
+            same_cells(tally, &theirs, &drawn.2, || {
+                format!("{kind}, seed {seed}: {table:?} {request:?}")
+            });
+        }
+    }
+    for seed in 0..BUILT_TABLES {
+        let kind = BUILT_KINDS[seed as usize % BUILT_KINDS.len()];
+        let case = build_case(kind, seed);
+        if let Ok(built) = model::build(&case.description, &case.given, &model::AMPLE) {
+            tally.cases += 1;
+            rows_in_parts(tally, kind, seed, &FlatTable::from(&built));
+        }
+    }
+}
+
+/// Rows of one table, each cut into parts that are drawn in any order: cell by cell as spline.rs draws the row whole, and the updates sum to the row's.
+fn rows_in_parts(tally: &mut Tally, kind: &str, seed: u64, table: &FlatTable) {
+    let mut r = Random::new("parts", seed);
+    for _ in 0..ROWS.min(table.height.into()) {
+        let y = r.below(table.height.into()) as u32;
+        let before: Channels =
+            [0, 1, 2].map(|_| (0..WIDTH).map(|_| r.between(-1.0, 1.0)).collect());
+        let (whole, _) = expected_part(table, y, 0, WIDTH, &before);
+        let mut cells = before.clone();
+        let mut updates = 0;
+        for (x0, n) in cut(&mut r) {
+            let part = cells
+                .each_ref()
+                .map(|channel| channel[x0 as usize..].to_vec());
+            let expected = expected_part(table, y, x0, n, &part);
+            let drawn = drawn_part(table, y, x0, n, &part);
+            check(tally, &expected, &drawn, || {
+                format!("{kind}, seed {seed}, row {y}, part {x0}, {n}")
+            });
+            updates += drawn.1[1];
+            for (channel, new) in cells.iter_mut().zip(&drawn.2) {
+                channel[x0 as usize..].copy_from_slice(new);
+            }
+        }
+        tally.by_rust += 1;
+        let theirs = rust_part(table, y, 0, WIDTH, &before);
+        same_cells(tally, &theirs, &cells, || {
+            format!("{kind}, seed {seed}, row {y} in parts")
+        });
+        if whole != Ok(updates as u64) {
+            tally.differs(format!(
+                "{kind}, seed {seed}, row {y}: updates {updates} in parts, {whole:?} whole"
+            ));
+        }
+    }
+}
+
+/// A row cut into adjacent parts, in any order.
+fn cut(r: &mut Random) -> Vec<(u32, u32)> {
+    let mut parts = Vec::new();
+    let mut x = 0;
+    while x < WIDTH {
+        let n = (r.below(60) as u32).min(WIDTH - x);
+        parts.push((x, n));
+        x += n;
+    }
+    for last in (1..parts.len()).rev() {
+        parts.swap(last, r.below(last as u64 + 1) as usize);
+    }
+    parts
+}
+
+fn check(
+    tally: &mut Tally,
+    expected: &(Result<u64, Refusal>, Channels),
+    drawn: &(u32, Answer, Channels),
+    words: impl Fn() -> String,
+) {
+    tally.called(&expected.0);
+    let told = match &expected.0 {
+        Ok(updates) => (0, [0, *updates as i64, 0, 0, 0]),
+        Err(refusal) => told_refusal(refusal),
+    };
+    if told != (drawn.0, drawn.1) {
+        tally.differs(format!(
+            "draw, {}\n  port: {:?}\n  model: {told:?}",
+            words(),
+            (drawn.0, drawn.1)
+        ));
+    }
+    same_cells(tally, &expected.1, &drawn.2, words);
+}
+
+fn same_cells(
+    tally: &mut Tally,
+    expected: &Channels,
+    drawn: &Channels,
+    words: impl Fn() -> String,
+) {
+    if !same_floats(&expected.concat(), &drawn.concat()) {
+        tally.differs(format!(
+            "draw, {}\n  cells: {drawn:?}\n  expected: {expected:?}",
+            words()
+        ));
+    }
+}
+
+fn expected_part(
+    table: &FlatTable,
+    y: u32,
+    x0: u32,
+    n: u32,
+    before: &Channels,
+) -> (Result<u64, Refusal>, Channels) {
+    let mut after = before.clone();
+    let [r0, r1, r2] = &mut after;
+    (model::draw(table, y, x0, n, [r0, r1, r2]), after)
+}
+
+fn drawn_part(
+    table: &FlatTable,
+    y: u32,
+    x0: u32,
+    n: u32,
+    before: &Channels,
+) -> (u32, Answer, Channels) {
+    let mut after = before.clone();
+    let [r0, r1, r2] = &mut after;
+    let (code, answer) = port::draw(&lent(table), y, x0, n, [r0, r1, r2]);
+    (code, answer, after)
+}
+
+/// The channels as spline.rs leaves them; it draws as many pixels as its channels have.
+fn rust_part(table: &FlatTable, y: u32, x0: u32, n: u32, before: &Channels) -> Channels {
+    let mut after = before.clone();
+    let [r0, r1, r2] = &mut after;
+    let part = n as usize;
+    let whole = Table {
+        segments: (0..table.segment_count)
+            .map(|index| table.segment(index))
+            .collect(),
+        row_starts: table.row_starts.clone(),
+        entries: table.entries.clone(),
+        estimate: 0,
+    };
+    let drawn =
+        oracle::load(&whole).draw(y, x0, [&mut r0[..part], &mut r1[..part], &mut r2[..part]]);
+    assert!(
+        drawn == Outcome::Done(()),
+        "spline.rs draws every accepted part"
+    );
+    after
+}
+
+fn lent(table: &FlatTable) -> port::Table<'_> {
+    port::Table {
+        segments: &table.segments,
+        segment_count: table.segment_count,
+        entries: &table.entries,
+        entry_count: table.entry_count,
+        row_starts: &table.row_starts,
+        height: table.height,
+    }
+}
+
+/// Widths that reach is asked for.
+const WIDTHS: [u32; 6] = [0, 1, 40, 80, 1 << 23, (1 << 23) + 1];
+
+pub fn compare_reach(tally: &mut Tally) {
+    for (kind, seed) in each(&TABLE_KINDS, CASES_A_KIND) {
+        let table = table(kind, seed);
+        let y = request(REQUEST_KINDS[seed as usize % 3], seed, table.height.max(1)).y;
+        tally.cases += 1;
+        for width in WIDTHS {
+            let expected = model::reach(&table, y, width);
+            tally.called(&expected);
+            let told = match &expected {
+                Ok((first, past)) => (0, [0, i64::from(*first), i64::from(*past), 0, 0]),
+                Err(refusal) => told_refusal(refusal),
+            };
+            let found = port::reach(&lent(&table), y, width);
+            if found != told {
+                tally.differs(format!("reach, {kind}, seed {seed}, row {y}, width {width}: {table:?}\n  port: {found:?}\n  model: {told:?}"));
+            }
+        }
+    }
+}
