@@ -74,7 +74,7 @@ fn against_oracle(table: &FlatTable, request: &Request) -> Verdict {
 }
 
 /// The sound part of a table, as the oracle takes it.
-fn unflattened(table: &FlatTable) -> Table {
+pub fn unflattened(table: &FlatTable) -> Table {
     Table {
         segments: (0..table.segment_count)
             .map(|index| table.segment(index))
