@@ -2,11 +2,12 @@
 
 use super::tally::Tally;
 use super::told_refusal;
+use crate::draw::unflattened;
 use crate::verdict::same_floats;
 use cases::descriptions::build_case;
 use cases::random::Random;
 use cases::tables::{request, table, REQUEST_KINDS, TABLE_KINDS};
-use cases::{each, FlatTable, Refusal, Table};
+use cases::{each, FlatTable, Refusal};
 use oracle::Outcome;
 use port::Answer;
 
@@ -168,16 +169,11 @@ fn rust_part(table: &FlatTable, y: u32, x0: u32, n: u32, before: &Channels) -> C
     let mut after = before.clone();
     let [r0, r1, r2] = &mut after;
     let part = n as usize;
-    let whole = Table {
-        segments: (0..table.segment_count)
-            .map(|index| table.segment(index))
-            .collect(),
-        row_starts: table.row_starts.clone(),
-        entries: table.entries.clone(),
-        estimate: 0,
-    };
-    let drawn =
-        oracle::load(&whole).draw(y, x0, [&mut r0[..part], &mut r1[..part], &mut r2[..part]]);
+    let drawn = oracle::load(&unflattened(table)).draw(
+        y,
+        x0,
+        [&mut r0[..part], &mut r1[..part], &mut r2[..part]],
+    );
     assert!(
         drawn == Outcome::Done(()),
         "spline.rs draws every accepted part"
