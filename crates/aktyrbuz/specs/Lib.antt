@@ -1,2 +1,3 @@
 -- The definitions of the crate `aktyrbuz`.
 pub mod Exported
+pub mod Demands
