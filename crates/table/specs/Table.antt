@@ -31,6 +31,8 @@ use Rattle.rows.specs.declared.Listed.the-variants as Listed
 use Rattle.rows.specs.Rows.{inRow, built, Outcome}
 use Rattle.table.specs.declared.Drawn.{Drawn}
 use Rattle.table.specs.declared.Drawn.the-variants as Drawn
+use Rattle.table.specs.declared.BuildAnswer.{BuildAnswer}
+use Rattle.table.specs.declared.BuildAnswer.the-variants.{Done, Refused}
 
 -- ---- what a build is given
 
@@ -101,12 +103,8 @@ DrawnOn (All segs) o e = (e ≡ sets o 0 (eights segs)) × (length segs ≤ segm
 -- ---- the build
 
 -- what a build answers, and the lent cells as it leaves them
-pub data Answer : Type 0 where
-  Done : ℕ → ℕ → ℕ → Answer
-  Refused : Code → ℕ → Answer
-
 pub record Table : Type 0 where
-  pub answer : Answer
+  pub answer : BuildAnswer
   pub path : List Float
   pub walk : List Float
   pub segments : List Float

@@ -12,9 +12,16 @@ ghost use Rattle.walk.specs.Walk.{walkRoom};
 ghost use Rattle.strand.specs.Strand.{strandFilled, segmentsOf};
 ghost use Rattle.dequantize.specs.Judge.{descriptionOf, Shaped};
 ghost use Rattle.table.specs.Table.{strandAt, Passed, paintOf, drawnOf, DrawnOn};
+use codes::Code;
 use dequantize::Given;
 use dequantize::control_points::Start;
 use points::Filled;
+
+// The segments, the entries and the estimate; or a code and its place.
+pub enum BuildAnswer {
+    Done(u32, u32, u64),
+    Refused(Code, usize),
+}
 
 // How many segments there are, or the number of the spline that has no room.
 enum Drawn {
