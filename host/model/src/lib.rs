@@ -8,6 +8,7 @@ pub mod curve;
 pub mod dequantize;
 pub mod draw;
 pub mod list;
+pub mod logarithm;
 pub mod numbers;
 pub mod segments;
 pub mod table;

@@ -4,7 +4,6 @@
 mod frame;
 mod kinds;
 mod list;
-mod ln;
 mod numbers;
 mod segments;
 mod splines;
@@ -130,7 +129,7 @@ fn main() -> ExitCode {
             return ExitCode::from(2);
         }
     };
-    oracle::set_ln(ln::ln);
+    oracle::set_ln(model::logarithm::ln);
     let mut good = true;
     for layer in &LAYERS {
         match act(layer) {

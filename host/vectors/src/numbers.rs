@@ -2,10 +2,10 @@
 
 use crate::frame::Case;
 use crate::kinds;
-use crate::ln::ln;
 use crate::words::halves;
 use cases::bits;
 use cases::random::Random;
+use model::logarithm::ln;
 
 /// Values where an answer turns: zeros, halves, neighbours of powers of two, the ends of the format, infinities, NaN.
 fn edges() -> Vec<f32> {

@@ -1,4 +1,4 @@
-//! The port's logarithm, a fixed sequence of f64 steps. It stands in until the port's own is linked.
+//! The port's logarithm, a fixed sequence of f64 steps: it stands in where the port's own is not linked.
 
 const SERIES: [f64; 10] = [
     0.047619047619047616,

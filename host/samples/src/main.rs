@@ -1,0 +1,107 @@
+//! Makes the list of values in samples/, checks that it is still what is made and that spline.rs reads and builds it, and has it
+//! drawn by spline.rs. Run from the repository's top: `samples make`, `samples check` or `samples draw PICTURE`.
+
+mod fibres;
+mod picture;
+mod values;
+
+use cases::{Description, Table};
+use fibres::{GIVEN, HEIGHT, WIDTH};
+use oracle::Outcome;
+use std::process::ExitCode;
+
+const FILE: &str = "samples/fibres.values";
+/// The usual configured limit.
+const CONFIGURED: u32 = 1 << 20;
+
+fn list(description: &Description) -> Result<Vec<u32>, String> {
+    model::list::write(description, CONFIGURED, WIDTH * HEIGHT, u64::MAX)
+        .map_err(|refusal| format!("{FILE}: it cannot be written: {refusal:?}"))
+}
+
+/// What spline.rs makes of the list: the same description, and its table.
+fn judged(description: &Description, list: &[u32]) -> Result<Table, String> {
+    let read = oracle::read(list, CONFIGURED, WIDTH * HEIGHT);
+    if read.outcome != Outcome::Done(description.clone()) || read.consumed != list.len() {
+        return Err(format!("{FILE}: spline.rs does not read it back"));
+    }
+    match oracle::build(description, &GIVEN) {
+        Outcome::Done(built) => Ok(built.table),
+        other => Err(format!(
+            "{FILE}: spline.rs does not build it: {:?}",
+            other.map(|_| ())
+        )),
+    }
+}
+
+fn told(description: &Description, list: &[u32], table: &Table) -> String {
+    format!(
+        "{FILE}: {} values, {} splines, {} points; {} segments, {} entries, estimate {}",
+        list.len(),
+        description.counts.len(),
+        description.deltas.len() / 2,
+        table.segments.len(),
+        table.entries.len(),
+        table.estimate
+    )
+}
+
+fn put(path: &str, bytes: &[u8]) -> Result<(), String> {
+    std::fs::write(path, bytes).map_err(|why| format!("{path}: {why}"))
+}
+
+fn make() -> Result<String, String> {
+    let description = fibres::fibres();
+    let list = list(&description)?;
+    let table = judged(&description, &list)?;
+    put(
+        FILE,
+        values::text(&list, description.counts.len()).as_bytes(),
+    )?;
+    Ok(told(&description, &list, &table))
+}
+
+fn check() -> Result<String, String> {
+    let description = fibres::fibres();
+    let list = list(&description)?;
+    let table = judged(&description, &list)?;
+    let stored = std::fs::read_to_string(FILE).map_err(|why| format!("{FILE}: {why}"))?;
+    if stored != values::text(&list, description.counts.len()) {
+        return Err(format!("{FILE}: it is not what is made today"));
+    }
+    Ok(told(&description, &list, &table))
+}
+
+fn draw(path: &str) -> Result<String, String> {
+    let description = fibres::fibres();
+    let table = judged(&description, &list(&description)?)?;
+    let bytes = if path.ends_with(".pfm") {
+        picture::pfm(&table, WIDTH, HEIGHT)?
+    } else {
+        picture::ppm(&table, WIDTH, HEIGHT)?
+    };
+    put(path, &bytes)?;
+    Ok(format!("{path}: drawn by spline.rs"))
+}
+
+fn main() -> ExitCode {
+    let words: Vec<String> = std::env::args().skip(1).collect();
+    let words: Vec<&str> = words.iter().map(String::as_str).collect();
+    oracle::set_ln(model::logarithm::ln);
+    let done = match words[..] {
+        ["make"] => make(),
+        ["check"] => check(),
+        ["draw", path] => draw(path),
+        _ => {
+            println!("usage, from the repository's top: samples make | check | draw PICTURE");
+            return ExitCode::from(2);
+        }
+    };
+    let (Ok(line) | Err(line)) = &done;
+    println!("{line}");
+    if done.is_ok() {
+        ExitCode::SUCCESS
+    } else {
+        ExitCode::FAILURE
+    }
+}
