@@ -1,36 +1,26 @@
 -- `initialize_draw_cache` of spline.rs over lent buffers: the checks in their order, all splines judged, then each drawn, then the rows listed. Definitions only.
-use mathlib.Core.Path.{_≡_}
 use mathlib.Core.Bool.{Bool, true, false, _&&_}
-use mathlib.Core.List.{List, [], _++_}
-use Prim.Native.Nat.{ℕ, zero, suc, _≤_, _+_, _-_, _*_, _^_}
+use mathlib.Core.List.{List, _++_}
+use Prim.Native.Nat.{ℕ, suc, _-_, _*_, _^_}
 use lib.Dec.{leb, eqb}
 use lib.IntN.{ℤ}
 use lib.ListN.{length, replicate}
-use lib.Seq.{sets}
 use lib.Ieee.{Float, binary32, ofBits}
+use Rattle.codes.specs.Codes.{numberOf}
 use Rattle.codes.specs.declared.Code.{Code}
 use Rattle.codes.specs.declared.Code.the-variants as Code
 use Rattle.dequantize.specs.declared.Given.{Given}
-use Rattle.dequantize.specs.declared.Spline.{Spline}
-use Rattle.dequantize.specs.declared.control_points.Start.{Start}
-use Rattle.dequantize.specs.declared.control_points.Start.the-variants.{At, Out}
 use Rattle.dequantize.specs.declared.judge.Judged.{Judged}
 use Rattle.dequantize.specs.declared.judge.Judged.the-variants as Judged
-use Rattle.dequantize.specs.ControlPoints.{startingPoint}
 use Rattle.dequantize.specs.Limits.{splineAreaLimit}
-use Rattle.dequantize.specs.Judge.{Description, sum, startX, startY, deltasOf, splineOf, judgeOf}
-use Rattle.segments.specs.declared.Segment.{Segment}
+use Rattle.dequantize.specs.Judge.{Description, sum, judgeOf}
 use Rattle.curve.specs.Curve.{pathRoom}
 use Rattle.walk.specs.Walk.{walkRoom}
-use Rattle.points.specs.declared.Filled.{Filled}
-use Rattle.points.specs.declared.Filled.the-variants as Filled
 use Rattle.points.specs.Points.{segmentRoom, eights}
-use Rattle.strand.specs.Strand.{Strand, NoRoom, strandOf, strandFilled, segmentsOf}
+use Rattle.painting.specs.Painting.{Painted, All, NoRoomAt, paintOf}
 use Rattle.rows.specs.declared.Listed.{Listed}
 use Rattle.rows.specs.declared.Listed.the-variants as Listed
 use Rattle.rows.specs.Rows.{inRow, built, Outcome}
-use Rattle.table.specs.declared.Drawn.{Drawn}
-use Rattle.table.specs.declared.Drawn.the-variants as Drawn
 use Rattle.table.specs.declared.BuildAnswer.{BuildAnswer}
 use Rattle.table.specs.declared.BuildAnswer.the-variants.{Done, Refused}
 
@@ -44,6 +34,15 @@ pub record Rooms : Type 0 where
   pub starts : ℕ
   pub entries : ℕ
 
+abbrev pub roomsOf : List Float → List Float → List Float → List ℕ → List ℕ → Rooms
+roomsOf path walk segments starts entries = record {
+  path = length path;
+  walk = length walk;
+  segments = length segments;
+  starts = length starts;
+  entries = length entries;
+}
+
 -- the numbers beside the description
 pub record Image : Type 0 where
   pub adjustment : ℤ
@@ -54,119 +53,112 @@ pub record Image : Type 0 where
   pub high : Bool
   pub level10 : Bool
 
+abbrev pub imageOf : ℤ → ℕ → ℕ → Float → Float → Bool → Bool → Image
+imageOf adjustment width height ytox ytob high level10 = record {
+  adjustment = adjustment;
+  width = width;
+  height = height;
+  ytox = ytox;
+  ytob = ytob;
+  high = high;
+  level10 = level10;
+}
+
 abbrev pub givenOf : Image → Given
 givenOf i = record { adjustment = i .adjustment; «y_to_x» = i .ytox; «y_to_b» = i .ytob; limit = splineAreaLimit (i .level10) (i .width * i .height) }
 
--- ---- all splines, drawn
+-- ---- what a build answers and leaves
 
--- the spline k; a start that is no place was refused before
-abbrev pub strandAt : ℕ → ℕ → Start → List ℤ → Spline → Bool → Strand
-strandAt p w Out ds s high = NoRoom
-strandAt p w (At start) ds s high = strandOf p w start ds s high
+-- an answer in the terms of the table of codes: the code's number, the place, and the counts
+pub record Told : Type 0 where
+  pub number : ℕ
+  pub place : ℕ
+  pub segments : ℕ
+  pub entries : ℕ
+  pub estimate : ℕ
 
-unfoldable pub strandOfSpline : Description → Given → Bool → ℕ → ℕ → ℕ → Strand
-strandOfSpline d g high p w k = strandAt p w (startingPoint (startX d k) (startY d k)) (deltasOf d k) (splineOf d g k) high
+-- a success is number 0 at place 0; a refusal has counts of 0
+abbrev pub toldOf : BuildAnswer → Told
+toldOf (Done s n a) = record { number = 0; place = 0; segments = s; entries = n; estimate = a }
+toldOf (Refused c p) = record { number = numberOf c; place = p; segments = 0; entries = 0; estimate = 0 }
 
--- the segments of all splines, or the number of the spline that has no room
-pub data Painted : Type 0 where
-  All : List Segment → Painted
-  NoRoomAt : ℕ → Painted
-
-abbrev pub afterStrand : Filled → ℕ → Painted → Painted
-afterStrand Filled.Room k rest = NoRoomAt k
-afterStrand (Filled.Count n) k rest = rest
-
--- the n splines from k on, after the segments done, with room for p points of a path, w points of a walk and room segments
-unfoldable pub paintFrom : Description → Given → Bool → ℕ → ℕ → ℕ → ℕ → ℕ → List Segment → Painted
-paintFrom d g high p w room zero k done = All done
-paintFrom d g high p w room (suc n) k done =
-    let s = strandOfSpline d g high p w k in
-    afterStrand (strandFilled room (length done) s) k (paintFrom d g high p w room n (suc k) (done ++ segmentsOf s))
-
-unfoldable pub paintOf : Description → Given → Bool → ℕ → ℕ → ℕ → Painted
-paintOf d g high p w room = paintFrom d g high p w room (length (d .counts)) 0 []
-
--- the description was judged
-pub record Passed (d : Description) (g : Given) : Type 0 where
-  pub total : ℕ
-  pub fine : judgeOf d g ≡ Judged.Fine total
-
-abbrev pub drawnOf : Painted → Drawn
-drawnOf (All segs) = Drawn.Count (length segs)
-drawnOf (NoRoomAt k) = Drawn.Room k
-
--- o is the buffer before, e after; without room nothing is said of it
-abbrev pub DrawnOn : Painted → List Float → List Float → Type 0
-DrawnOn (NoRoomAt k) o e = Unit
-DrawnOn (All segs) o e = (e ≡ sets o 0 (eights segs)) × (length segs ≤ segmentRoom (length o))
-
--- ---- the build
-
--- what a build answers, and the lent cells as it leaves them
+-- the answer, what it tells, and the five lent buffers
 pub record Table : Type 0 where
   pub answer : BuildAnswer
+  pub told : Told
   pub path : List Float
   pub walk : List Float
   pub segments : List Float
   pub starts : List ℕ
   pub entries : List ℕ
 
+abbrev pub leaves : BuildAnswer → List Float → List Float → List Float → List ℕ → List ℕ → Table
+leaves r path walk segments starts entries = record {
+  answer = r;
+  told = toldOf r;
+  path = path;
+  walk = walk;
+  segments = segments;
+  starts = starts;
+  entries = entries;
+}
+
 abbrev pub zeros : ℕ → List Float
 zeros n = replicate n (ofBits binary32 0)
-
--- every lent cell zero
-unfoldable pub refusedWith : Rooms → Code → ℕ → Table
-refusedWith r code place = record {
-  answer = Refused code place;
-  path = zeros (r .path);
-  walk = zeros (r .walk);
-  segments = zeros (r .segments);
-  starts = replicate (r .starts) 0;
-  entries = replicate (r .entries) 0;
-}
 
 -- the numbers of a list, then zeros up to n cells
 abbrev pub padded : ℕ → List Float → List Float
 padded n xs = xs ++ zeros (n - length xs)
 
--- ROOM for the entries, or the table
-abbrev pub afterRows : Rooms → ℕ → List Segment → Outcome → Table
-afterRows r estimate segs o = go (o .answer)
+-- every lent cell zero
+unfoldable pub refusedWith : Rooms → Code → ℕ → Table
+refusedWith r code place =
+    leaves (Refused code place) (zeros (r .path)) (zeros (r .walk)) (zeros (r .segments)) (replicate (r .starts) 0) (replicate (r .entries) 0)
+
+-- ---- the checks before any drawing
+
+abbrev pub sized : ℕ → ℕ → Bool
+sized width height = leb width (2 ^ 23) && leb height (2 ^ 23)
+
+-- lengths that agree
+unfoldable pub shaped : Description → Bool
+shaped d =
+    eqb (length (d .starts)) (2 * length (d .counts))
+    && (eqb (length (d .deltas)) (2 * sum (d .counts)) && eqb (length (d .coefficients)) (128 * length (d .counts)))
+
+abbrev pub orRefused : Bool → Code → Judged → Judged
+orRefused true code rest = rest
+orRefused false code rest = Judged.Refused code 0
+
+-- SIZE, SHAPE, ROOM for the row starts, then every spline judged
+unfoldable pub verdictOf : Description → Given → ℕ → ℕ → ℕ → Judged
+verdictOf d g width height rows =
+    orRefused (sized width height) Code.Size
+    (orRefused (shaped d) Code.Shape
+    (orRefused (leb (suc height) rows) Code.Room
+    (judgeOf d g)))
+
+-- ---- the build
+
+-- ROOM for the entries, or the table of so many segments, whose numbers are given
+abbrev pub afterRows : Rooms → ℕ → ℕ → List Float → Outcome → Table
+afterRows r estimate count numbers o = go (o .answer)
   where
     go : Listed → Table
     go Listed.Room = refusedWith r Code.Room 0
-    go (Listed.Entries n) = record {
-      answer = Done (length segs) n estimate;
-      path = zeros (r .path);
-      walk = zeros (r .walk);
-      segments = padded (r .segments) (eights segs);
-      starts = o .starts;
-      entries = o .entries;
-    }
+    go (Listed.Entries n) = leaves (Done count n estimate) (zeros (r .path)) (zeros (r .walk)) (padded (r .segments) numbers) (o .starts) (o .entries)
 
 abbrev pub afterPaint : Rooms → ℕ → ℕ → Painted → Table
 afterPaint r height estimate (NoRoomAt k) = refusedWith r Code.Room k
 afterPaint r height estimate (All segs) =
-    afterRows r estimate segs (built (inRow (eights segs)) (length segs) height (r .starts) (r .entries))
+    afterRows r estimate (length segs) (eights segs) (built (inRow (eights segs)) (length segs) height (r .starts) (r .entries))
 
 abbrev pub afterJudge : Rooms → ℕ → Judged → Painted → Table
 afterJudge r height (Judged.Refused code k) painted = refusedWith r code k
 afterJudge r height (Judged.Fine estimate) painted = afterPaint r height estimate painted
 
-abbrev pub orRefused : Bool → Rooms → Code → Table → Table
-orRefused true r code rest = rest
-orRefused false r code rest = refusedWith r code 0
-
--- lengths that agree
-abbrev pub shaped : Description → Bool
-shaped d =
-    eqb (length (d .starts)) (2 * length (d .counts))
-    && (eqb (length (d .deltas)) (2 * sum (d .counts)) && eqb (length (d .coefficients)) (128 * length (d .counts)))
-
--- SIZE, SHAPE, ROOM for the row starts, then every spline judged, then every spline drawn, then ROOM for the entries
+-- the checks and all splines judged, then every spline drawn, then ROOM for the entries
 unfoldable pub buildOf : Description → Image → Rooms → Table
 buildOf d i r =
-    orRefused (leb (i .width) (2 ^ 23) && leb (i .height) (2 ^ 23)) r Code.Size
-    (orRefused (shaped d) r Code.Shape
-    (orRefused (leb (suc (i .height)) (r .starts)) r Code.Room
-    (afterJudge r (i .height) (judgeOf d (givenOf i)) (paintOf d (givenOf i) (i .high) (pathRoom (r .path)) (walkRoom (r .walk)) (segmentRoom (r .segments))))))
+    afterJudge r (i .height) (verdictOf d (givenOf i) (i .width) (i .height) (r .starts))
+    (paintOf d (givenOf i) (i .high) (pathRoom (r .path)) (walkRoom (r .walk)) (segmentRoom (r .segments)))

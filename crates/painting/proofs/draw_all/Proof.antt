@@ -11,11 +11,11 @@ use Rattle.curve.specs.Curve.{pathRoom}
 use Rattle.walk.specs.Walk.{walkRoom}
 use Rattle.points.specs.Points.{segmentRoom, FilledOn}
 use Rattle.strand.specs.Strand.{strandFilled, segmentsOf}
-use Rattle.table.specs.declared.Drawn.the-variants as Drawn
-use Rattle.table.specs.Table.{Passed, strandOfSpline, paintOf, All, NoRoomAt}
-use Rattle.table.proofs.Painting.{Painting, painting-none, painting-all, painting-room, painting-more, part-is}
-use Rattle.table.proofs.draw_all.Statement.{statement}
-use Rattle.table.proofs.draw_all.Tie as tie
+use Rattle.painting.specs.declared.Drawn.the-variants as Drawn
+use Rattle.painting.specs.Painting.{Passed, strandOfSpline, paintOf, All, NoRoomAt}
+use Rattle.painting.proofs.Painting.{Painting, painting-none, painting-all, painting-room, painting-more, part-is}
+use Rattle.painting.proofs.draw_all.Statement.{statement}
+use Rattle.painting.proofs.draw_all.Tie as tie
 
 abbrev Inv-loop : tie.InvT-loop
 Inv-loop counts starts deltas coefficients given high-precision path₀ walk₀ out₀ k₀ at₀ count₀ path walk out k at count =

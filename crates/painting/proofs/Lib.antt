@@ -1,0 +1,3 @@
+-- The laws of the crate `painting`.
+pub mod Starts
+pub mod Painting

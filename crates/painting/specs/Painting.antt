@@ -1,0 +1,64 @@
+-- The second loop of `initialize_draw_cache` of spline.rs over lent buffers: each spline of a judged description is drawn. Definitions only.
+use mathlib.Core.Path.{_≡_}
+use mathlib.Core.Bool.{Bool}
+use mathlib.Core.List.{List, [], _++_}
+use Prim.Native.Nat.{ℕ, zero, suc, _≤_}
+use lib.IntN.{ℤ}
+use lib.ListN.{length}
+use lib.Seq.{sets}
+use lib.Ieee.{Float}
+use Rattle.dequantize.specs.declared.Given.{Given}
+use Rattle.dequantize.specs.declared.Spline.{Spline}
+use Rattle.dequantize.specs.declared.control_points.Start.{Start}
+use Rattle.dequantize.specs.declared.control_points.Start.the-variants.{At, Out}
+use Rattle.dequantize.specs.declared.judge.Judged.the-variants as Judged
+use Rattle.dequantize.specs.ControlPoints.{startingPoint}
+use Rattle.dequantize.specs.Judge.{Description, startX, startY, deltasOf, splineOf, judgeOf}
+use Rattle.segments.specs.declared.Segment.{Segment}
+use Rattle.points.specs.declared.Filled.{Filled}
+use Rattle.points.specs.declared.Filled.the-variants as Filled
+use Rattle.points.specs.Points.{segmentRoom, eights}
+use Rattle.strand.specs.Strand.{Strand, NoRoom, strandOf, strandFilled, segmentsOf}
+use Rattle.painting.specs.declared.Drawn.{Drawn}
+use Rattle.painting.specs.declared.Drawn.the-variants as Drawn
+
+-- the spline k; a start that is no place was refused before
+abbrev pub strandAt : ℕ → ℕ → Start → List ℤ → Spline → Bool → Strand
+strandAt p w Out ds s high = NoRoom
+strandAt p w (At start) ds s high = strandOf p w start ds s high
+
+unfoldable pub strandOfSpline : Description → Given → Bool → ℕ → ℕ → ℕ → Strand
+strandOfSpline d g high p w k = strandAt p w (startingPoint (startX d k) (startY d k)) (deltasOf d k) (splineOf d g k) high
+
+-- the segments of all splines, or the number of the spline that has no room
+pub data Painted : Type 0 where
+  All : List Segment → Painted
+  NoRoomAt : ℕ → Painted
+
+abbrev pub afterStrand : Filled → ℕ → Painted → Painted
+afterStrand Filled.Room k rest = NoRoomAt k
+afterStrand (Filled.Count n) k rest = rest
+
+-- the n splines from k on, after the segments done, with room for p points of a path, w points of a walk and room segments
+unfoldable pub paintFrom : Description → Given → Bool → ℕ → ℕ → ℕ → ℕ → ℕ → List Segment → Painted
+paintFrom d g high p w room zero k done = All done
+paintFrom d g high p w room (suc n) k done =
+    let s = strandOfSpline d g high p w k in
+    afterStrand (strandFilled room (length done) s) k (paintFrom d g high p w room n (suc k) (done ++ segmentsOf s))
+
+unfoldable pub paintOf : Description → Given → Bool → ℕ → ℕ → ℕ → Painted
+paintOf d g high p w room = paintFrom d g high p w room (length (d .counts)) 0 []
+
+-- the description was judged
+pub record Passed (d : Description) (g : Given) : Type 0 where
+  pub total : ℕ
+  pub fine : judgeOf d g ≡ Judged.Fine total
+
+abbrev pub drawnOf : Painted → Drawn
+drawnOf (All segs) = Drawn.Count (length segs)
+drawnOf (NoRoomAt k) = Drawn.Room k
+
+-- o is the buffer before, e after; without room nothing is said of it
+abbrev pub DrawnOn : Painted → List Float → List Float → Type 0
+DrawnOn (NoRoomAt k) o e = Unit
+DrawnOn (All segs) o e = (e ≡ sets o 0 (eights segs)) × (length segs ≤ segmentRoom (length o))

@@ -1,0 +1,105 @@
+// All splines of a judged description, each drawn in turn: their segments in a lent buffer, or the first without room.
+ghost use mathlib.Core.Path.{_≡_};
+ghost use Prim.Native.Nat.{_+_, _*_, _≤_};
+ghost use lib.ListN.{length, getD, take, drop};
+ghost use lib.Ieee.{nan};
+ghost use Rattle.points.specs.Points.{segmentRoom, FilledOn};
+ghost use Rattle.dequantize.specs.ControlPoints.{startingPoint};
+ghost use Rattle.dequantize.specs.Dequantize.{dequantizeOf};
+ghost use Rattle.dequantize.proofs.Accepted.{Accepted};
+ghost use Rattle.curve.specs.Curve.{pathRoom};
+ghost use Rattle.walk.specs.Walk.{walkRoom};
+ghost use Rattle.strand.specs.Strand.{strandFilled, segmentsOf};
+ghost use Rattle.dequantize.specs.Judge.{descriptionOf, Shaped};
+ghost use Rattle.painting.specs.Painting.{strandAt, Passed, paintOf, drawnOf, DrawnOn};
+use dequantize::Given;
+use dequantize::control_points::Start;
+use points::Filled;
+
+// How many segments there are, or the number of the spline that has no room.
+pub enum Drawn {
+    Count(usize),
+    Room(usize),
+}
+
+// The segments of the spline k, whose double deltas are given.
+fn draw_one(
+    starts: &[f32],
+    deltas: &[i32],
+    coefficients: &[i32],
+    k: usize,
+    given: Given,
+    high_precision: bool,
+    path: &mut [f32],
+    walk: &mut [f32],
+    out: &mut [f32],
+    from: usize,
+) -> Filled
+    requires { ⌜ (2 * k + 2 ≤ length (now starts)) × (128 * k + 128 ≤ length (now coefficients)) × (from ≤ segmentRoom (length (now out)))
+        × Accepted (getD (now starts) (2 * k) nan) (getD (now starts) (2 * k + 1) nan) (now deltas) (take 128 (drop (128 * k) (now coefficients))) given ⌝ }
+    ensures { λ r. ⌜ (r ≡ strandFilled (segmentRoom (length (now (out .entry)))) from (strandAt (pathRoom (length (now (path .entry)))) (walkRoom (length (now (walk .entry)))) (startingPoint (getD (now (starts .entry)) (2 * k) nan) (getD (now (starts .entry)) (2 * k + 1) nan)) (now (deltas .entry)) (dequantizeOf (getD (now (starts .entry)) (2 * k) nan) (getD (now (starts .entry)) (2 * k + 1) nan) (now (deltas .entry)) (take 128 (drop (128 * k) (now (coefficients .entry)))) given) «high_precision»))
+        × FilledOn r from (segmentsOf (strandAt (pathRoom (length (now (path .entry)))) (walkRoom (length (now (walk .entry)))) (startingPoint (getD (now (starts .entry)) (2 * k) nan) (getD (now (starts .entry)) (2 * k + 1) nan)) (now (deltas .entry)) (dequantizeOf (getD (now (starts .entry)) (2 * k) nan) (getD (now (starts .entry)) (2 * k + 1) nan) (now (deltas .entry)) (take 128 (drop (128 * k) (now (coefficients .entry)))) given) «high_precision»)) (now (out .entry)) (now (out .exit)) ⌝ }
+{
+    let spline = dequantize::judge::spline_at(starts, deltas, coefficients, k, given);
+    match dequantize::control_points::starting_point(starts[2 * k], starts[2 * k + 1]) {
+        Start::Out => Filled::Room,
+        Start::At(start) => strand::draw_spline(
+            start,
+            deltas,
+            spline,
+            high_precision,
+            path,
+            walk,
+            out,
+            from,
+        ),
+    }
+}
+
+fn wide(x: u32) -> usize
+    ensures { λ r. ⌜ r ≡ x ⌝ }
+{
+    x as usize
+}
+
+// The segments of all splines of a description that was judged before.
+pub fn draw_all(
+    counts: &[u32],
+    starts: &[f32],
+    deltas: &[i32],
+    coefficients: &[i32],
+    given: Given,
+    high_precision: bool,
+    path: &mut [f32],
+    walk: &mut [f32],
+    out: &mut [f32],
+) -> Drawn
+    requires { ⌜ Shaped (descriptionOf (now counts) (now starts) (now deltas) (now coefficients)) × Passed (descriptionOf (now counts) (now starts) (now deltas) (now coefficients)) given ⌝ }
+    ensures { λ r. ⌜ (r ≡ drawnOf (paintOf (descriptionOf (now (counts .entry)) (now (starts .entry)) (now (deltas .entry)) (now (coefficients .entry))) given «high_precision» (pathRoom (length (now (path .entry)))) (walkRoom (length (now (walk .entry)))) (segmentRoom (length (now (out .entry))))))
+        × DrawnOn (paintOf (descriptionOf (now (counts .entry)) (now (starts .entry)) (now (deltas .entry)) (now (coefficients .entry))) given «high_precision» (pathRoom (length (now (path .entry)))) (walkRoom (length (now (walk .entry)))) (segmentRoom (length (now (out .entry))))) (now (out .entry)) (now (out .exit)) ⌝ }
+{
+    let mut k = 0;
+    let mut at = 0;
+    let mut count = 0;
+    while k < counts.len() {
+        let end = at + 2 * wide(counts[k]);
+        let Filled::Count(more) = draw_one(
+            starts,
+            &deltas[at..end],
+            coefficients,
+            k,
+            given,
+            high_precision,
+            path,
+            walk,
+            out,
+            count,
+        ) else {
+            return Drawn::Room(k);
+        };
+        count = more;
+        at = end;
+        k += 1;
+    }
+    Drawn::Count(count)
+}

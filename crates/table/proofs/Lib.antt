@@ -1,3 +1,0 @@
--- The laws of the crate `table`.
-pub mod Starts
-pub mod Painting
