@@ -1,0 +1,163 @@
+-- What an accepted build leaves: a refusal is not done, so every check of `buildOf` has passed, and the cells are those of the last step.
+use mathlib.Core.Path.{_≡_, refl, sym, ap, _∙_}
+use mathlib.Core.Bool.{Bool, true, false}
+use mathlib.Core.List.{List, [], _++_}
+use Prim.Native.Nat.{ℕ, zero, suc, _+_, _^_, _≤_, _<_}
+use native.Mathlib.Omega.{arith}
+use lib.Dec.{leb}
+use lib.ListN.{length, length-append}
+use borrow.Author.Tests.{leb-true}
+use Rattle.codes.specs.declared.Code.{Code}
+use Rattle.codes.specs.declared.Code.the-variants as Code
+use Rattle.dequantize.specs.declared.Given.{Given}
+use Rattle.dequantize.specs.declared.judge.Judged.{Judged}
+use Rattle.dequantize.specs.declared.judge.Judged.the-variants as Judged
+use Rattle.dequantize.specs.Judge.{Description, judgeOf}
+use Rattle.segments.specs.declared.Segment.{Segment}
+use Rattle.curve.specs.Curve.{pathRoom}
+use Rattle.walk.specs.Walk.{walkRoom}
+use Rattle.points.specs.declared.Filled.{Filled}
+use Rattle.points.specs.declared.Filled.the-variants.{Count, Room}
+use Rattle.points.specs.Points.{segmentRoom, eights}
+use Rattle.points.proofs.Adding.{count-got}
+use Rattle.strand.specs.Strand.{Strand, NoRoom, Segments, strandFilled, segmentsOf}
+use Rattle.rows.specs.declared.Listed.{Listed}
+use Rattle.rows.specs.declared.Listed.the-variants as Listed
+use Rattle.rows.specs.Rows.{inRow, Outcome, outcome, built}
+use Rattle.painting.specs.Painting.{strandOfSpline, Painted, All, NoRoomAt, afterStrand, paintFrom, paintOf}
+use Rattle.table.specs.Table.{Rooms, Image, Table, givenOf, refusedWith, padded, sized, shaped, orRefused, verdictOf, afterRows, afterJudge, buildOf}
+use Rattle.table.specs.declared.BuildAnswer.the-variants.{Done}
+use Rattle.draw.proofs.Entries.{and-left, and-right}
+
+-- ---- the segments have room
+
+strand-fits : (room count : ℕ) (s : Strand) (n : ℕ) → Count n ≡ strandFilled room count s → count + length (segmentsOf s) ≤ room
+strand-fits room count NoRoom n e = absurd (let z : _≡_ {A = ℕ} 0 1 = cc in omega arith)
+strand-fits room count (Segments segs) n e = count-got room count segs n e .1
+
+paint-fits : (d : Description) (g : Given) (high : Bool) (p w room n k : ℕ) (done segs : List Segment) → length done ≤ room → paintFrom d g high p w room n k done ≡ All segs → length segs ≤ room
+unfolding paintFrom
+paint-fits d g high p w room zero k done segs h e = let q : done ≡ segs = cc in rw q at h
+paint-fits d g high p w room (suc n) k done segs h e = go (strandFilled room (length done) s) refl (paint-fits d g high p w room n (suc k) (done ++ segmentsOf s) segs) e
+  where
+    s : Strand
+    s = strandOfSpline d g high p w k
+
+    rest : Painted
+    rest = paintFrom d g high p w room n (suc k) (done ++ segmentsOf s)
+
+    go : (f : Filled) → strandFilled room (length done) s ≡ f → (length (done ++ segmentsOf s) ≤ room → rest ≡ All segs → length segs ≤ room) → afterStrand f k rest ≡ All segs → length segs ≤ room
+    go Room q ih e = absurd (let z : _≡_ {A = ℕ} 0 1 = cc in omega arith)
+    go (Count m) q ih e = ih (omega (arith, length-append done (segmentsOf s), strand-fits room (length done) s m (sym q))) e
+
+all-fit : (d : Description) (g : Given) (high : Bool) (p w room : ℕ) (segs : List Segment) → paintOf d g high p w room ≡ All segs → length segs ≤ room
+unfolding paintOf
+all-fit d g high p w room segs e = paint-fits d g high p w room (length (d .counts)) 0 [] segs (omega arith) e
+
+-- ---- from the end of the checks to their beginning
+
+module _ (r : Rooms) (t : Table) (s e est : ℕ) (done : t .answer ≡ Done s e est) where
+  -- a refusal is not done
+  refused-not : (c : Code) (k : ℕ) → t ≡ refusedWith r c k → ⊥
+  unfolding refusedWith
+  refused-not c k q = let z : _≡_ {A = ℕ} 0 1 = cc (sym (ap (λ (b : Table). b .answer) q) ∙ done) in omega arith
+
+  -- the rows were listed
+  record Listing (estimate : ℕ) (segs : List Segment) (o : Outcome) : Type 0 where
+    same : estimate ≡ est
+    size : length segs ≡ s
+    listed : o .answer ≡ Listed.Entries e
+    segments : t .segments ≡ padded (r .segments) (eights segs)
+    starts : t .starts ≡ o .starts
+    entries : t .entries ≡ o .entries
+
+  rows-listed : (estimate : ℕ) (segs : List Segment) (l : Listed) (ss es : List ℕ) → t ≡ afterRows r estimate (length segs) (eights segs) (outcome l ss es)
+      → Listing estimate segs (outcome l ss es)
+  rows-listed estimate segs Listed.Room ss es q = absurd (refused-not Code.Room 0 q)
+  rows-listed estimate segs (Listed.Entries n) ss es q =
+      let a : Done (length segs) n estimate ≡ Done s e est = sym (ap (λ (b : Table). b .answer) q) ∙ done in
+      let m : n ≡ e = cc in
+      record {
+        same = cc;
+        size = cc;
+        listed = ap Listed.Entries m;
+        segments = ap (λ (b : Table). b .segments) q;
+        starts = ap (λ (b : Table). b .starts) q;
+        entries = ap (λ (b : Table). b .entries) q;
+      }
+
+  -- every spline was judged and drawn
+  record Ended (H : ℕ) (j : Judged) (p : Painted) : Type 0 where
+    segs : List Segment
+    estimate : ℕ
+    judged : j ≡ Judged.Fine estimate
+    painted : p ≡ All segs
+    listing : Listing estimate segs (built (inRow (eights segs)) (length segs) H (r .starts) (r .entries))
+
+  ended : (H : ℕ) (j : Judged) (p : Painted) → t ≡ afterJudge r H j p → Ended H j p
+  ended H (Judged.Refused c k) p q = absurd (refused-not c k q)
+  ended H (Judged.Fine estimate) (NoRoomAt k) q = absurd (refused-not Code.Room k q)
+  ended H (Judged.Fine estimate) (All segs) q =
+      let o = built (inRow (eights segs)) (length segs) H (r .starts) (r .entries) in
+      record { segs = segs; estimate = estimate; judged = refl; painted = refl; listing = rows-listed estimate segs (o .answer) (o .starts) (o .entries) q }
+
+passed : (b : Bool) (c : Code) (rest : Judged) (n : ℕ) → orRefused b c rest ≡ Judged.Fine n → (b ≡ true) × (rest ≡ Judged.Fine n)
+passed true c rest n q = (refl, q)
+passed false c rest n q = absurd (let z : _≡_ {A = ℕ} 0 1 = cc in omega arith)
+
+-- every check before the splines, and the splines themselves
+record Fine (d : Description) (g : Given) (width height rows n : ℕ) : Type 0 where
+  narrow : width ≤ 2 ^ 23
+  low : height ≤ 2 ^ 23
+  fits : height < rows
+  judged : judgeOf d g ≡ Judged.Fine n
+
+fine : (d : Description) (g : Given) (width height rows n : ℕ) → verdictOf d g width height rows ≡ Judged.Fine n → Fine d g width height rows n
+unfolding verdictOf
+fine d g width height rows n q =
+    let size = passed (sized width height) Code.Size _ n q in
+    let shape = passed (shaped d) Code.Shape _ n (size .1) in
+    let room = passed (leb (suc height) rows) Code.Room _ n (shape .1) in
+    record {
+      narrow = leb-true _ _ (and-left (leb width (2 ^ 23)) (leb height (2 ^ 23)) (size .0));
+      low = leb-true _ _ (and-right (leb width (2 ^ 23)) (leb height (2 ^ 23)) (size .0));
+      fits = leb-true _ _ (room .0);
+      judged = room .1;
+    }
+
+-- what an accepted build is
+pub record Accepted (d : Description) (i : Image) (r : Rooms) (t : Table) (s e est : ℕ) : Type 0 where
+  pub segs : List Segment
+  pub narrow : i .width ≤ 2 ^ 23
+  pub low : i .height ≤ 2 ^ 23
+  pub fits-starts : i .height < r .starts
+  pub judged : judgeOf d (givenOf i) ≡ Judged.Fine est
+  pub painted : paintOf d (givenOf i) (i .high) (pathRoom (r .path)) (walkRoom (r .walk)) (segmentRoom (r .segments)) ≡ All segs
+  pub fits-segments : length segs ≤ segmentRoom (r .segments)
+  pub size : length segs ≡ s
+  pub listed : built (inRow (eights segs)) (length segs) (i .height) (r .starts) (r .entries) .answer ≡ Listed.Entries e
+  pub segments : t .segments ≡ padded (r .segments) (eights segs)
+  pub starts : t .starts ≡ built (inRow (eights segs)) (length segs) (i .height) (r .starts) (r .entries) .starts
+  pub entries : t .entries ≡ built (inRow (eights segs)) (length segs) (i .height) (r .starts) (r .entries) .entries
+
+pub accepted : (d : Description) (i : Image) (r : Rooms) (t : Table) (s e est : ℕ) → t ≡ buildOf d i r → t .answer ≡ Done s e est → Accepted d i r t s e est
+unfolding buildOf
+accepted d i r t s e est q done =
+    let g = ended r t s e est done (i .height) (verdictOf d (givenOf i) (i .width) (i .height) (r .starts)) (paintOf d (givenOf i) (i .high) (pathRoom (r .path)) (walkRoom (r .walk)) (segmentRoom (r .segments))) q in
+    let f = fine d (givenOf i) (i .width) (i .height) (r .starts) (g .estimate) (g .judged) in
+    record {
+      segs = g .segs;
+      narrow = f .narrow;
+      low = f .low;
+      fits-starts = f .fits;
+      judged = f .judged ∙ ap Judged.Fine (g .listing .same);
+      painted = g .painted;
+      fits-segments = all-fit d (givenOf i) (i .high) (pathRoom (r .path)) (walkRoom (r .walk)) (segmentRoom (r .segments)) (g .segs) (g .painted);
+      size = g .listing .size;
+      listed = g .listing .listed;
+      segments = g .listing .segments;
+      starts = g .listing .starts;
+      entries = g .listing .entries;
+    }
+
+-- Assumes nothing.

@@ -1,0 +1,7 @@
+-- The laws of the crate `picture`.
+pub mod Flat
+pub mod Pixels
+pub mod Accepted
+pub mod Tables
+pub mod Pictures
+pub mod Rooms

@@ -1,0 +1,164 @@
+-- A built table passes the checks of drawing for every row, and each row lists the segments that have it: the laws of the row table, over the segments that were drawn.
+use mathlib.Core.Path.{_≡_, refl, sym, ap, _∙_}
+use mathlib.Core.Bool.{Bool, true}
+use mathlib.Core.Logic.{⊎-elim}
+use mathlib.Core.List.{List, [], _∷_, _++_, append-nil}
+use Prim.Native.Nat.{ℕ, zero, suc, _+_, _-_, _*_, _^_, _≤_, _<_}
+use native.Mathlib.Omega.{arith}
+use native.Mathlib.Numerals.{add-one}
+use lib.Dec.{ltb}
+use lib.ListN.{length, getD, length-append}
+use lib.Ieee.{Float}
+use borrow.Author.Tests.{lt-ltb, le-leb}
+use Rattle.dequantize.specs.Judge.{Description}
+use Rattle.segments.specs.declared.Segment.{Segment}
+use Rattle.segments.specs.Segment.{segmentAt}
+use Rattle.segments.specs.Ranges.{hasRow}
+use Rattle.points.specs.Points.{eights}
+use Rattle.points.proofs.Adding.{length-eights}
+use Rattle.rows.specs.declared.Listed.{Listed}
+use Rattle.rows.specs.declared.Listed.the-variants as Listed
+use Rattle.rows.specs.Rows as rows
+use Rattle.rows.specs.Rows.{inRow, listed, upTo, startOf, Outcome}
+use Rattle.rows.proofs.Counts.{listed-in, by-row}
+use Rattle.rows.proofs.Users as users
+use Rattle.table.specs.Table.{Rooms, Image, zeros}
+use Rattle.draw.proofs.Entries.{and-left, and-right}
+use Rattle.draw.specs.Draw.{pixel, updates, rowOf, allBelow, countsGood, entriesGood, rowGood}
+use Rattle.picture.specs.Picture.{Built, built, segmentsOf, pixelOf, rowPairs}
+use Rattle.picture.proofs.Flat.{segment-at}
+use Rattle.picture.proofs.Pixels.{pixel-is, pairs-are}
+use Rattle.picture.proofs.Accepted.{Accepted, accepted}
+
+-- ---- a listing that was accepted
+
+entriesIn : Listed → ℕ
+entriesIn (Listed.Entries n) = n
+entriesIn Listed.Room = 0
+
+-- what the counts are, also where there is no row
+record Fits (H e : ℕ) (o : Outcome) : Type 0 where
+  few : e ≤ 2 ^ 30
+  room : e ≤ length (o .entries)
+  tall : H + 1 ≤ length (o .starts)
+
+fits-listing : (has : ℕ → ℕ → Bool) (S H ns ne e : ℕ) → H < ns → rows.built has S H ns ne .answer ≡ Listed.Entries e → Fits H e (rows.built has S H ns ne)
+unfolding entriesIn
+fits-listing has S H ns ne e w q =
+    ⊎-elim
+    (λ f.
+    let t = users.table-when has S H ns ne f in
+    let n : startOf has S H ≡ e = ap entriesIn (sym (ap (λ (o : Outcome). o .answer) t) ∙ q) in
+    record {
+      few = omega (arith, n, f .1);
+      room = omega (arith, n, f .0, ap (λ (o : Outcome). length (o .entries)) t, users.length-padded ne (rows.rows has S H) (f .0));
+      tall = omega (arith, ap (λ (o : Outcome). length (o .starts)) t, users.length-padded ns (upTo (startOf has S) (suc H)) (omega (arith, users.length-up-to (startOf has S) (suc H))));
+    })
+    (λ f. let z : _≡_ {A = ℕ} 0 1 = cc (ap (λ (o : Outcome). o .answer) (users.room-when has S H ns ne f), q) in absurd (omega arith))
+    (users.either has S H ns ne)
+
+checks-of : (has : ℕ → ℕ → Bool) (S H ns ne e : ℕ) → H < ns → rows.built has S H ns ne .answer ≡ Listed.Entries e
+    → (y : ℕ) → y < H → {ss es : List ℕ} → ss ≡ rows.built has S H ns ne .starts → es ≡ rows.built has S H ns ne .entries → users.Checks has S H e y ss es
+checks-of has S H ns ne e w q y h p s = rw (p, s) (users.accepted has S H ns ne e y h w q)
+
+-- a row's list names segments
+below-append : (m : ℕ) (is js : List ℕ) → allBelow m is ≡ true → allBelow m js ≡ true → allBelow m (is ++ js) ≡ true
+below-append m [] js h k = k
+below-append m (i ∷ is) js h k =
+    rw (and-left (ltb i m) (allBelow m is) h) (below-append m is js (and-right (ltb i m) (allBelow m is) h) k)
+
+listed-below : (has : ℕ → ℕ → Bool) (m y n : ℕ) → n ≤ m → allBelow m (listed has y n) ≡ true
+unfolding listed
+listed-below has m y zero h = refl
+listed-below has m y (suc n) h =
+    by-row has (allBelow m (listed has y (suc n)) ≡ true) y n
+    (λ e. rw (listed-in has y n e) (below-append m (listed has y n) (n ∷ []) (listed-below has m y n (omega arith)) (rw (lt-ltb n m h))))
+    (λ e. rw e (listed-below has m y n (omega arith)))
+
+listed-same : (has other : ℕ → ℕ → Bool) (y n : ℕ) → ((i : ℕ) → i < n → has i y ≡ other i y) → listed has y n ≡ listed other y n
+unfolding listed
+listed-same has other y zero h = refl
+listed-same has other y (suc n) h = rw (h n (omega arith), listed-same has other y n (λ i k. h i (omega arith)))
+
+-- ---- the built table
+
+-- what stands where no segment is
+abbrev none : Segment
+none = segmentAt [] 0
+
+-- a segment of a list that was laid flat, with nothing behind it
+alone : (segs : List Segment) (k : ℕ) → k < length segs → segmentAt (eights segs) k ≡ getD segs k none
+alone segs k l = ap (λ (m : List Float). segmentAt m k) (sym (append-nil (eights segs))) ∙ segment-at segs [] none k l
+
+module _ {d : Description} {i : Image} {r : Rooms} (b : Built d i r) where
+  pub facts : Accepted d i r (b .left) (b .segments) (b .entries) (b .estimate)
+  facts = accepted d i r (b .left) (b .segments) (b .entries) (b .estimate) (b .outcome) (b .done)
+
+  -- the segments that were drawn are those of the table, in their order
+  pub segments-are : facts .segs ≡ segmentsOf d i r
+  unfolding segmentsOf
+  segments-are = rw (facts .painted)
+
+  pub segment-is : (k : ℕ) (e : Segment) → k < length (facts .segs) → segmentAt (b .left .segments) k ≡ getD (facts .segs) k e
+  segment-is k e h = ap (λ (l : List Float). segmentAt l k) (facts .segments) ∙ segment-at (facts .segs) _ e k h
+
+  in-row : (k y : ℕ) → k < length (facts .segs) → inRow (eights (facts .segs)) k y ≡ hasRow (getD (facts .segs) k none) y
+  in-row k y l = ap (λ (s : Segment). hasRow s y) (alone (facts .segs) k l)
+
+  pub counts-good : countsGood (built b) ≡ true
+  unfolding countsGood
+  counts-good =
+      let f = fits-listing (inRow (eights (facts .segs))) (length (facts .segs)) (i .height) (r .starts) (r .entries) (b .entries) (facts .fits-starts) (facts .listed) in
+      let n = ap length (facts .segments) ∙ length-append (eights (facts .segs)) (zeros (r .segments - length (eights (facts .segs)))) in
+      rw (
+        le-leb (b .segments) (2 ^ 24) (omega (arith, facts .size, facts .fits-segments)),
+        le-leb (8 * b .segments) (length (b .left .segments)) (omega (arith, facts .size, n, length-eights (facts .segs))),
+        le-leb (b .entries) (2 ^ 30) (f .few),
+        le-leb (b .entries) (length (b .left .entries)) (rw (facts .entries) (f .room)),
+        le-leb (i .height) (2 ^ 23) (facts .low),
+        le-leb (i .height + 1) (length (b .left .starts)) (rw (facts .starts) (f .tall)),
+      )
+
+  module _ (y : ℕ) (h : y < i .height) where
+    checks : users.Checks (inRow (eights (facts .segs))) (length (facts .segs)) (i .height) (b .entries) y (b .left .starts) (b .left .entries)
+    checks =
+        checks-of (inRow (eights (facts .segs))) (length (facts .segs)) (i .height) (r .starts) (r .entries) (b .entries) (facts .fits-starts) (facts .listed) y h (facts .starts) (facts .entries)
+
+    -- the row's entries, by the segments that were drawn
+    pub row-is : rowOf (built b) y ≡ listed (inRow (eights (facts .segs))) y (length (facts .segs))
+    row-is = rw (add-one y) (checks .row)
+
+    -- the row lists, ascending, the segments of the table that have it
+    pub row-listed : rowOf (built b) y ≡ listed (inRow (b .left .segments)) y (b .segments)
+    row-listed =
+        row-is
+        ∙ listed-same (inRow (eights (facts .segs))) (inRow (b .left .segments)) y (length (facts .segs)) (λ k l. ap (λ (s : Segment). hasRow s y) (same k l))
+        ∙ ap (listed (inRow (b .left .segments)) y) (facts .size)
+      where
+        same : (k : ℕ) → k < length (facts .segs) → segmentAt (eights (facts .segs)) k ≡ segmentAt (b .left .segments) k
+        same k l = alone (facts .segs) k l ∙ sym (segment-is k none l)
+
+    pub row-good : rowGood (built b) y ≡ true
+    unfolding entriesGood
+    row-good =
+        let n : allBelow (b .segments) (rowOf (built b) y) ≡ true = rw row-listed (listed-below (inRow (b .left .segments)) (b .segments) y (b .segments) (omega arith)) in
+        rw (
+          le-leb (getD (b .left .starts) y 0) (getD (b .left .starts) (y + 1) 0) (rw (add-one y) (checks .rises)),
+          le-leb (getD (b .left .starts) (y + 1) 0) (b .entries) (rw (add-one y) (checks .ends)),
+          n,
+        )
+
+    -- a pixel of the row, drawn by its entries, and the updates of its first W pixels
+    pub row-pixel : (c x : ℕ) (v : Float) → pixel c (b .left .segments) y x (rowOf (built b) y) v ≡ pixelOf c (segmentsOf d i r) y x v
+    row-pixel c x v =
+        ap (λ (l : List ℕ). pixel c (b .left .segments) y x l v) row-is
+        ∙ pixel-is (b .left .segments) (facts .segs) none (λ k l. segment-is k none l) (inRow (eights (facts .segs))) in-row c y x v
+        ∙ ap (λ (s : List Segment). pixelOf c s y x v) segments-are
+
+    pub row-pairs : (W : ℕ) → updates (b .left .segments) 0 W (rowOf (built b) y) ≡ rowPairs (segmentsOf d i r) W y
+    row-pairs W =
+        ap (updates (b .left .segments) 0 W) row-is
+        ∙ pairs-are (b .left .segments) (facts .segs) none (λ k l. segment-is k none l) (inRow (eights (facts .segs))) in-row W y
+        ∙ ap (λ (s : List Segment). rowPairs s W y) segments-are
+
+-- Assumes nothing.

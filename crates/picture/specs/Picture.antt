@@ -1,0 +1,72 @@
+-- The picture of a list of segments: each pixel with the segments added that have it, and the pairs of a segment and a pixel that it has. Definitions only.
+use mathlib.Core.Path.{_≡_}
+use mathlib.Core.Bool.{Bool, cond, _&&_}
+use mathlib.Core.List.{List, [], _∷_, foldl}
+use Prim.Native.Nat.{ℕ, zero, suc, _+_}
+use lib.Ieee.{Float}
+use Rattle.dequantize.specs.Judge.{Description}
+use Rattle.curve.specs.Curve.{pathRoom}
+use Rattle.walk.specs.Walk.{walkRoom}
+use Rattle.points.specs.Points.{segmentRoom}
+use Rattle.segments.specs.declared.Segment.{Segment}
+use Rattle.segments.specs.Ranges.{hasRow, hasColumn}
+use Rattle.shade.specs.Shade.{shaded}
+use Rattle.painting.specs.Painting.{Painted, All, NoRoomAt, paintOf}
+use Rattle.table.specs.Table.{Rooms, Image, givenOf, buildOf}
+use Rattle.table.specs.Table as build
+use Rattle.table.specs.declared.BuildAnswer.{BuildAnswer}
+use Rattle.draw.specs.Draw.{count, Table, tableOf, Channels}
+use Rattle.shade.specs.Edit.{edit}
+
+-- whether a segment has the pixel at row y and column x
+abbrev pub hasPixel : Segment → ℕ → ℕ → Bool
+hasPixel s y x = hasRow s y && hasColumn s x
+
+-- a pixel of colour c with one segment added, if the segment has it
+abbrev pub addTo : ℕ → ℕ → ℕ → Float → Segment → Float
+addTo c y x v s = cond (hasPixel s y x) (shaded s y x c v) v
+
+-- with all segments added that have it, in their order
+abbrev pub pixelOf : ℕ → List Segment → ℕ → ℕ → Float → Float
+pixelOf c segments y x v = foldl (addTo c y x) v segments
+
+-- the pairs of a segment and one of the first W pixels of row y that it has
+abbrev pub rowPairs : List Segment → ℕ → ℕ → ℕ
+rowPairs [] W y = 0
+rowPairs (s ∷ segments) W y = count (hasPixel s y) 0 W + rowPairs segments W y
+
+-- the same over H rows from y on
+abbrev pub imagePairs : List Segment → ℕ → ℕ → ℕ → ℕ
+imagePairs segments W y zero = 0
+imagePairs segments W y (suc H) = rowPairs segments W y + imagePairs segments W (suc y) H
+
+-- ---- a built table
+
+-- an outcome that the contract of `build` allows, and that is done
+pub record Built (d : Description) (i : Image) (r : Rooms) : Type 0 where
+  pub left : build.Table
+  pub segments : ℕ
+  pub entries : ℕ
+  pub estimate : ℕ
+  pub outcome : left ≡ buildOf d i r
+  pub done : left .answer ≡ BuildAnswer.Done segments entries estimate
+
+-- the table as drawing takes it
+abbrev pub built : {d : Description} {i : Image} {r : Rooms} → Built d i r → Table
+built {d} {i} {r} b = tableOf (b .left .segments) (b .segments) (b .left .entries) (b .entries) (b .left .starts) (i .height)
+
+abbrev pub paintedSegments : Painted → List Segment
+paintedSegments (All segments) = segments
+paintedSegments (NoRoomAt k) = []
+
+-- the segments of a description, in the order of its splines
+unfoldable pub segmentsOf : Description → Image → Rooms → List Segment
+segmentsOf d i r = paintedSegments (paintOf d (givenOf i) (i .high) (pathRoom (r .path)) (walkRoom (r .walk)) (segmentRoom (r .segments)))
+
+-- ---- drawn
+
+-- from the channels a of row y to w: each pixel of each channel is its starting value with the segments added that have it, in their order
+pub record RowPicture (segments : List Segment) (y : ℕ) (a w : Channels) : Type 0 where
+  pub red : w .r0 ≡ edit (pixelOf 0 segments y) (a .r0)
+  pub green : w .r1 ≡ edit (pixelOf 1 segments y) (a .r1)
+  pub blue : w .r2 ≡ edit (pixelOf 2 segments y) (a .r2)
