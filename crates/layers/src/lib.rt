@@ -1,0 +1,381 @@
+// The inner layers of a build, each on numbers and slices, exported for the host's comparisons only: the third static library.
+// Where a layer asks something of its caller, the export asks it too, and the host sees to it.
+ghost use mathlib.Core.Path.{_≡_};
+ghost use Prim.Native.Nat.{_≤_};
+ghost use lib.ListN.{length};
+ghost use Rattle.dequantize.specs.Coefficients.{invAdjustedQuant};
+ghost use Rattle.dequantize.specs.ControlPoints.{startingPoint, placeAt, Walk};
+ghost use Rattle.dequantize.specs.Dequantize.{dequantizeOf};
+ghost use Rattle.dequantize.specs.Judge.{descriptionOf, Shaped, judgeOf};
+ghost use Rattle.dequantize.specs.Limits.{splineAreaLimit};
+ghost use Rattle.curve.specs.Curve.{pathOf, pathRoom, curvedOf, curvedOn};
+ghost use Rattle.walk.specs.Walk.{walkIn, walkRoom, walkedOf, WalkedOn, lengthOf};
+ghost use Rattle.transform.specs.Transform.{sumsOf};
+ghost use Rattle.segments.specs.Segment.{addSegment, segmentAt};
+ghost use Rattle.segments.specs.Ranges.{rowsOf, columnsOf};
+ghost use Rattle.layers.specs.Exported.{ranOf, ranLeaves, tracedFrom, givenOf, dequantizedLeaves, dequantizedExport, toldJudged, judgedLeaves, pairOf, pathCount, walkCount, coefficientsOf, fourOf, eightIn, eightLeaves, twoOf};
+use codes::Code;
+use curve::Curved;
+use dequantize::Given;
+use dequantize::Spline;
+use dequantize::control_points::Pair;
+use dequantize::control_points::Start;
+use dequantize::control_points::Traced;
+use dequantize::judge::Judged;
+use segments::Added;
+use segments::Range;
+use segments::Segment;
+use transform::Sums;
+use walk::Walked;
+
+// ---- dequantizing
+
+#[no_mangle]
+pub extern "C" fn layers_spline_area_limit(level10: bool, area: u64) -> u64
+    ensures { λ r. ⌜ r ≡ splineAreaLimit level10 area ⌝ }
+{
+    dequantize::limits::spline_area_limit(level10, area)
+}
+
+#[no_mangle]
+pub extern "C" fn layers_inv_adjusted_quant(adjustment: i32) -> f32
+    ensures { λ r. ⌜ r ≡ invAdjustedQuant adjustment ⌝ }
+{
+    dequantize::coefficients::inv_adjusted_quant(adjustment)
+}
+
+// The running state after all double deltas, as numbers: the code's, the last control point, the Manhattan sum.
+struct Ran {
+    number: u32,
+    x: i32,
+    y: i32,
+    manhattan: u64,
+}
+
+fn ran_on(traced: Traced) -> Ran
+    ensures { λ r. ⌜ r ≡ ranOf traced ⌝ }
+{
+    match traced {
+        Traced::On(run) => Ran {
+            number: 0,
+            x: run.point.x,
+            y: run.point.y,
+            manhattan: run.manhattan,
+        },
+        Traced::Stop(code) => Ran {
+            number: codes::number_of(code),
+            x: 0,
+            y: 0,
+            manhattan: 0,
+        },
+    }
+}
+
+fn traced_from(start_x: f32, start_y: f32, deltas: &[i32], limit: u64) -> Traced
+    ensures { λ r. ⌜ r ≡ tracedFrom limit (now (deltas .entry)) (startingPoint «start_x» «start_y») ⌝ }
+{
+    match dequantize::control_points::starting_point(start_x, start_y) {
+        Start::Out => Traced::Stop(Code::Position),
+        Start::At(start) => dequantize::control_points::trace(start, deltas, limit),
+    }
+}
+
+// The last control point of a spline: those before it are had from fewer double deltas.
+#[no_mangle]
+pub extern "C" fn layers_trace(
+    start_x: f32,
+    start_y: f32,
+    deltas: &[i32],
+    limit: u64,
+    x: &mut i32,
+    y: &mut i32,
+    manhattan: &mut u64,
+) -> u32
+    ensures { λ r. ⌜ ranLeaves r (now (x .exit)) (now (y .exit)) (now (manhattan .exit))
+        ≡ ranOf (tracedFrom limit (now (deltas .entry)) (startingPoint «start_x» «start_y»)) ⌝ }
+{
+    let ran = ran_on(traced_from(start_x, start_y, deltas, limit));
+    let last_x = ran.x;
+    let last_y = ran.y;
+    *x = last_x;
+    *y = last_y;
+    *manhattan = ran.manhattan;
+    ran.number
+}
+
+// One spline: its code's number, four rows of coefficients, the estimate, and whether two adjacent control points are the same.
+#[no_mangle]
+pub extern "C" fn layers_dequantize(
+    start_x: f32,
+    start_y: f32,
+    deltas: &[i32],
+    coefficients: &[i32],
+    adjustment: i32,
+    y_to_x: f32,
+    y_to_b: f32,
+    limit: u64,
+    x: &mut [f32; 32],
+    y: &mut [f32; 32],
+    b: &mut [f32; 32],
+    sigma: &mut [f32; 32],
+    estimate: &mut u64,
+    coincide: &mut bool,
+) -> u32
+    requires { ⌜ 128 ≤ length (now coefficients) ⌝ }
+    ensures { λ r. ⌜ dequantizedLeaves r (now (x .exit)) (now (y .exit)) (now (b .exit)) (now (sigma .exit)) (now (estimate .exit)) (now (coincide .exit))
+        ≡ dequantizedExport (dequantizeOf «start_x» «start_y» (now (deltas .entry)) (now (coefficients .entry)) (givenOf adjustment «y_to_x» «y_to_b» limit)) ⌝ }
+{
+    let given = Given {
+        adjustment,
+        y_to_x,
+        y_to_b,
+        limit,
+    };
+    let spline = dequantize::dequantize(start_x, start_y, deltas, coefficients, given);
+    let row_x = spline.x;
+    let row_y = spline.y;
+    let row_b = spline.b;
+    let row_sigma = spline.sigma;
+    *x = row_x;
+    *y = row_y;
+    *b = row_b;
+    *sigma = row_sigma;
+    *estimate = spline.estimate;
+    *coincide = spline.coincide;
+    let code = spline.code;
+    codes::number_of(code)
+}
+
+// The answer of a judging as numbers: the code's, the place and the summed estimate.
+struct Told {
+    number: u32,
+    place: usize,
+    estimate: u64,
+}
+
+fn told_judged(judged: Judged) -> Told
+    ensures { λ r. ⌜ r ≡ toldJudged judged ⌝ }
+{
+    match judged {
+        Judged::Fine(estimate) => Told {
+            number: 0,
+            place: 0,
+            estimate,
+        },
+        Judged::Refused(code, place) => Told {
+            number: codes::number_of(code),
+            place,
+            estimate: 0,
+        },
+    }
+}
+
+// All splines of a description.
+#[no_mangle]
+pub extern "C" fn layers_judge(
+    counts: &[u32],
+    starts: &[f32],
+    deltas: &[i32],
+    coefficients: &[i32],
+    adjustment: i32,
+    y_to_x: f32,
+    y_to_b: f32,
+    limit: u64,
+    place: &mut usize,
+    estimate: &mut u64,
+) -> u32
+    requires { ⌜ Shaped (descriptionOf (now counts) (now starts) (now deltas) (now coefficients)) ⌝ }
+    ensures { λ r. ⌜ judgedLeaves r (now (place .exit)) (now (estimate .exit))
+        ≡ toldJudged (judgeOf (descriptionOf (now (counts .entry)) (now (starts .entry)) (now (deltas .entry)) (now (coefficients .entry))) (givenOf adjustment «y_to_x» «y_to_b» limit)) ⌝ }
+{
+    let given = Given {
+        adjustment,
+        y_to_x,
+        y_to_b,
+        limit,
+    };
+    let answer = told_judged(dequantize::judge::judge(counts, starts, deltas, coefficients, given));
+    *place = answer.place;
+    *estimate = answer.estimate;
+    answer.number
+}
+
+// ---- the curve and the walk
+
+// A path has one point or more, so that 0 is free to say that there is no room.
+fn path_count(curved: Curved) -> usize
+    ensures { λ r. ⌜ r ≡ pathCount curved ⌝ }
+{
+    match curved {
+        Curved::Points(n) => n,
+        Curved::Room => 0,
+    }
+}
+
+// The path of a spline that is judged to be fine: how many points, or 0 where there is no room.
+#[no_mangle]
+pub extern "C" fn layers_curve(
+    start_x: i32,
+    start_y: i32,
+    deltas: &[i32],
+    path: &mut [f32],
+) -> usize
+    requires { ⌜ Walk (placeAt (pairOf «start_x» «start_y»)) (now deltas) ⌝ }
+    ensures { λ r. ⌜ (r ≡ pathCount (curvedOf (pathRoom (length (now (path .entry)))) (pathOf (pairOf «start_x» «start_y») (now (deltas .entry)))))
+        × (now (path .exit) ≡ curvedOn (pathRoom (length (now (path .entry)))) (pathOf (pairOf «start_x» «start_y») (now (deltas .entry))) (now (path .entry))) ⌝ }
+{
+    let start = Pair {
+        x: start_x,
+        y: start_y,
+    };
+    path_count(curve::curve(start, deltas, path))
+}
+
+fn walk_count(walked: Walked) -> usize
+    ensures { λ r. ⌜ r ≡ walkCount walked ⌝ }
+{
+    match walked {
+        Walked::Points(n) => n,
+        Walked::Room => 0,
+    }
+}
+
+// The walk along a path: how many points, or 0 where there is no room.
+#[no_mangle]
+pub extern "C" fn layers_walk(path: &[f32], walk: &mut [f32]) -> usize
+    requires { ⌜ 2 ≤ length (now path) ⌝ }
+    ensures { λ r. ⌜ (r ≡ walkCount (walkedOf (walkIn (walkRoom (length (now (walk .entry)))) (now (path .entry)))))
+        × WalkedOn (walkIn (walkRoom (length (now (walk .entry)))) (now (path .entry))) (now (walk .entry)) (now (walk .exit)) ⌝ }
+{
+    walk_count(walk::walk(path, walk))
+}
+
+// The length of a walk of n points, by the last one's multiplier.
+#[no_mangle]
+pub extern "C" fn layers_length_of(n: usize, last: f32) -> f32
+    requires { ⌜ (2 ≤ n) × (n ≤ 8388608) ⌝ }
+    ensures { λ r. ⌜ r ≡ lengthOf n last ⌝ }
+{
+    walk::length_of(n, last)
+}
+
+// ---- the transform
+
+fn four(sums: Sums) -> [f32; 4]
+    ensures { λ r. ⌜ r ≡ fourOf sums ⌝ }
+{
+    [sums.x, sums.y, sums.b, sums.sigma]
+}
+
+// The four sums at t of any four rows of coefficients.
+#[no_mangle]
+pub extern "C" fn layers_sums_at(
+    x: &[f32; 32],
+    y: &[f32; 32],
+    b: &[f32; 32],
+    sigma: &[f32; 32],
+    t: f32,
+    sums: &mut [f32; 4],
+)
+    ensures { λ _. ⌜ now (sums .exit) ≡ fourOf (sumsOf (coefficientsOf (now (x .entry)) (now (y .entry)) (now (b .entry)) (now (sigma .entry))) t) ⌝ }
+{
+    let spline = Spline {
+        code: Code::Done,
+        x: *x,
+        y: *y,
+        b: *b,
+        sigma: *sigma,
+        estimate: 0,
+        coincide: false,
+    };
+    let numbers = four(transform::sums_at(spline, t));
+    *sums = numbers;
+}
+
+// ---- segments
+
+// What a point makes, as eight floats; zeros where it makes nothing.
+struct Eight {
+    made: bool,
+    numbers: [f32; 8],
+}
+
+fn in_eight(added: Added) -> Eight
+    ensures { λ r. ⌜ r ≡ eightIn added ⌝ }
+{
+    match added {
+        Added::Made(segment) => Eight {
+            made: true,
+            numbers: [
+                segment.center_x,
+                segment.center_y,
+                segment.maximum_distance,
+                segment.inv_sigma,
+                segment.sigma_over_4_times_intensity,
+                segment.color0,
+                segment.color1,
+                segment.color2,
+            ],
+        },
+        Added::Nothing => Eight {
+            made: false,
+            numbers: [0.0; 8],
+        },
+    }
+}
+
+// Whether a point makes a segment, and its eight floats.
+#[no_mangle]
+pub extern "C" fn layers_add_segment(
+    center_x: f32,
+    center_y: f32,
+    intensity: f32,
+    c0: f32,
+    c1: f32,
+    c2: f32,
+    sigma: f32,
+    high_precision: bool,
+    segment: &mut [f32; 8],
+) -> bool
+    ensures { λ r. ⌜ eightLeaves r (now (segment .exit)) ≡ eightIn (addSegment «center_x» «center_y» intensity c0 c1 c2 sigma «high_precision») ⌝ }
+{
+    let added = in_eight(segments::add_segment(
+        center_x,
+        center_y,
+        intensity,
+        c0,
+        c1,
+        c2,
+        sigma,
+        high_precision,
+    ));
+    let numbers = added.numbers;
+    *segment = numbers;
+    added.made
+}
+
+fn two(range: Range) -> [u32; 2]
+    ensures { λ r. ⌜ r ≡ twoOf range ⌝ }
+{
+    [range.first, range.past]
+}
+
+// The rows of a segment of eight floats: the first, and one past the last.
+#[no_mangle]
+pub extern "C" fn layers_rows(segment: &[f32], ends: &mut [u32; 2])
+    requires { ⌜ 8 ≤ length (now segment) ⌝ }
+    ensures { λ _. ⌜ now (ends .exit) ≡ twoOf (rowsOf (segmentAt (now (segment .entry)) 0)) ⌝ }
+{
+    let numbers = two(Segment::at(segment, 0).rows());
+    *ends = numbers;
+}
+
+// The columns of a segment of eight floats: the first, and one past the last.
+#[no_mangle]
+pub extern "C" fn layers_columns(segment: &[f32], ends: &mut [u32; 2])
+    requires { ⌜ 8 ≤ length (now segment) ⌝ }
+    ensures { λ _. ⌜ now (ends .exit) ≡ twoOf (columnsOf (segmentAt (now (segment .entry)) 0)) ⌝ }
+{
+    let numbers = two(Segment::at(segment, 0).columns());
+    *ends = numbers;
+}
