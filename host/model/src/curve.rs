@@ -1,12 +1,13 @@
-//! The curve: from whole control points to 16 points a stretch, by `draw_centripetal_catmull_rom_spline`.
+//! The curve (document 01, "Curve and walk"): from control points to the path.
 
+use crate::left_open::between;
 use crate::numbers::length;
 use cases::Code;
 
 /// x and y.
 pub type Point = [f32; 2];
 
-/// The most points a path, and a walk, may have.
+/// ROOM also beyond "2^23 path points, 2^23 walk points".
 pub const MOST_POINTS: u64 = 1 << 23;
 
 pub fn plus(a: Point, b: Point) -> Point {
@@ -21,54 +22,65 @@ pub fn times(a: Point, factor: f32) -> Point {
     [a[0] * factor, a[1] * factor]
 }
 
-/// `a` moved towards `b` by this part of the way.
-fn towards(a: Point, b: Point, part: f32) -> Point {
-    plus(a, times(minus(b, a), part))
-}
-
-/// The path through these control points, if there is room for so many points.
+/// The path through these control points, of which there is at least one, if there is room for so many points: "16(n-1)+1
+/// points, or 1 if n = 1".
 pub fn curve(control: &[(i64, i64)], room: u64) -> Result<Vec<Point>, Code> {
-    let n = control.len() as u64;
-    let due = if n < 2 { n } else { 16 * (n - 1) + 1 };
-    if due > room.min(MOST_POINTS) {
+    let needed = 16 * (control.len() as u64 - 1) + 1;
+    if needed > room.min(MOST_POINTS) {
         return Err(Code::Room);
     }
+    let control: Vec<Point> = control.iter().map(|&(x, y)| [x as f32, y as f32]).collect();
     let mut path = Vec::new();
-    if n >= 2 {
-        for window in extended(control).windows(4) {
-            stretch(window, &mut path);
-        }
+    for window in extended(&control).windows(4) {
+        path.extend(piece([window[0], window[1], window[2], window[3]]));
     }
-    path.extend(control.last().map(|&last| as_point(last)));
+    // "the last control point closes the path"
+    path.extend(control.last());
     Ok(path)
 }
 
-fn as_point((x, y): (i64, i64)) -> Point {
-    [x as f32, y as f32]
+/// "Both ends are extended by reflection": the end plus the way to it from its neighbour. One point has no neighbour.
+fn extended(control: &[Point]) -> Vec<Point> {
+    let beyond = |end: Point, neighbour: Point| plus(end, minus(end, neighbour));
+    let [first, second, ..] = *control else {
+        return control.to_vec();
+    };
+    let n = control.len();
+    let mut extended = vec![beyond(first, second)];
+    extended.extend(control);
+    extended.push(beyond(control[n - 1], control[n - 2]));
+    extended
 }
 
-/// The control points with both ends reflected.
-fn extended(control: &[(i64, i64)]) -> Vec<(i64, i64)> {
-    let reflected = |end: (i64, i64), next: (i64, i64)| (2 * end.0 - next.0, 2 * end.1 - next.1);
-    let last = control.len() - 1;
-    let mut points = vec![reflected(control[0], control[1])];
-    points.extend(control);
-    points.push(reflected(control[last], control[last - 1]));
+/// "Each window gives its second point and 15 interpolated ones"; "d_k is the root of the length from point k to k+1;
+/// t_0 = 0, t_(k+1) = t_k + d_k".
+fn piece(window: [Point; 4]) -> [Point; 16] {
+    let d = [0, 1, 2].map(|k| {
+        // "Lengths of control differences are whole-number problems".
+        let [x, y] = minus(window[k + 1], window[k]);
+        length(x as i64, y as i64).sqrt()
+    });
+    let t = [0.0, d[0], d[0] + d[1], d[0] + d[1] + d[2]];
+    let mut points = [window[1]; 16];
+    for (i, point) in points.iter_mut().enumerate().skip(1) {
+        *point = between(window, d, t, i as f32);
+    }
     points
 }
 
-/// The second point of a window of four, and the 15 between it and the third.
-fn stretch(window: &[(i64, i64)], path: &mut Vec<Point>) {
-    let p: Vec<Point> = window.iter().map(|&point| as_point(point)).collect();
-    let gap =
-        |k: usize| length(window[k + 1].0 - window[k].0, window[k + 1].1 - window[k].1).sqrt();
-    let d = [gap(0), gap(1), gap(2)];
-    let t = [0.0, d[0], d[0] + d[1]];
-    path.push(p[1]);
-    for i in 1..16 {
-        let tt = d[0] + (i as f32 / 16.0) * d[1];
-        let a = |k: usize| towards(p[k], p[k + 1], (tt - t[k]) / d[k]);
-        let b = |k: usize| towards(a(k), a(k + 1), (tt - t[k]) / (d[k] + d[k + 1]));
-        path.push(towards(b(0), b(1), (tt - t[1]) / d[1]));
+#[cfg(test)]
+mod tests {
+    use super::*;
+
+    #[test]
+    fn path_lengths() {
+        assert_eq!(curve(&[(7, -3)], 1), Ok(vec![[7.0, -3.0]]));
+        let path = curve(&[(0, 0), (8, 0), (8, 8)], 33).unwrap();
+        assert_eq!(path.len(), 33);
+        assert_eq!(
+            (path[0], path[16], path[32]),
+            ([0.0, 0.0], [8.0, 0.0], [8.0, 8.0])
+        );
+        assert_eq!(curve(&[(0, 0), (8, 0), (8, 8)], 32), Err(Code::Room));
     }
 }

@@ -1,15 +1,69 @@
-//! Drawing a part of a row, and the reach of a row.
+//! Drawing a part of a row, and the reach of a row (document 01, "Segments and rows", last two paragraphs).
 
 use crate::numbers::round;
-use crate::segments::{columns, MOST_SEGMENTS};
+use crate::segments::{columns, filled, MOST_SEGMENTS};
 use crate::table::{MOST_ENTRIES, MOST_PIXELS};
 use cases::{Code, FlatTable, Refusal, Segment};
+use std::ops::Range;
 
+pub use crate::left_open::{erf, intensity};
+
+/// Place is 0 for drawing and reach (Codes).
 fn refuse<T>(code: Code) -> Result<T, Refusal> {
     Err(Refusal { code, place: 0 })
 }
 
-/// TABLE for the counts, then ROW.
+/// "Checks: TABLE for the counts, ROW, SPAN, then TABLE for the two starts and the entries of row y". The channels begin at
+/// pixel x0; what comes back is how often a pixel was updated.
+pub fn draw(
+    table: &FlatTable,
+    y: u32,
+    x0: u32,
+    n: u32,
+    channels: [&mut [f32]; 3],
+) -> Result<u64, Refusal> {
+    check_counts_and_row(table, y)?;
+    // SPAN: "x0+n above 2^23, or a channel shorter than n" (Codes).
+    if u64::from(x0) + u64::from(n) > u64::from(MOST_PIXELS)
+        || channels.iter().any(|channel| channel.len() < n as usize)
+    {
+        return refuse(Code::Span);
+    }
+    let mut updates = 0;
+    let [r0, r1, r2] = channels;
+    // "Entries are applied in listed order".
+    for segment in row(table, y)? {
+        for x in inside(columns(&segment), x0, n) {
+            let cell = (x - x0) as usize;
+            add(
+                [&mut r0[cell], &mut r1[cell], &mut r2[cell]],
+                &segment,
+                x,
+                y,
+            );
+            updates += 1;
+        }
+    }
+    Ok(updates)
+}
+
+/// The columns of a part.
+fn inside(columns: Range<i128>, x0: u32, n: u32) -> Range<u32> {
+    let part = i128::from(x0)..i128::from(x0 + n);
+    let both = filled(columns.start.max(part.start)..columns.end.min(part.end));
+    both.start as u32..both.end as u32
+}
+
+/// Adds to one pixel: "every multiply-add is a rounded product, then a rounded sum".
+fn add(pixel: [&mut f32; 3], segment: &Segment, x: u32, y: u32) {
+    let intensity = intensity(segment, x as f32, y as f32);
+    for (channel, color) in pixel.into_iter().zip(&segment[5..]) {
+        *channel += color * intensity;
+    }
+}
+
+/// TABLE's first part, "a table whose counts overrun its buffers or exceed 2^24 segments, 2^30 entries or height 2^23", then
+/// ROW, "row not below the height" (Codes).
 fn check_counts_and_row(table: &FlatTable, y: u32) -> Result<(), Refusal> {
     let segments = u64::from(table.segment_count);
     let entries = u64::from(table.entry_count);
@@ -25,12 +79,11 @@ fn check_counts_and_row(table: &FlatTable, y: u32) -> Result<(), Refusal> {
     Ok(())
 }
 
-/// The segments of row y in listed order; TABLE for its two starts and its entries.
-fn listed(table: &FlatTable, y: u32) -> Result<Vec<Segment>, Refusal> {
-    let (first, past) = (
-        table.row_starts[y as usize],
-        table.row_starts[y as usize + 1],
-    );
+/// The segments of row y in listed order, or TABLE's second part: "row starts that descend or pass the entry count, or an
+/// entry that names no segment" (Codes); "other rows are not looked at".
+fn row(table: &FlatTable, y: u32) -> Result<Vec<Segment>, Refusal> {
+    let first = table.row_starts[y as usize];
+    let past = table.row_starts[y as usize + 1];
     if first > past || past > table.entry_count {
         return refuse(Code::Table);
     }
@@ -41,77 +94,22 @@ fn listed(table: &FlatTable, y: u32) -> Result<Vec<Segment>, Refusal> {
     Ok(entries.iter().map(|&entry| table.segment(entry)).collect())
 }
 
-/// Draws n pixels of row y from x0 on; the channels begin at x0. Answers the updates: segments times pixels.
-pub fn draw(
-    table: &FlatTable,
-    y: u32,
-    x0: u32,
-    n: u32,
-    channels: [&mut [f32]; 3],
-) -> Result<u64, Refusal> {
-    check_counts_and_row(table, y)?;
-    let past = u64::from(x0) + u64::from(n);
-    if past > u64::from(MOST_PIXELS) || channels.iter().any(|channel| channel.len() < n as usize) {
-        return refuse(Code::Span);
-    }
-    let segments = listed(table, y)?;
-    let mut updates = 0;
-    let [r0, r1, r2] = channels;
-    for segment in &segments {
-        let columns = columns(segment);
-        let part = columns.start.max(x0.into())..columns.end.min(past.into());
-        for x in part {
-            let intensity = intensity(segment, x as f32, y as f32);
-            let cell = (x - i128::from(x0)) as usize;
-            r0[cell] += segment[5] * intensity;
-            r1[cell] += segment[6] * intensity;
-            r2[cell] += segment[7] * intensity;
-            updates += 1;
-        }
-    }
-    Ok(updates)
-}
-
-/// The intensity of `draw_segment_inner` at a pixel.
-pub fn intensity(segment: &Segment, x: f32, y: f32) -> f32 {
-    let [cx, cy, _, inverse_sigma, strength, ..] = *segment;
-    let (dx, dy) = (x - cx, y - cy);
-    let distance = (dx * dx + dy * dy).sqrt();
-    let outer = (distance * 0.5 + 0.353_553_38) * inverse_sigma;
-    let inner = (distance * 0.5 + -0.353_553_38) * inverse_sigma;
-    let factor = erf(outer) - erf(inner);
-    strength * factor * factor
-}
-
-/// `fast_erff_simd` on one lane.
-pub fn erf(x: f32) -> f32 {
-    let magnitude = x.abs();
-    let denominator = [2.052_600_15e-4, 2.321_202_16e-1, 2.778_208_01e-1, 1.0]
-        .iter()
-        .fold(7.773_943_69e-2, |sum, coefficient| {
-            sum * magnitude + coefficient
-        });
-    let squared = denominator * denominator;
-    let inverse = 1.0 / squared;
-    (1.0 - inverse * inverse).copysign(x)
-}
-
-/// The first and one-past-last column over the segments of row y, by the signed rule; 0, 0 if none.
+/// "the first and one-past-last column over the row's segments, each taken from max(0, R(cx-d)) up to but not including
+/// min(W, R(cx+d)+1), empty ones skipped; 0, 0 if none. SIZE for W, then TABLE and ROW as drawing."
 pub fn reach(table: &FlatTable, y: u32, width: u32) -> Result<(u32, u32), Refusal> {
     if width > MOST_PIXELS {
         return refuse(Code::Size);
     }
     check_counts_and_row(table, y)?;
-    let mut whole: Option<(i128, i128)> = None;
-    for segment in listed(table, y)? {
-        let [cx, _, d, ..] = segment;
+    let taken = row(table, y)?.into_iter().map(|[cx, _, d, ..]| {
         let first = round(cx - d).max(0);
         let past = (round(cx + d) + 1).min(width.into());
-        if first < past {
-            whole = Some(whole.map_or((first, past), |(a, b)| (a.min(first), b.max(past))));
-        }
-    }
-    Ok(whole.map_or((0, 0), |(first, past)| (first as u32, past as u32)))
+        (first, past)
+    });
+    let filled: Vec<(i128, i128)> = taken.filter(|(first, past)| first < past).collect();
+    let first = filled.iter().map(|taken| taken.0).min().unwrap_or(0);
+    let past = filled.iter().map(|taken| taken.1).max().unwrap_or(0);
+    Ok((first as u32, past as u32))
 }
 
 #[cfg(test)]

@@ -1,4 +1,4 @@
-//! The list: reading a description from decoded values, and writing it back.
+//! The list (document 01, "The list"): reading it into a description, and writing a description as a list.
 
 use cases::{Code, Description, Refusal};
 
@@ -11,204 +11,200 @@ pub struct ListRooms {
     pub coefficients: u64,
 }
 
-/// A coordinate of a start has a magnitude below this.
+/// COORD: "a start with a coordinate of magnitude 2^23 or more".
 const COORD_LIMIT: i64 = 1 << 23;
-/// A double delta has a magnitude below this.
+/// DELTA: "a double delta of magnitude 2^30 or more".
 pub const DELTA_LIMIT: i64 = 1 << 30;
 
-/// L: the limit of splines, and of points in all.
+/// "Limit L = min(configured limit, pixels / 2 rounded down)".
 pub fn limit(configured: u32, pixels: u32) -> u64 {
-    u64::from(configured.min(pixels / 2))
+    u64::from(configured).min(u64::from(pixels) / 2)
 }
 
-/// Even u gives u/2, odd u gives -(u+1)/2.
+/// "even u gives u/2, odd u gives -(u+1)/2".
 pub fn unpack(u: u32) -> i32 {
     let u = i64::from(u);
     let value = if u % 2 == 0 { u / 2 } else { -(u + 1) / 2 };
     value as i32
 }
 
-/// The u32 that unpacks to this value.
+/// The u32 that unpacks to this value: 2v, or -2v-1 below 0.
 pub fn pack(value: i32) -> u32 {
-    let value = i64::from(value);
-    let u = if value >= 0 {
-        2 * value
-    } else {
-        -2 * value - 1
-    };
-    u as u32
+    let v = i64::from(value);
+    let packed = if v < 0 { -2 * v - 1 } else { 2 * v };
+    packed as u32
 }
 
+/// DELTA's condition, for one of the two numbers of a pair.
+pub fn outrageous(double_delta: i32) -> bool {
+    i64::from(double_delta).abs() >= DELTA_LIMIT
+}
+
+/// A refusal at an index of the list.
 fn refuse<T>(code: Code, place: usize) -> Result<T, Refusal> {
-    Err(Refusal {
-        code,
-        place: place as u64,
-    })
+    let place = place as u64;
+    Err(Refusal { code, place })
 }
 
-/// The values in order, where the next one stands, and the points so far.
-struct Values<'a> {
+/// The list and how far it has been read.
+struct Reader<'a> {
     list: &'a [u32],
-    next: usize,
-    points: u64,
+    index: usize,
 }
 
-impl Values<'_> {
-    fn unsigned(&mut self) -> Result<u32, Refusal> {
-        let Some(&value) = self.list.get(self.next) else {
+impl Reader<'_> {
+    /// "reads the next value of the list or stops with SHORT"; "SHORT: list length" (Codes).
+    fn value(&mut self) -> Result<u32, Refusal> {
+        let Some(&value) = self.list.get(self.index) else {
             return refuse(Code::Short, self.list.len());
         };
-        self.next += 1;
+        self.index += 1;
         Ok(value)
     }
 
     fn signed(&mut self) -> Result<i32, Refusal> {
-        self.unsigned().map(unpack)
+        self.value().map(unpack)
     }
 }
 
-/// Reads a whole list.
+/// "Order: spline count less one; starts x, y; adjustment; per spline its point count, pairs of double deltas, then 32
+/// values each for X, Y, B and sigma." The checks stand where "Order of checks" has them, SHORT before any other.
 pub fn read(
     list: &[u32],
     configured: u32,
     pixels: u32,
     rooms: &ListRooms,
 ) -> Result<Description, Refusal> {
-    let limit = limit(configured, pixels);
-    let mut values = Values {
-        list,
-        next: 0,
-        points: 0,
-    };
-    let mut description = Description::default();
-    let splines = read_count(&mut values, limit, rooms)?;
-    read_starts(&mut values, splines, &mut description)?;
-    description.adjustment = values.signed()?;
-    for _ in 0..splines {
-        read_spline(&mut values, limit, rooms, &mut description)?;
-    }
-    if values.next < list.len() {
-        return refuse(Code::Trail, values.next);
-    }
-    Ok(description)
-}
-
-/// SHORT, SPLINES, then ROOM for counts, starts and coefficients.
-fn read_count(values: &mut Values, limit: u64, rooms: &ListRooms) -> Result<u64, Refusal> {
-    let splines = u64::from(values.unsigned()?) + 1;
-    if splines > limit {
+    let most = limit(configured, pixels);
+    let mut reader = Reader { list, index: 0 };
+    let splines = u64::from(reader.value()?) + 1;
+    if splines > most {
         return refuse(Code::Splines, 0);
     }
     if splines > rooms.counts || 2 * splines > rooms.starts || 128 * splines > rooms.coefficients {
         return refuse(Code::Room, 0);
     }
-    Ok(splines)
+    let mut description = Description {
+        starts: read_starts(&mut reader, splines)?,
+        adjustment: reader.signed()?,
+        ..Description::default()
+    };
+    for _ in 0..splines {
+        read_spline(&mut reader, most, rooms.deltas, &mut description)?;
+    }
+    if reader.index < list.len() {
+        return refuse(Code::Trail, reader.index);
+    }
+    Ok(description)
 }
 
-/// The first start is unsigned, later ones are signed differences; COORD after both coordinates.
-fn read_starts(
-    values: &mut Values,
-    splines: u64,
-    description: &mut Description,
-) -> Result<(), Refusal> {
-    let (mut x, mut y) = (0i64, 0i64);
-    for index in 0..splines {
-        let place = values.next;
-        if index == 0 {
-            x = i64::from(values.unsigned()?);
-            y = i64::from(values.unsigned()?);
+/// "The first start is unsigned; later ones are signed differences." "COORD after both coordinates"; its place is x's.
+fn read_starts(reader: &mut Reader, splines: u64) -> Result<Vec<f32>, Refusal> {
+    let mut starts = Vec::new();
+    let mut last = [0i64; 2];
+    for spline in 0..splines {
+        let place = reader.index;
+        let pair = [reader.value()?, reader.value()?];
+        let start = if spline == 0 {
+            pair.map(i64::from)
         } else {
-            x += i64::from(values.signed()?);
-            y += i64::from(values.signed()?);
-        }
-        if x.abs() >= COORD_LIMIT || y.abs() >= COORD_LIMIT {
+            [0, 1].map(|axis| last[axis] + i64::from(unpack(pair[axis])))
+        };
+        if start
+            .iter()
+            .any(|coordinate| coordinate.abs() >= COORD_LIMIT)
+        {
             return refuse(Code::Coord, place);
         }
-        description.starts.extend([x as f32, y as f32]);
+        starts.extend(start.map(|coordinate| coordinate as f32));
+        last = start;
     }
-    Ok(())
+    Ok(starts)
 }
 
-/// The point count with POINTS and ROOM, the pairs with DELTA, then 128 coefficients.
+/// "POINTS then ROOM (for double deltas) at each point count", then the pairs, then 128 coefficients.
 fn read_spline(
-    values: &mut Values,
-    limit: u64,
-    rooms: &ListRooms,
+    reader: &mut Reader,
+    most: u64,
+    delta_room: u64,
     description: &mut Description,
 ) -> Result<(), Refusal> {
-    let place = values.next;
-    let count = values.unsigned()?;
-    values.points += u64::from(count);
-    if values.points > limit {
+    let place = reader.index;
+    let count = reader.value()?;
+    let before = description.deltas.len() as u64 / 2;
+    let total = before + u64::from(count);
+    if total > most {
         return refuse(Code::Points, place);
     }
-    if 2 * values.points > rooms.deltas {
+    if 2 * total > delta_room {
         return refuse(Code::Room, place);
     }
     description.counts.push(count);
     for _ in 0..count {
-        let place = values.next;
-        let (x, y) = (values.signed()?, values.signed()?);
-        if outrageous(x) || outrageous(y) {
-            return refuse(Code::Delta, place);
-        }
-        description.deltas.extend([x, y]);
+        description.deltas.extend(read_pair(reader)?);
     }
-    for _ in 0..128 {
-        let value = values.signed()?;
-        description.coefficients.push(value);
-    }
+    let coefficients: Result<Vec<i32>, Refusal> = (0..128).map(|_| reader.signed()).collect();
+    description.coefficients.extend(coefficients?);
     Ok(())
 }
 
-/// Whether a double delta has a magnitude of 2^30 or more.
-pub fn outrageous(double_delta: i32) -> bool {
-    i64::from(double_delta).abs() >= DELTA_LIMIT
+/// "DELTA after both of a pair"; its place is x's.
+fn read_pair(reader: &mut Reader) -> Result<[i32; 2], Refusal> {
+    let place = reader.index;
+    let pair = [reader.signed()?, reader.signed()?];
+    if pair.into_iter().any(outrageous) {
+        return refuse(Code::Delta, place);
+    }
+    Ok(pair)
 }
 
-/// SHAPE: S counts need 2S start numbers, two delta numbers a point, 128S coefficients, exactly.
+/// SHAPE's condition: "S counts need 2S start numbers, two delta numbers a point, 128S coefficients, exactly" (Codes).
 pub fn well_shaped(description: &Description) -> bool {
-    let splines = description.counts.len();
-    let points: u64 = description
+    let splines = description.counts.len() as u128;
+    let points: u128 = description
         .counts
         .iter()
-        .map(|&count| u64::from(count))
+        .map(|&count| u128::from(count))
         .sum();
-    description.starts.len() == 2 * splines
-        && description.deltas.len() as u64 == 2 * points
-        && description.coefficients.len() == 128 * splines
+    description.starts.len() as u128 == 2 * splines
+        && description.deltas.len() as u128 == 2 * points
+        && description.coefficients.len() as u128 == 128 * splines
 }
 
-/// Writes a whole list: SHAPE, then the checks in the order of the list, then ROOM.
+/// "The writer is given the same two numbers for L. It checks SHAPE, then in the same list order, then ROOM." The places
+/// are "writer's ROOM: lent length; writer's SHAPE: 0" (Codes), and else the index that the value would have.
 pub fn write(
     description: &Description,
     configured: u32,
     pixels: u32,
     list_room: u64,
 ) -> Result<Vec<u32>, Refusal> {
+    let most = limit(configured, pixels);
     if !well_shaped(description) {
         return refuse(Code::Shape, 0);
     }
-    let limit = limit(configured, pixels);
-    let splines = description.counts.len();
-    if splines == 0 || splines as u64 > limit {
+    let splines = description.counts.len() as u64;
+    // SPLINES: "spline count above the limit, or a writer's count of 0".
+    if splines == 0 || splines > most {
         return refuse(Code::Splines, 0);
     }
     let mut list = vec![(splines - 1) as u32];
     write_starts(&description.starts, &mut list)?;
     list.push(pack(description.adjustment));
-    let mut total = 0;
-    let mut deltas = &description.deltas[..];
-    for (spline, &count) in description.counts.iter().enumerate() {
-        total += u64::from(count);
-        if total > limit {
+    let (mut used, mut points) = (0, 0);
+    for (&count, coefficients) in description
+        .counts
+        .iter()
+        .zip(description.coefficients.chunks(128))
+    {
+        points += u64::from(count);
+        if points > most {
             return refuse(Code::Points, list.len());
         }
-        let (own, rest) = deltas.split_at(2 * count as usize);
-        deltas = rest;
         list.push(count);
-        write_deltas(own, &mut list)?;
-        let coefficients = &description.coefficients[128 * spline..128 * (spline + 1)];
+        let past = 2 * points as usize;
+        write_deltas(&description.deltas[used..past], &mut list)?;
+        used = past;
         list.extend(coefficients.iter().map(|&value| pack(value)));
     }
     if list.len() as u64 > list_room {
@@ -217,40 +213,42 @@ pub fn write(
     Ok(list)
 }
 
-/// COORD for each start, then its packed difference from the one before (the first as it is).
+/// The starts: the first as it is, later ones as differences.
 fn write_starts(starts: &[f32], list: &mut Vec<u32>) -> Result<(), Refusal> {
-    let (mut last_x, mut last_y) = (0, 0);
-    for (index, start) in starts.chunks(2).enumerate() {
-        let first = index == 0;
-        let (Some(x), Some(y)) = (coordinate(start[0], first), coordinate(start[1], first)) else {
+    let mut last = None;
+    for pair in starts.chunks(2) {
+        let (Some(x), Some(y)) = (
+            listed(pair[0], last.is_none()),
+            listed(pair[1], last.is_none()),
+        ) else {
             return refuse(Code::Coord, list.len());
         };
-        if first {
-            list.extend([x as u32, y as u32]);
-        } else {
-            list.extend([pack(x - last_x), pack(y - last_y)]);
-        }
-        (last_x, last_y) = (x, y);
+        list.extend(match last {
+            None => [x as u32, y as u32],
+            Some((before_x, before_y)) => [pack(x - before_x), pack(y - before_y)],
+        });
+        last = Some((x, y));
     }
     Ok(())
 }
 
-/// The whole number that a start's coordinate is, if a list can hold it.
-fn coordinate(value: f32, first: bool) -> Option<i32> {
-    let minus_zero = value == 0.0 && value.is_sign_negative();
-    let small = value.abs() < COORD_LIMIT as f32;
-    if !small || value.fract() != 0.0 || minus_zero || (first && value < 0.0) {
-        return None;
-    }
-    Some(value as i32)
+/// A coordinate as a whole number, unless it is COORD's: "magnitude 2^23 or more; writer also: not whole, minus zero, NaN,
+/// or a negative first start" (Codes).
+fn listed(coordinate: f32, first: bool) -> Option<i32> {
+    let fits = coordinate.abs() < COORD_LIMIT as f32;
+    let whole = coordinate.trunc() == coordinate;
+    let minus_zero = coordinate == 0.0 && coordinate.is_sign_negative();
+    let negative_first = first && coordinate < 0.0;
+    (fits && whole && !minus_zero && !negative_first).then_some(coordinate as i32)
 }
 
+/// One spline's double deltas.
 fn write_deltas(deltas: &[i32], list: &mut Vec<u32>) -> Result<(), Refusal> {
     for pair in deltas.chunks(2) {
-        if outrageous(pair[0]) || outrageous(pair[1]) {
+        if pair.iter().any(|&value| outrageous(value)) {
             return refuse(Code::Delta, list.len());
         }
-        list.extend([pack(pair[0]), pack(pair[1])]);
+        list.extend(pair.iter().map(|&value| pack(value)));
     }
     Ok(())
 }
@@ -270,12 +268,12 @@ mod tests {
 
     #[test]
     fn coordinates_of_starts() {
-        assert_eq!(coordinate(8388607.0, true), Some(8388607));
-        assert_eq!(coordinate(-8388607.0, false), Some(-8388607));
+        assert_eq!(listed(8388607.0, true), Some(8388607));
+        assert_eq!(listed(-8388607.0, false), Some(-8388607));
         for bad in [f32::NAN, -0.0, 0.5, 8388608.0, -8388608.0, f32::INFINITY] {
-            assert_eq!(coordinate(bad, false), None);
+            assert_eq!(listed(bad, false), None);
         }
-        assert_eq!(coordinate(-1.0, true), None);
+        assert_eq!(listed(-1.0, true), None);
     }
 
     const ROOMS: ListRooms = ListRooms {

@@ -1,76 +1,62 @@
-//! Numbers: half-away rounding on the exact value, the rounded root of a whole number, total order, the logarithm.
+//! Numbers: R, the rounded root of a whole number, the greatest by total order, the lesser of two, the logarithm.
 
 use std::sync::RwLock;
 
 /// Stands for every whole number from 2^100 on, plus infinity among them.
 pub const BEYOND: i128 = 1 << 100;
 
-/// R: half away from zero, NaN to 0; past 2^100 on either side it is `BEYOND` or its negative.
+/// "R rounds half away from zero, NaN to 0; an infinity lies beyond every whole number" (Segments and rows).
 pub fn round(x: f32) -> i128 {
-    if x.is_nan() {
-        return 0;
-    }
-    let (significand, exponent) = parts(x);
-    let magnitude = if exponent > 76 {
-        BEYOND
-    } else if exponent >= 0 {
-        significand << exponent
-    } else if exponent < -25 {
+    let magnitude = x.abs();
+    // The whole part and the fraction of a float are floats themselves, so nothing is lost in taking them apart.
+    let rounded = if magnitude.is_nan() {
         0
+    } else if magnitude < BEYOND as f32 {
+        magnitude.trunc() as i128 + i128::from(magnitude.fract() >= 0.5)
     } else {
-        (significand + (1 << (-exponent - 1))) >> -exponent
+        BEYOND
     };
-    if x.is_sign_negative() {
-        -magnitude
+    if x < 0.0 {
+        -rounded
     } else {
-        magnitude
+        rounded
     }
 }
 
-/// The magnitude of x as significand · 2^exponent; infinity has the exponent 105.
-fn parts(x: f32) -> (i128, i32) {
-    let biased = (x.to_bits() >> 23 & 0xff) as i32;
-    let fraction = i128::from(x.to_bits() & 0x7f_ffff);
-    if biased == 0 {
-        (fraction, -149)
-    } else {
-        (fraction | 1 << 23, biased - 150)
-    }
-}
-
-/// R0: R with negatives made 0.
+/// "R0 is R with negatives made 0" (Segments and rows).
 pub fn round_from_zero(x: f32) -> i128 {
     round(x).max(0)
 }
 
-/// The f32 nearest to the root of x² + y², ties to even, for whole numbers of magnitude up to 2^24.
+/// "the f32 nearest to the root of x²+y², ties to even" (Curve and walk).
 pub fn length(x: i64, y: i64) -> f32 {
-    nearest_root((x * x + y * y) as u64)
-}
-
-/// The f32 nearest to the root of n, ties to even, for n below 2^50.
-fn nearest_root(n: u64) -> f32 {
-    assert!(n < 1 << 50, "too long for a length");
-    if n == 0 {
+    let square = u128::from(x.unsigned_abs()).pow(2) + u128::from(y.unsigned_abs()).pow(2);
+    if square == 0 {
         return 0.0;
     }
-    // n · 4^shift has 49 or 50 bits, so its root has 25: the last one, and whether it is exact, decide the rounding.
-    let shift = (0..)
-        .find(|&shift| n << (2 * shift) >= 1 << 48)
-        .unwrap_or(0);
-    let scaled = n << (2 * shift);
-    let root = whole_root(scaled);
-    let exact = root * root == scaled;
-    let down = root / 2;
-    let up = root % 2 == 1 && (!exact || down % 2 == 1);
-    (down + u64::from(up)) as f32 * 2f32.powi(1 - shift)
+    // The unit is the power of two in which the root is a number of 24 bits: 2^23 up to but not including 2^24 of it.
+    let unit = (square.ilog2() as i32 / 2) - 23;
+    // The square in units of that size is scaled / divisor.
+    let (scaled, divisor) = if unit <= 0 {
+        (square << (-2 * unit), 1)
+    } else {
+        (square, 1u128 << (2 * unit))
+    };
+    let below = whole_root(scaled / divisor);
+    let half_way = (2 * below + 1).pow(2) * divisor;
+    let up = match (4 * scaled).cmp(&half_way) {
+        std::cmp::Ordering::Less => 0,
+        std::cmp::Ordering::Equal => below % 2,
+        std::cmp::Ordering::Greater => 1,
+    };
+    (below + up) as f32 * 2f32.powi(unit)
 }
 
 /// The greatest whole number whose square is at most n, bit by bit.
-fn whole_root(n: u64) -> u64 {
-    (0..26).rev().fold(0, |root, bit| {
-        let tried: u64 = root | 1 << bit;
-        if tried * tried <= n {
+fn whole_root(n: u128) -> u128 {
+    (0..64).rev().fold(0, |root, bit| {
+        let tried = root | 1 << bit;
+        if tried.checked_mul(tried).is_some_and(|square| square <= n) {
             tried
         } else {
             root
@@ -78,18 +64,26 @@ fn whole_root(n: u64) -> u64 {
     })
 }
 
-/// The greatest by total order of numbers without sign: for these, the order of their bits.
+/// "the greatest .. by total order" (Segments and rows).
 pub fn greatest(magnitudes: [f32; 4]) -> f32 {
-    let bits = magnitudes.iter().map(|m| m.to_bits()).max();
-    f32::from_bits(bits.unwrap_or(0))
+    let rank = |x: &f32| {
+        // IEEE 754's total order is that of the bits, with those of negative numbers turned round.
+        let bits = x.to_bits();
+        if bits >> 31 == 1 {
+            !bits
+        } else {
+            bits | 1 << 31
+        }
+    };
+    magnitudes.into_iter().max_by_key(rank).unwrap_or(f32::NAN)
 }
 
-/// The lesser, a NaN giving way to the other number.
+/// min; of a NaN and a number the number, which the words leave open.
 pub fn lesser(a: f32, b: f32) -> f32 {
-    if a.is_nan() || b < a {
-        b
-    } else {
+    if b.is_nan() || a <= b {
         a
+    } else {
+        b
     }
 }
 
@@ -100,7 +94,8 @@ pub fn set_ln(ln: fn(f32) -> f32) {
     *LN.write().unwrap_or_else(|held| held.into_inner()) = ln;
 }
 
-/// The logarithm that is in place.
+/// The logarithm that is in place. "The port's logarithm is a fixed sequence of f64 steps" that document 01 does not give,
+/// so it comes from the host, or is lent.
 pub fn ln(x: f32) -> f32 {
     let ln = *LN.read().unwrap_or_else(|held| held.into_inner());
     ln(x)
@@ -141,11 +136,31 @@ mod tests {
         assert_eq!(length(0, 0), 0.0);
         assert_eq!(length(1, 0), 1.0);
         assert_eq!(length(-8388608, 0), 8388608.0);
-        for step in 0..200_000i64 {
+        // Ties: 2^24 + 1 and 2^24 + 3 lie between two floats each.
+        assert_eq!(length(16777217, 0), 16777216.0);
+        assert_eq!(length(0, -16777219), 16777220.0);
+        assert_eq!(length(8192, 16777215), 16777216.0);
+    }
+
+    #[test]
+    fn lengths_are_nearest() {
+        for step in 1..200_000i64 {
             let (x, y) = (step * 7919 % 8388608, step * 104729 % 8388608 - 4194304);
-            // x² + y² is below 2^53, and a root rounded to f64 and then to f32 can only fail near a tie.
-            let host = ((x * x + y * y) as f64).sqrt() as f32;
-            assert_eq!(length(x, y), host, "{x} {y}");
+            let mine = length(x, y);
+            // Half way to either neighbour, which an f64 holds: 2^26 times that is a whole number.
+            let half_way = |to: u32| (f64::from(mine) + f64::from(f32::from_bits(to))) / 2.0;
+            let square = |edge: f64| ((edge * 2f64.powi(26)) as u128).pow(2);
+            let exact = ((x * x + y * y) as u128) << 52;
+            assert!(square(half_way(mine.to_bits() - 1)) <= exact, "{x} {y}");
+            assert!(exact <= square(half_way(mine.to_bits() + 1)), "{x} {y}");
         }
+    }
+
+    #[test]
+    fn order_and_lesser() {
+        assert_eq!(greatest([0.0, 1.0, f32::INFINITY, 2.0]), f32::INFINITY);
+        assert!(greatest([f32::INFINITY, 1.0, f32::NAN, 2.0]).is_nan());
+        assert_eq!(lesser(1.0, f32::NAN), 1.0);
+        assert_eq!(lesser(f32::NAN, 1.0), 1.0);
     }
 }

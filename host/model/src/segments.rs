@@ -1,4 +1,4 @@
-//! Segments: one for each step of a walk, with the rows and columns that it has.
+//! Segments (document 01, "Segments and rows"): what a step of the walk becomes, and the rows and columns it touches.
 
 use crate::curve::Point;
 use crate::numbers::{greatest, lesser, ln, round, round_from_zero};
@@ -7,10 +7,10 @@ use crate::walk::Step;
 use cases::{Code, Segment};
 use std::ops::Range;
 
-/// The most segments a table may have.
+/// ROOM also beyond "2^24 segments" (Curve and walk).
 pub const MOST_SEGMENTS: u64 = 1 << 24;
 
-/// The segment of one step, or none where document 01 says that no number is used.
+/// "A segment is eight f32: centre x and y, distance, 1/σ, 0.25·σ·multiplier, three colours", or none.
 pub fn segment(
     center: Point,
     multiplier: f32,
@@ -18,21 +18,35 @@ pub fn segment(
     sigma: f32,
     high_precision: bool,
 ) -> Option<Segment> {
-    let inverse = 1.0 / sigma;
-    if sigma.is_infinite() || sigma == 0.0 || inverse.is_infinite() || multiplier.is_infinite() {
+    // "No segment is made, and no number used, if sigma is infinite or zero, 1/sigma is infinite, or the multiplier is
+    // infinite."
+    if sigma.is_infinite()
+        || sigma == 0.0
+        || (1.0 / sigma).is_infinite()
+        || multiplier.is_infinite()
+    {
         return None;
     }
+    // "m the greatest magnitude of multiplier times 0.01 and the three colours, by total order".
+    let [x, y, b] = colors;
+    let m = greatest([0.01, x, y, b].map(|value| (value * multiplier).abs()));
+    // "√(-2·σ·σ·(ln 0.1 · e - ln m)), e = 5 for high precision, else 3".
     let e = if high_precision { 5.0 } else { 3.0 };
-    let [c0, c1, c2] = colors;
-    let m = greatest([0.01, c0, c1, c2].map(|color| (multiplier * color).abs()));
     let distance = (-2.0 * sigma * sigma * (ln(0.1) * e - ln(m))).sqrt();
     let strength = 0.25 * sigma * multiplier;
     Some([
-        center[0], center[1], distance, inverse, strength, c0, c1, c2,
+        center[0],
+        center[1],
+        distance,
+        1.0 / sigma,
+        strength,
+        x,
+        y,
+        b,
     ])
 }
 
-/// Adds the segments of one spline's walk, while there is room for so many.
+/// Adds the segments of one spline's walk to those before it, if there is room for so many in all.
 pub fn add_segments(
     coefficients: &[[f32; 32]; 4],
     steps: &[Step],
@@ -42,20 +56,22 @@ pub fn add_segments(
     segments: &mut Vec<Segment>,
 ) -> Result<(), Code> {
     for (index, &(center, multiplier)) in steps.iter().enumerate() {
+        // "Progress is min(1, index · (1/length)), t = 31 · progress."
         let progress = lesser(1.0, index as f32 * (1.0 / length));
         let cosines = cosines(31.0 * progress);
         let [x, y, b, sigma] = coefficients.map(|row| transform(&row, &cosines));
-        if let Some(made) = segment(center, multiplier, [x, y, b], sigma, high_precision) {
-            if segments.len() as u64 >= room.min(MOST_SEGMENTS) {
-                return Err(Code::Room);
-            }
-            segments.push(made);
+        let Some(made) = segment(center, multiplier, [x, y, b], sigma, high_precision) else {
+            continue;
+        };
+        if segments.len() as u64 >= room.min(MOST_SEGMENTS) {
+            return Err(Code::Room);
         }
+        segments.push(made);
     }
     Ok(())
 }
 
-/// From max(0, R(cy-d)) through R(cy+d), whatever the image; none if R(cy+d) is 2^63 or more.
+/// "Rows run from max(0, R(cy-d)) through R(cy+d) ..; if R(cy+d) is 2^63 or more there are none", whatever the image.
 pub fn all_rows(segment: &Segment) -> Range<i128> {
     let [_, cy, d, ..] = *segment;
     let last = round(cy + d);
@@ -65,14 +81,14 @@ pub fn all_rows(segment: &Segment) -> Range<i128> {
     filled(round(cy - d).max(0)..last + 1)
 }
 
-/// The rows of a segment inside an image of this height.
+/// ".. inside the image only".
 pub fn rows(segment: &Segment, height: u32) -> Range<u32> {
     let all = all_rows(segment);
-    let inside = filled(all.start..all.end.min(height.into()));
+    let inside = filled(all.start..all.end.min(i128::from(height)));
     inside.start as u32..inside.end as u32
 }
 
-/// From R0(cx-d) through R0(cx+d); none if the upper end is 2^64 or more.
+/// "Columns run from R0(cx-d) through R0(cx+d) ..; at 2^64 or more at the upper end there are none."
 pub fn columns(segment: &Segment) -> Range<i128> {
     let [cx, _, d, ..] = *segment;
     let last = round_from_zero(cx + d);

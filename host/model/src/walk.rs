@@ -1,50 +1,44 @@
-//! The walk: points at each unit of length along a path.
+//! The walk (document 01, "Curve and walk"): the path at steps of one unit of length.
 
-use crate::curve::{minus, plus, times, Point, MOST_POINTS};
+use crate::curve::{Point, MOST_POINTS};
+use crate::left_open::{further, stretch};
 use cases::Code;
 
 /// A point and its multiplier.
 pub type Step = (Point, f32);
 
-/// The first point with multiplier 1, a point at each unit of length, then the last with what is left; if there is room.
+/// "The walk emits the first point with multiplier 1, then a point at each unit of length, then the last with what is
+/// left", if there is room for so many.
 pub fn walk(path: &[Point], room: u64) -> Result<Vec<Step>, Code> {
-    let most = room.min(MOST_POINTS);
-    let mut steps = Vec::new();
-    let mut emit = |point: Point, multiplier: f32| {
-        if steps.len() as u64 >= most {
-            return Err(Code::Room);
-        }
-        steps.push((point, multiplier));
-        Ok(())
-    };
     let Some(&first) = path.first() else {
-        return Ok(steps);
+        return Ok(Vec::new());
     };
-    emit(first, 1.0)?;
-    // `at` is where we stand, `gone` the length gone since the last emitted point.
+    let mut steps = vec![(first, 1.0)];
     let (mut at, mut gone) = (first, 0.0);
-    let mut next = 0;
-    while next < path.len() {
-        let way = minus(path[next], at);
-        let ahead = (way[0] * way[0] + way[1] * way[1]).sqrt();
-        if gone + ahead >= 1.0 {
-            at = plus(at, times(way, (1.0 - gone) / ahead));
+    for &next in &path[1..] {
+        while gone + stretch(at, next) >= 1.0 {
+            at = further(at, next, 1.0 - gone);
             gone = 0.0;
-            emit(at, 1.0)?;
-        } else {
-            gone += ahead;
-            at = path[next];
-            next += 1;
+            steps.push((at, 1.0));
+            // The last is still to come.
+            if steps.len() as u64 >= room.min(MOST_POINTS) {
+                return Err(Code::Room);
+            }
         }
+        gone += stretch(at, next);
+        at = next;
     }
-    emit(at, gone)?;
+    steps.push((at, gone));
+    if steps.len() as u64 > room.min(MOST_POINTS) {
+        return Err(Code::Room);
+    }
     Ok(steps)
 }
 
-/// Emitted count - 2 + last multiplier.
+/// "Length is emitted count - 2 + last multiplier".
 pub fn length(steps: &[Step]) -> f32 {
     let last = steps.last().map_or(0.0, |step| step.1);
-    (steps.len() as f32 - 2.0) + last
+    steps.len() as f32 - 2.0 + last
 }
 
 #[cfg(test)]
