@@ -45,7 +45,7 @@ fn greatest(a: u32, b: u32) -> u32
 }
 
 // Adds a segment to those of the n pixels from column x0 on that lie from `first` up to `past`, and says how many they are.
-fn draw_columns(
+pub fn draw_columns(
     segment: Segment,
     first: u32,
     past: u32,
@@ -201,7 +201,7 @@ fn counts_good(
     true
 }
 
-fn span_good(x0: u32, n: u32, l0: usize, l1: usize, l2: usize) -> bool
+pub fn span_good(x0: u32, n: u32, l0: usize, l1: usize, l2: usize) -> bool
     ensures { λ r. ⌜ r ≡ spanGood x0 n l0 l1 l2 ⌝ }
 {
     if 8388608 < n {
