@@ -2,7 +2,7 @@
 use mathlib.Core.Path.{_≡_, refl, sym, ap, _∙_}
 use mathlib.Core.Bool.{Bool}
 use mathlib.Core.List.{List, [], _++_}
-use Prim.Native.Nat.{ℕ, zero, suc, _+_, _-_, _*_, _≤_, _<_}
+use Prim.Native.Nat.{ℕ, suc, _+_, _-_, _*_, _≤_, _<_}
 use native.Mathlib.Omega.{arith}
 use native.Mathlib.Numerals.{add-one}
 use lib.ListN.{length, getD, take, drop, length-append}
@@ -18,7 +18,7 @@ use Rattle.points.specs.declared.Filled.the-variants.{Count, Room}
 use Rattle.points.specs.Points.{eights, FilledOn}
 use Rattle.points.proofs.Adding.{eights-append, length-eights, count-got, on-count}
 use Rattle.strand.specs.Strand.{Strand, NoRoom, Segments, strandFilled, segmentsOf}
-use Rattle.painting.specs.Painting.{strandOfSpline, Painted, All, NoRoomAt, afterStrand, paintFrom, paintOf, drawnOf, DrawnOn}
+use Rattle.painting.specs.Painting.{strandOfSpline, All, NoRoomAt, afterStrand, paintFrom, paintOf}
 
 -- the double deltas of the spline k, cut from all of them
 pub part-is : (d : Description) (k at w : ℕ) → w ≡ getD (d .counts) k 0 → at ≡ deltasAt d k → take (at + 2 * w - at) (drop at (d .deltas)) ≡ deltasOf d k

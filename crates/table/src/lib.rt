@@ -1,8 +1,268 @@
-// The build: all splines to segments, and the rows that list them, in lent buffers.
+// The build: all splines to segments, and the rows that list them, in lent buffers. All checks come before any drawing, and a refusal leaves
+// every lent cell zero.
+ghost use mathlib.Core.Path.{_≡_};
+ghost use Prim.Native.Nat.{_*_, _≤_, _<_, _^_};
+ghost use lib.Dec.{eqb};
+ghost use lib.ListN.{length, take};
+ghost use Rattle.dequantize.specs.Judge.{Shaped, descriptionOf, sum};
+ghost use Rattle.curve.specs.Curve.{pathRoom};
+ghost use Rattle.walk.specs.Walk.{walkRoom};
+ghost use Rattle.points.specs.Points.{segmentRoom};
+ghost use Rattle.painting.specs.Painting.{Passed, paintOf};
+ghost use Rattle.rows.specs.Rows.{inRow, built};
+ghost use Rattle.table.specs.Table.{roomsOf, imageOf, givenOf, leaves, refusedWith, sized, shaped, verdictOf, afterRows, afterPaint, buildOf};
 use codes::Code;
+use dequantize::Given;
+use dequantize::judge::Judged;
+use painting::Drawn;
+use rows::Listed;
 
 // The segments, the entries and the estimate; or a code and its place.
 pub enum BuildAnswer {
     Done(u32, u32, u64),
     Refused(Code, usize),
+}
+
+fn given_of(
+    adjustment: i32,
+    width: u32,
+    height: u32,
+    y_to_x: f32,
+    y_to_b: f32,
+    high_precision: bool,
+    level10: bool,
+) -> Given
+    ensures { λ r. ⌜ r ≡ givenOf (imageOf adjustment width height «y_to_x» «y_to_b» «high_precision» level10) ⌝ }
+{
+    let area = (width as u64) * (height as u64);
+    let limit = dequantize::limits::spline_area_limit(level10, area);
+    Given {
+        adjustment,
+        y_to_x,
+        y_to_b,
+        limit,
+    }
+}
+
+fn size_good(width: u32, height: u32) -> bool
+    ensures { λ r. ⌜ r ≡ sized width height ⌝ }
+{
+    if 8388608 < width {
+        return false;
+    }
+    height <= 8388608
+}
+
+// Whether the counts sum to just so many points: the sum itself may be too large to hold, so points are taken away instead.
+fn sum_is(counts: &[u32], points: usize) -> bool
+    ensures { λ r. ⌜ r ≡ eqb (sum (now (counts .entry))) points ⌝ }
+{
+    let mut left = points;
+    let mut i = 0;
+    while i < counts.len() {
+        let n = counts[i] as usize;
+        if left < n {
+            return false;
+        }
+        left -= n;
+        i += 1;
+    }
+    left == 0
+}
+
+// Whether the lengths agree: 128 times a count may be too large to hold, so the coefficients are divided instead.
+fn shape_good(counts: &[u32], starts: &[f32], deltas: &[i32], coefficients: &[i32]) -> bool
+    ensures { λ r. ⌜ r ≡ shaped (descriptionOf (now (counts .entry)) (now (starts .entry)) (now (deltas .entry)) (now (coefficients .entry))) ⌝ }
+{
+    let splines = counts.len();
+    if starts.len() != 2 * splines {
+        return false;
+    }
+    if deltas.len() % 2 != 0 {
+        return false;
+    }
+    if coefficients.len() % 128 != 0 {
+        return false;
+    }
+    if coefficients.len() / 128 != splines {
+        return false;
+    }
+    sum_is(counts, deltas.len() / 2)
+}
+
+// All checks before any drawing, in their order.
+fn judge_all(
+    counts: &[u32],
+    starts: &[f32],
+    deltas: &[i32],
+    coefficients: &[i32],
+    given: Given,
+    width: u32,
+    height: u32,
+    rows: usize,
+) -> Judged
+    ensures { λ r. ⌜ r ≡ verdictOf (descriptionOf (now (counts .entry)) (now (starts .entry)) (now (deltas .entry)) (now (coefficients .entry))) given width height rows ⌝ }
+{
+    if !size_good(width, height) {
+        return Judged::Refused(Code::Size, 0);
+    }
+    if !shape_good(counts, starts, deltas, coefficients) {
+        return Judged::Refused(Code::Shape, 0);
+    }
+    if rows <= height as usize {
+        return Judged::Refused(Code::Room, 0);
+    }
+    dequantize::judge::judge(counts, starts, deltas, coefficients, given)
+}
+
+// A refusal, with every lent cell zero.
+fn refuse(
+    code: Code,
+    place: usize,
+    path: &mut [f32],
+    walk: &mut [f32],
+    segments: &mut [f32],
+    row_starts: &mut [u32],
+    entries: &mut [u32],
+) -> BuildAnswer
+    ensures { λ r. ⌜ leaves r (now (path .exit)) (now (walk .exit)) (now (segments .exit)) (now («row_starts» .exit)) (now (entries .exit))
+        ≡ refusedWith (roomsOf (now (path .entry)) (now (walk .entry)) (now (segments .entry)) (now («row_starts» .entry)) (now (entries .entry))) code place ⌝ }
+{
+    buffers::clear(path, 0);
+    buffers::clear(walk, 0);
+    buffers::clear(segments, 0);
+    rows::clear(row_starts);
+    rows::clear(entries);
+    BuildAnswer::Refused(code, place)
+}
+
+// The rows of the segments that are drawn, and zeros in what is not used.
+fn list_segments(
+    count: usize,
+    height: u32,
+    estimate: u64,
+    path: &mut [f32],
+    walk: &mut [f32],
+    segments: &mut [f32],
+    row_starts: &mut [u32],
+    entries: &mut [u32],
+) -> BuildAnswer
+    requires { ⌜ (8 * count ≤ length (now segments)) × (count ≤ 2 ^ 24) × (height ≤ 2 ^ 23) × (height < length (now «row_starts»)) ⌝ }
+    ensures { λ r. ⌜ leaves r (now (path .exit)) (now (walk .exit)) (now (segments .exit)) (now («row_starts» .exit)) (now (entries .exit))
+        ≡ afterRows (roomsOf (now (path .entry)) (now (walk .entry)) (now (segments .entry)) (now («row_starts» .entry)) (now (entries .entry))) estimate count (take (8 * count) (now (segments .entry))) (built (inRow (now (segments .entry))) count height (length (now («row_starts» .entry))) (length (now (entries .entry)))) ⌝ }
+{
+    match rows::list_rows(segments, count, height as usize, row_starts, entries) {
+        Listed::Room => refuse(Code::Room, 0, path, walk, segments, row_starts, entries),
+        Listed::Entries(n) => {
+            buffers::clear(path, 0);
+            buffers::clear(walk, 0);
+            buffers::clear(segments, 8 * count);
+            BuildAnswer::Done(count as u32, n, estimate)
+        }
+    }
+}
+
+// The table of a description that was judged.
+fn paint(
+    counts: &[u32],
+    starts: &[f32],
+    deltas: &[i32],
+    coefficients: &[i32],
+    given: Given,
+    high_precision: bool,
+    height: u32,
+    estimate: u64,
+    path: &mut [f32],
+    walk: &mut [f32],
+    segments: &mut [f32],
+    row_starts: &mut [u32],
+    entries: &mut [u32],
+) -> BuildAnswer
+    requires { ⌜ Shaped (descriptionOf (now counts) (now starts) (now deltas) (now coefficients)) × Passed (descriptionOf (now counts) (now starts) (now deltas) (now coefficients)) given × (height ≤ 2 ^ 23) × (height < length (now «row_starts»)) ⌝ }
+    ensures { λ r. ⌜ leaves r (now (path .exit)) (now (walk .exit)) (now (segments .exit)) (now («row_starts» .exit)) (now (entries .exit))
+        ≡ afterPaint (roomsOf (now (path .entry)) (now (walk .entry)) (now (segments .entry)) (now («row_starts» .entry)) (now (entries .entry))) height estimate (paintOf (descriptionOf (now (counts .entry)) (now (starts .entry)) (now (deltas .entry)) (now (coefficients .entry))) given «high_precision» (pathRoom (length (now (path .entry)))) (walkRoom (length (now (walk .entry)))) (segmentRoom (length (now (segments .entry))))) ⌝ }
+{
+    match painting::draw_all(
+        counts,
+        starts,
+        deltas,
+        coefficients,
+        given,
+        high_precision,
+        path,
+        walk,
+        segments,
+    ) {
+        Drawn::Room(k) => refuse(Code::Room, k, path, walk, segments, row_starts, entries),
+        Drawn::Count(count) => list_segments(
+            count,
+            height,
+            estimate,
+            path,
+            walk,
+            segments,
+            row_starts,
+            entries,
+        ),
+    }
+}
+
+// The whole table, or a refusal with every lent cell zero.
+pub fn build(
+    counts: &[u32],
+    starts: &[f32],
+    deltas: &[i32],
+    coefficients: &[i32],
+    adjustment: i32,
+    width: u32,
+    height: u32,
+    y_to_x: f32,
+    y_to_b: f32,
+    high_precision: bool,
+    level10: bool,
+    path: &mut [f32],
+    walk: &mut [f32],
+    segments: &mut [f32],
+    row_starts: &mut [u32],
+    entries: &mut [u32],
+) -> BuildAnswer
+    ensures { λ r. ⌜ leaves r (now (path .exit)) (now (walk .exit)) (now (segments .exit)) (now («row_starts» .exit)) (now (entries .exit))
+        ≡ buildOf (descriptionOf (now (counts .entry)) (now (starts .entry)) (now (deltas .entry)) (now (coefficients .entry))) (imageOf adjustment width height «y_to_x» «y_to_b» «high_precision» level10) (roomsOf (now (path .entry)) (now (walk .entry)) (now (segments .entry)) (now («row_starts» .entry)) (now (entries .entry))) ⌝ }
+{
+    let given = given_of(
+        adjustment,
+        width,
+        height,
+        y_to_x,
+        y_to_b,
+        high_precision,
+        level10,
+    );
+    match judge_all(
+        counts,
+        starts,
+        deltas,
+        coefficients,
+        given,
+        width,
+        height,
+        row_starts.len(),
+    ) {
+        Judged::Refused(code, k) => refuse(code, k, path, walk, segments, row_starts, entries),
+        Judged::Fine(estimate) => paint(
+            counts,
+            starts,
+            deltas,
+            coefficients,
+            given,
+            high_precision,
+            height,
+            estimate,
+            path,
+            walk,
+            segments,
+            row_starts,
+            entries,
+        ),
+    }
 }

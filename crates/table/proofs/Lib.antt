@@ -1,0 +1,3 @@
+-- The laws of the crate `table`.
+pub mod Checks
+pub mod Placing
