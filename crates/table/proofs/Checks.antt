@@ -38,7 +38,7 @@ sum-left ns points (suc left) h e = ne-eqb (suc left) 0 (λ s. omega arith) ∙ 
 
 -- ---- SHAPE
 
-both : (a b : Bool) → a && b ≡ true → (a ≡ true) × (b ≡ true)
+pub both : (a b : Bool) → a && b ≡ true → (a ≡ true) × (b ≡ true)
 both true true e = (refl, refl)
 both true false e = absurd (let z : _≡_ {A = ℕ} 0 1 = cc in omega arith)
 both false b e = absurd (let z : _≡_ {A = ℕ} 0 1 = cc in omega arith)

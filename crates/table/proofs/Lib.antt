@@ -1,3 +1,4 @@
 -- The laws of the crate `table`.
 pub mod Checks
 pub mod Placing
+pub mod Users
