@@ -33,12 +33,12 @@ fn against_oracle(tally: &mut Tally, row: &[f32; 32], t: f32) -> Verdict {
 }
 
 /// Older compilers start a float sum there, newer ones from minus zero, which is as good as from the first number.
-fn sum_starts_from_plus_zero() -> bool {
+pub fn sum_starts_from_plus_zero() -> bool {
     std::iter::empty::<f32>().sum::<f32>().is_sign_positive()
 }
 
 /// Ordinary coefficients, zeros of both signs, products that are all minus zero, or anything.
-fn row(r: &mut Random, t: f32) -> [f32; 32] {
+pub fn row(r: &mut Random, t: f32) -> [f32; 32] {
     let kind = r.below(4);
     cosines(t).map(|cosine| match kind {
         0 => r.between(-5.0, 5.0),

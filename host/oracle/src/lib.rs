@@ -188,6 +188,11 @@ pub fn refused_spline(description: &Description, given: &Given) -> Option<usize>
     layers::refused_spline(description, given)
 }
 
+/// The same loop with its outcome: the sum of the estimates, or the number of the spline and what it came to.
+pub fn judged(description: &Description, given: &Given) -> Result<u64, (usize, Outcome<()>)> {
+    layers::judged(description, given)
+}
+
 /// Builds `first`, then `second` in the same `Splines`: the second outcome, and the table that stands afterwards
 /// (with `below`). `Err` if the first build already fails.
 pub fn rebuild(

@@ -385,11 +385,22 @@ fn estimate(splines: &Splines, given: &Given) -> u64 {
 }
 
 pub(crate) fn refused_spline(description: &Description, given: &Given) -> Option<usize> {
+    judged(description, given).err().map(|(index, _)| index)
+}
+
+pub(crate) fn judged(
+    description: &Description,
+    given: &Given,
+) -> Result<u64, (usize, Outcome<()>)> {
     let splines = splines_of(description);
     let mut total = 0;
-    (0..splines.splines.len()).find(|&index| {
-        judge(|| judge_spline(&splines, index, given, &mut total)) != Outcome::Done(())
-    })
+    for index in 0..splines.splines.len() {
+        match judge(|| judge_spline(&splines, index, given, &mut total)) {
+            Outcome::Done(()) => {}
+            outcome => return Err((index, outcome)),
+        }
+    }
+    Ok(total)
 }
 
 pub(crate) fn rebuild(
