@@ -1,11 +1,10 @@
 -- The demands hold: each is a theorem of the layers, or read off the definition of an outcome. Assumes nothing.
-use mathlib.Core.Path.{_≡_, refl, sym, ap, _∙_}
-use mathlib.Core.List.{List, _++_, [], _∷_}
+use mathlib.Core.Path.{_≡_, sym, ap, _∙_}
+use mathlib.Core.List.{_++_, [], _∷_}
 use Prim.Native.Nat.{ℕ}
 use native.Mathlib.Omega.{arith}
 use lib.Dec.{ltb}
 use lib.ListN.{length, replicate}
-use Rattle.codes.specs.declared.Code.{Code}
 use Rattle.codes.specs.declared.Code.the-variants.{Room}
 use Rattle.list.specs.List.{limitOf}
 use Rattle.reader.proofs.Promises.{refused-exactly, given-exactly}
@@ -18,7 +17,28 @@ use Rattle.draw.specs.Draw as drawing
 use Rattle.draw.specs.declared.DrawAnswer.{DrawAnswer}
 use Rattle.draw.specs.declared.Verdict.{Verdict as Judged}
 use Rattle.draw.specs.declared.Verdict.the-variants as judged
-use Rattle.aktyrbuz.specs.Demands.{WrittenIsRead, ReadIsWritten, RefusedReadLeavesZero, RefusedWriteLeavesZero, RefusedDrawsNothing}
+use Rattle.table.specs.Table as building
+use Rattle.table.proofs.Users.{refused-leaves-zero}
+use Rattle.picture.proofs.Tables.{built-table}
+use Rattle.picture.proofs.Pictures as pictures
+use Rattle.picture.proofs.Rooms.{same-segments}
+use Rattle.aktyrbuz.specs.Demands.{ReadsAsSplineRs, WritesTheList, WrittenIsRead, ReadIsWritten, BuildsAsSplineRs, BuildsTheTable, DrawsAsSplineRs, ReachesByTheRule, RefusedReadLeavesZero, RefusedWriteLeavesZero, RefusedBuildLeavesZero, RefusedDrawsNothing, RowInParts, ImageInParts, UpdatesSum, RoomChangesNothing, OneOutcome}
+
+-- a contract is the equation that it is written as
+pub reads-as-spline-rs : ReadsAsSplineRs
+reads-as-spline-rs κs _ _ _ _ _ _ _ _ _ _ _ _ _ _ _ p = p
+
+pub writes-the-list : WritesTheList
+writes-the-list κs _ _ _ _ _ _ _ _ _ _ _ _ _ _ _ _ _ p = p
+
+pub builds-as-spline-rs : BuildsAsSplineRs
+builds-as-spline-rs κs _ _ _ _ _ _ _ _ _ _ _ _ _ _ _ _ _ _ _ _ _ _ _ _ _ _ _ _ _ _ _ _ _ p = p
+
+pub draws-as-spline-rs : DrawsAsSplineRs
+draws-as-spline-rs κs _ _ _ _ _ _ _ _ _ _ _ _ _ _ _ _ _ _ _ _ _ _ _ _ _ p = p
+
+pub reaches-by-the-rule : ReachesByTheRule
+reaches-by-the-rule κs _ _ _ _ _ _ _ _ _ _ _ _ _ _ _ _ _ p = p
 
 pub written-is-read : WrittenIsRead
 written-is-read = written-then-read
@@ -42,6 +62,18 @@ refused-write-leaves-zero ns ss ds cs a configured pixels room o c p w e =
     go Fine f l = let z : _≡_ {A = ℕ} 0 1 = cc in absurd (omega arith)
     go (Fault k q) f l = l
 
+pub refused-build-leaves-zero : RefusedBuildLeavesZero
+unfolding building.refusedWith
+refused-build-leaves-zero d i r o c p is e =
+    let z = refused-leaves-zero d i r o c p is e in
+    record {
+      path = ap (λ (u : building.Table). u .path) z;
+      walk = ap (λ (u : building.Table). u .walk) z;
+      segments = ap (λ (u : building.Table). u .segments) z;
+      starts = ap (λ (u : building.Table). u .starts) z;
+      entries = ap (λ (u : building.Table). u .entries) z;
+    }
+
 pub refused-draws-nothing : RefusedDrawsNothing
 unfolding drawing.drawOf
 refused-draws-nothing t y x0 n a z c p e =
@@ -53,3 +85,32 @@ refused-draws-nothing t y x0 n a z c p e =
         let k : _≡_ {A = ℕ} 0 1 = cc in
         absurd (omega arith)
     go (judged.Fault k) f = ap (λ (u : drawing.DrawOutcome). u .channels) f
+
+pub builds-the-table : BuildsTheTable
+builds-the-table d i r b = built-table b
+
+pub row-in-parts : RowInParts
+row-in-parts d i r b y W a w sum t = pictures.row-in-parts b y W a w sum t
+
+pub image-in-parts : ImageInParts
+image-in-parts d i r b W a w sum t = pictures.image-in-parts b W a w sum t
+
+pub updates-sum : UpdatesSum
+updates-sum = record {
+  row = λ d i r b y W a w sum t. pictures.row-updates b y W a w sum t;
+  at-most = λ d i r b y W a w sum t. pictures.row-updates-most b y W a w sum t;
+  image = λ d i r b W a w sum t. pictures.image-updates b W a w sum t;
+}
+
+pub room-changes-nothing : RoomChangesNothing
+room-changes-nothing d i r q a b = same-segments a b
+
+-- an equation determines its outcome
+pub one-outcome : OneOutcome
+one-outcome = record {
+  read = λ configured pixels rooms l o q e f. e ∙ sym f;
+  write = λ ns ss ds cs a configured pixels room o q e f. e ∙ sym f;
+  build = λ d i r o q e f. e ∙ sym f;
+  draw = λ t y x0 n a o q e f. e ∙ sym f;
+  reach = λ t y W o q e f. e ∙ sym f;
+}

@@ -25,7 +25,8 @@ use Rattle.rows.specs.declared.Listed.{Listed}
 use Rattle.rows.specs.declared.Listed.the-variants as Listed
 use Rattle.rows.specs.Rows.{inRow, Outcome, outcome, built}
 use Rattle.painting.specs.Painting.{strandOfSpline, Painted, All, NoRoomAt, afterStrand, paintFrom, paintOf}
-use Rattle.table.specs.Table.{Rooms, Image, Table, givenOf, refusedWith, padded, sized, shaped, orRefused, verdictOf, afterRows, afterJudge, buildOf}
+use Rattle.table.specs.Table.{Rooms, Image, Table, givenOf, refusedWith, zeros, padded, sized, shaped, orRefused, verdictOf, afterRows, afterJudge, buildOf}
+use Rattle.table.specs.Refusals.{painted}
 use Rattle.table.specs.declared.BuildAnswer.the-variants.{Done}
 use Rattle.draw.proofs.Entries.{and-left, and-right}
 
@@ -67,6 +68,8 @@ module _ (r : Rooms) (t : Table) (s e est : ℕ) (done : t .answer ≡ Done s e 
     same : estimate ≡ est
     size : length segs ≡ s
     listed : o .answer ≡ Listed.Entries e
+    path : t .path ≡ zeros (r .path)
+    walk : t .walk ≡ zeros (r .walk)
     segments : t .segments ≡ padded (r .segments) (eights segs)
     starts : t .starts ≡ o .starts
     entries : t .entries ≡ o .entries
@@ -81,6 +84,8 @@ module _ (r : Rooms) (t : Table) (s e est : ℕ) (done : t .answer ≡ Done s e 
         same = cc;
         size = cc;
         listed = ap Listed.Entries m;
+        path = ap (λ (b : Table). b .path) q;
+        walk = ap (λ (b : Table). b .walk) q;
         segments = ap (λ (b : Table). b .segments) q;
         starts = ap (λ (b : Table). b .starts) q;
         entries = ap (λ (b : Table). b .entries) q;
@@ -91,7 +96,7 @@ module _ (r : Rooms) (t : Table) (s e est : ℕ) (done : t .answer ≡ Done s e 
     segs : List Segment
     estimate : ℕ
     judged : j ≡ Judged.Fine estimate
-    painted : p ≡ All segs
+    drawn : p ≡ All segs
     listing : Listing estimate segs (built (inRow (eights segs)) (length segs) H (r .starts) (r .entries))
 
   ended : (H : ℕ) (j : Judged) (p : Painted) → t ≡ afterJudge r H j p → Ended H j p
@@ -99,7 +104,7 @@ module _ (r : Rooms) (t : Table) (s e est : ℕ) (done : t .answer ≡ Done s e 
   ended H (Judged.Fine estimate) (NoRoomAt k) q = absurd (refused-not Code.Room k q)
   ended H (Judged.Fine estimate) (All segs) q =
       let o = built (inRow (eights segs)) (length segs) H (r .starts) (r .entries) in
-      record { segs = segs; estimate = estimate; judged = refl; painted = refl; listing = rows-listed estimate segs (o .answer) (o .starts) (o .entries) q }
+      record { segs = segs; estimate = estimate; judged = refl; drawn = refl; listing = rows-listed estimate segs (o .answer) (o .starts) (o .entries) q }
 
 passed : (b : Bool) (c : Code) (rest : Judged) (n : ℕ) → orRefused b c rest ≡ Judged.Fine n → (b ≡ true) × (rest ≡ Judged.Fine n)
 passed true c rest n q = (refl, q)
@@ -132,10 +137,12 @@ pub record Accepted (d : Description) (i : Image) (r : Rooms) (t : Table) (s e e
   pub low : i .height ≤ 2 ^ 23
   pub fits-starts : i .height < r .starts
   pub judged : judgeOf d (givenOf i) ≡ Judged.Fine est
-  pub painted : paintOf d (givenOf i) (i .high) (pathRoom (r .path)) (walkRoom (r .walk)) (segmentRoom (r .segments)) ≡ All segs
+  pub drawn : painted d i r ≡ All segs
   pub fits-segments : length segs ≤ segmentRoom (r .segments)
   pub size : length segs ≡ s
   pub listed : built (inRow (eights segs)) (length segs) (i .height) (r .starts) (r .entries) .answer ≡ Listed.Entries e
+  pub path : t .path ≡ zeros (r .path)
+  pub walk : t .walk ≡ zeros (r .walk)
   pub segments : t .segments ≡ padded (r .segments) (eights segs)
   pub starts : t .starts ≡ built (inRow (eights segs)) (length segs) (i .height) (r .starts) (r .entries) .starts
   pub entries : t .entries ≡ built (inRow (eights segs)) (length segs) (i .height) (r .starts) (r .entries) .entries
@@ -143,7 +150,7 @@ pub record Accepted (d : Description) (i : Image) (r : Rooms) (t : Table) (s e e
 pub accepted : (d : Description) (i : Image) (r : Rooms) (t : Table) (s e est : ℕ) → t ≡ buildOf d i r → t .answer ≡ Done s e est → Accepted d i r t s e est
 unfolding buildOf
 accepted d i r t s e est q done =
-    let g = ended r t s e est done (i .height) (verdictOf d (givenOf i) (i .width) (i .height) (r .starts)) (paintOf d (givenOf i) (i .high) (pathRoom (r .path)) (walkRoom (r .walk)) (segmentRoom (r .segments))) q in
+    let g = ended r t s e est done (i .height) (verdictOf d (givenOf i) (i .width) (i .height) (r .starts)) (painted d i r) q in
     let f = fine d (givenOf i) (i .width) (i .height) (r .starts) (g .estimate) (g .judged) in
     record {
       segs = g .segs;
@@ -151,10 +158,12 @@ accepted d i r t s e est q done =
       low = f .low;
       fits-starts = f .fits;
       judged = f .judged ∙ ap Judged.Fine (g .listing .same);
-      painted = g .painted;
-      fits-segments = all-fit d (givenOf i) (i .high) (pathRoom (r .path)) (walkRoom (r .walk)) (segmentRoom (r .segments)) (g .segs) (g .painted);
+      drawn = g .drawn;
+      fits-segments = all-fit d (givenOf i) (i .high) (pathRoom (r .path)) (walkRoom (r .walk)) (segmentRoom (r .segments)) (g .segs) (g .drawn);
       size = g .listing .size;
       listed = g .listing .listed;
+      path = g .listing .path;
+      walk = g .listing .walk;
       segments = g .listing .segments;
       starts = g .listing .starts;
       entries = g .listing .entries;

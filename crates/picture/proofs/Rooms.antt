@@ -98,7 +98,7 @@ unfolding paintOf
 same-segments {d} {i} {r} {r′} a b =
     sym (segments-are a)
     ∙ paint-same d (givenOf i) (i .high) (pathRoom (r .path)) (walkRoom (r .walk)) (segmentRoom (r .segments)) (pathRoom (r′ .path)) (walkRoom (r′ .walk)) (segmentRoom (r′ .segments))
-    (length (d .counts)) 0 [] (facts a .segs) (facts b .segs) (facts a .painted) (facts b .painted)
+    (length (d .counts)) 0 [] (facts a .segs) (facts b .segs) (facts a .drawn) (facts b .drawn)
     ∙ segments-are b
 
 -- Assumes nothing.

@@ -22,10 +22,10 @@ use Rattle.rows.specs.Rows as rows
 use Rattle.rows.specs.Rows.{inRow, listed, upTo, startOf, Outcome}
 use Rattle.rows.proofs.Counts.{listed-in, by-row}
 use Rattle.rows.proofs.Users as users
-use Rattle.table.specs.Table.{Rooms, Image, zeros}
+use Rattle.table.specs.Table.{Rooms, Image, zeros, padded}
 use Rattle.draw.proofs.Entries.{and-left, and-right}
 use Rattle.draw.specs.Draw.{pixel, updates, rowOf, allBelow, countsGood, entriesGood, rowGood}
-use Rattle.picture.specs.Picture.{Built, built, segmentsOf, pixelOf, rowPairs}
+use Rattle.picture.specs.Picture.{Built, built, BuiltTable, segmentsOf, pixelOf, rowPairs}
 use Rattle.picture.proofs.Flat.{segment-at}
 use Rattle.picture.proofs.Pixels.{pixel-is, pairs-are}
 use Rattle.picture.proofs.Accepted.{Accepted, accepted}
@@ -97,7 +97,7 @@ module _ {d : Description} {i : Image} {r : Rooms} (b : Built d i r) where
   -- the segments that were drawn are those of the table, in their order
   pub segments-are : facts .segs ≡ segmentsOf d i r
   unfolding segmentsOf
-  segments-are = rw (facts .painted)
+  segments-are = rw (facts .drawn)
 
   pub segment-is : (k : ℕ) (e : Segment) → k < length (facts .segs) → segmentAt (b .left .segments) k ≡ getD (facts .segs) k e
   segment-is k e h = ap (λ (l : List Float). segmentAt l k) (facts .segments) ∙ segment-at (facts .segs) _ e k h
@@ -160,5 +160,15 @@ module _ {d : Description} {i : Image} {r : Rooms} (b : Built d i r) where
         ap (updates (b .left .segments) 0 W) row-is
         ∙ pairs-are (b .left .segments) (facts .segs) none (λ k l. segment-is k none l) (inRow (eights (facts .segs))) in-row W y
         ∙ ap (λ (s : List Segment). rowPairs s W y) segments-are
+
+  pub built-table : BuiltTable b
+  built-table = record {
+    judged = facts .judged;
+    count = sym (facts .size) ∙ ap length segments-are;
+    segments = facts .segments ∙ ap (λ (s : List Segment). padded (r .segments) (eights s)) segments-are;
+    rows = row-listed;
+    no-path = facts .path;
+    no-walk = facts .walk;
+  }
 
 -- Assumes nothing.

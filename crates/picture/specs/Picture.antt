@@ -1,21 +1,26 @@
 -- The picture of a list of segments: each pixel with the segments added that have it, and the pairs of a segment and a pixel that it has. Definitions only.
 use mathlib.Core.Path.{_≡_}
 use mathlib.Core.Bool.{Bool, cond, _&&_}
-use mathlib.Core.List.{List, [], _∷_, foldl}
-use Prim.Native.Nat.{ℕ, zero, suc, _+_}
+use mathlib.Core.List.{List, [], _∷_, foldl, List·Permᴰ}
+use Prim.Native.Nat.{ℕ, zero, suc, _+_, _^_, _≤_, _<_}
+use lib.ListN.{length}
 use lib.Ieee.{Float}
-use Rattle.dequantize.specs.Judge.{Description}
-use Rattle.curve.specs.Curve.{pathRoom}
-use Rattle.walk.specs.Walk.{walkRoom}
-use Rattle.points.specs.Points.{segmentRoom}
+use Rattle.dequantize.specs.declared.judge.Judged.the-variants as Judged
+use Rattle.dequantize.specs.Judge.{Description, judgeOf}
+use Rattle.points.specs.Points.{eights}
 use Rattle.segments.specs.declared.Segment.{Segment}
 use Rattle.segments.specs.Ranges.{hasRow, hasColumn}
 use Rattle.shade.specs.Shade.{shaded}
-use Rattle.painting.specs.Painting.{Painted, All, NoRoomAt, paintOf}
-use Rattle.table.specs.Table.{Rooms, Image, givenOf, buildOf}
+use Rattle.painting.specs.Painting.{Painted, All, NoRoomAt}
+use Rattle.rows.specs.Rows.{listed, inRow}
+use Rattle.table.specs.Table.{Rooms, Image, givenOf, zeros, padded, buildOf}
 use Rattle.table.specs.Table as build
+use Rattle.table.specs.Refusals.{painted}
 use Rattle.table.specs.declared.BuildAnswer.{BuildAnswer}
-use Rattle.draw.specs.Draw.{count, Table, tableOf, Channels}
+use Rattle.draw.specs.Draw.{count, Table, tableOf, rowOf, Channels}
+use Rattle.draw.specs.Parts.{Part, cuts, total, Wide, Drawn}
+use Rattle.draw.specs.Image.{Job, jobs, Each, DrawnAll}
+use Rattle.draw.specs.Image as drawing
 use Rattle.shade.specs.Edit.{edit}
 
 -- whether a segment has the pixel at row y and column x
@@ -61,12 +66,43 @@ paintedSegments (NoRoomAt k) = []
 
 -- the segments of a description, in the order of its splines
 unfoldable pub segmentsOf : Description → Image → Rooms → List Segment
-segmentsOf d i r = paintedSegments (paintOf d (givenOf i) (i .high) (pathRoom (r .path)) (walkRoom (r .walk)) (segmentRoom (r .segments)))
+segmentsOf d i r = paintedSegments (painted d i r)
 
--- ---- drawn
+-- what the table holds: the segments laid flat, each row's segments once each, ascending, and zeros in the working cells and behind the used part
+pub record BuiltTable {d : Description} {i : Image} {r : Rooms} (b : Built d i r) : Type 0 where
+  pub judged : judgeOf d (givenOf i) ≡ Judged.Fine (b .estimate)
+  pub count : b .segments ≡ length (segmentsOf d i r)
+  pub segments : b .left .segments ≡ padded (r .segments) (eights (segmentsOf d i r))
+  pub rows : (y : ℕ) → y < i .height → rowOf (built b) y ≡ listed (inRow (b .left .segments)) y (b .segments)
+  pub no-path : b .left .path ≡ zeros (r .path)
+  pub no-walk : b .left .walk ≡ zeros (r .walk)
+
+-- ---- drawn in parts
+
+-- row y of a built table, drawn W pixels wide: cut into adjacent parts, the parts drawn in any order, from the channels a to w, with the updates summed
+pub record RowRun {d : Description} {i : Image} {r : Rooms} (b : Built d i r) (y W : ℕ) (a w : Channels) (sum : ℕ) : Type 0 where
+  pub in-image : y < i .height
+  pub narrow : W ≤ 2 ^ 23
+  pub wide : Wide W a
+  pub widths : List ℕ
+  pub cut : total widths ≡ W
+  pub parts : List Part
+  pub order : List·Permᴰ (cuts 0 widths) parts
+  pub drawn : Drawn (built b) y parts a sum w
+
+-- the same of all rows, whose parts may be mixed
+pub record ImageRun {d : Description} {i : Image} {r : Rooms} (b : Built d i r) (W : ℕ) (a w : drawing.Image) (sum : ℕ) : Type 0 where
+  pub narrow : W ≤ 2 ^ 23
+  pub wide : (y : ℕ) → Wide W (a y)
+  pub widths : List (List ℕ)
+  pub tall : length widths ≡ i .height
+  pub cut : Each W widths
+  pub parts : List Job
+  pub order : List·Permᴰ (jobs 0 widths) parts
+  pub drawn : DrawnAll (built b) parts a sum w
 
 -- from the channels a of row y to w: each pixel of each channel is its starting value with the segments added that have it, in their order
 pub record RowPicture (segments : List Segment) (y : ℕ) (a w : Channels) : Type 0 where
-  pub red : w .r0 ≡ edit (pixelOf 0 segments y) (a .r0)
-  pub green : w .r1 ≡ edit (pixelOf 1 segments y) (a .r1)
-  pub blue : w .r2 ≡ edit (pixelOf 2 segments y) (a .r2)
+  pub channel0 : w .r0 ≡ edit (pixelOf 0 segments y) (a .r0)
+  pub channel1 : w .r1 ≡ edit (pixelOf 1 segments y) (a .r1)
+  pub channel2 : w .r2 ≡ edit (pixelOf 2 segments y) (a .r2)
