@@ -22,6 +22,8 @@ use Rattle.curve.specs.declared.Curved.the-variants as path
 use Rattle.walk.specs.declared.Walked.{Walked}
 use Rattle.walk.specs.declared.Walked.the-variants as walk
 use Rattle.transform.specs.declared.Sums.{Sums}
+use Rattle.points.specs.declared.Filled.{Filled}
+use Rattle.points.specs.declared.Filled.the-variants as filled
 use Rattle.segments.specs.Segment.{eightOf}
 use Rattle.segments.specs.declared.Added.{Added}
 use Rattle.segments.specs.declared.Added.the-variants.{Made, Nothing}
@@ -29,6 +31,7 @@ use Rattle.segments.specs.declared.Range.{Range}
 use Rattle.layers.specs.declared.Ran.{Ran}
 use Rattle.layers.specs.declared.Told.{Told}
 use Rattle.layers.specs.declared.Eight.{Eight}
+use Rattle.layers.specs.declared.Counted.{Counted}
 
 -- ---- dequantizing
 
@@ -108,3 +111,12 @@ eightIn Nothing = eightLeaves false (replicate 8 (ofBits binary32 0))
 
 abbrev pub twoOf : Range → List ℕ
 twoOf r = r .first ∷ r .past ∷ []
+
+-- ---- the segments of a walk
+
+abbrev pub countedLeaves : Bool → ℕ → Counted
+countedLeaves room count = record { room = room; count = count }
+
+abbrev pub countedOf : Filled → Counted
+countedOf (filled.Count n) = countedLeaves true n
+countedOf filled.Room = countedLeaves false 0

@@ -1,7 +1,7 @@
 // The inner layers of a build, each on numbers and slices, exported for the host's comparisons only: the third static library.
 // Where a layer asks something of its caller, the export asks it too, and the host sees to it.
 ghost use mathlib.Core.Path.{_≡_};
-ghost use Prim.Native.Nat.{_≤_};
+ghost use Prim.Native.Nat.{_/_, _≤_};
 ghost use lib.ListN.{length};
 ghost use Rattle.dequantize.specs.Coefficients.{invAdjustedQuant};
 ghost use Rattle.dequantize.specs.ControlPoints.{startingPoint, placeAt, Walk};
@@ -11,9 +11,10 @@ ghost use Rattle.dequantize.specs.Limits.{splineAreaLimit};
 ghost use Rattle.curve.specs.Curve.{pathOf, pathRoom, curvedOf, curvedOn};
 ghost use Rattle.walk.specs.Walk.{walkIn, walkRoom, walkedOf, WalkedOn, lengthOf};
 ghost use Rattle.transform.specs.Transform.{sumsOf};
+ghost use Rattle.points.specs.Points.{segmentRoom, addSegmentsFromPoints, filledOf, FilledOn};
 ghost use Rattle.segments.specs.Segment.{addSegment, segmentAt};
 ghost use Rattle.segments.specs.Ranges.{rowsOf, columnsOf};
-ghost use Rattle.layers.specs.Exported.{ranOf, ranLeaves, tracedFrom, givenOf, dequantizedLeaves, dequantizedExport, toldJudged, judgedLeaves, pairOf, pathCount, walkCount, coefficientsOf, fourOf, eightIn, eightLeaves, twoOf};
+ghost use Rattle.layers.specs.Exported.{ranOf, ranLeaves, tracedFrom, givenOf, dequantizedLeaves, dequantizedExport, toldJudged, judgedLeaves, pairOf, pathCount, walkCount, coefficientsOf, fourOf, eightIn, eightLeaves, twoOf, countedOf, countedLeaves};
 use codes::Code;
 use curve::Curved;
 use dequantize::Given;
@@ -22,6 +23,7 @@ use dequantize::control_points::Pair;
 use dequantize::control_points::Start;
 use dequantize::control_points::Traced;
 use dequantize::judge::Judged;
+use points::Filled;
 use segments::Added;
 use segments::Range;
 use segments::Segment;
@@ -267,6 +269,21 @@ fn four(sums: Sums) -> [f32; 4]
     [sums.x, sums.y, sums.b, sums.sigma]
 }
 
+// A spline of these rows; its other fields do not enter the sums.
+fn spline_of(x: [f32; 32], y: [f32; 32], b: [f32; 32], sigma: [f32; 32]) -> Spline
+    ensures { λ r. ⌜ r ≡ coefficientsOf x y b sigma ⌝ }
+{
+    Spline {
+        code: Code::Done,
+        x,
+        y,
+        b,
+        sigma,
+        estimate: 0,
+        coincide: false,
+    }
+}
+
 // The four sums at t of any four rows of coefficients.
 #[no_mangle]
 pub extern "C" fn layers_sums_at(
@@ -279,15 +296,7 @@ pub extern "C" fn layers_sums_at(
 )
     ensures { λ _. ⌜ now (sums .exit) ≡ fourOf (sumsOf (coefficientsOf (now (x .entry)) (now (y .entry)) (now (b .entry)) (now (sigma .entry))) t) ⌝ }
 {
-    let spline = Spline {
-        code: Code::Done,
-        x: *x,
-        y: *y,
-        b: *b,
-        sigma: *sigma,
-        estimate: 0,
-        coincide: false,
-    };
+    let spline = spline_of(*x, *y, *b, *sigma);
     let numbers = four(transform::sums_at(spline, t));
     *sums = numbers;
 }
@@ -378,4 +387,54 @@ pub extern "C" fn layers_columns(segment: &[f32], ends: &mut [u32; 2])
 {
     let numbers = two(Segment::at(segment, 0).columns());
     *ends = numbers;
+}
+
+// ---- the segments of a walk
+
+// Whether there was room for the segments, and how many there are.
+struct Counted {
+    room: bool,
+    count: usize,
+}
+
+fn counted_of(filled: Filled) -> Counted
+    ensures { λ r. ⌜ r ≡ countedOf filled ⌝ }
+{
+    match filled {
+        Filled::Count(count) => Counted { room: true, count },
+        Filled::Room => Counted {
+            room: false,
+            count: 0,
+        },
+    }
+}
+
+// The segments of a walk of three numbers a point, for any four rows of coefficients and any length.
+#[no_mangle]
+pub extern "C" fn layers_add_segments_from_points(
+    x: &[f32; 32],
+    y: &[f32; 32],
+    b: &[f32; 32],
+    sigma: &[f32; 32],
+    walk: &[f32],
+    walk_length: f32,
+    high_precision: bool,
+    segments: &mut [f32],
+    count: &mut usize,
+) -> bool
+    requires { ⌜ length (now walk) / 3 ≤ 8388608 ⌝ }
+    ensures { λ r. ⌜ (countedLeaves r (now (count .exit)) ≡ countedOf (filledOf (segmentRoom (length (now (segments .entry)))) 0 (addSegmentsFromPoints (coefficientsOf (now (x .entry)) (now (y .entry)) (now (b .entry)) (now (sigma .entry))) (now (walk .entry)) «walk_length» «high_precision»)))
+        × FilledOn (filledOf (segmentRoom (length (now (segments .entry)))) 0 (addSegmentsFromPoints (coefficientsOf (now (x .entry)) (now (y .entry)) (now (b .entry)) (now (sigma .entry))) (now (walk .entry)) «walk_length» «high_precision»)) 0 (addSegmentsFromPoints (coefficientsOf (now (x .entry)) (now (y .entry)) (now (b .entry)) (now (sigma .entry))) (now (walk .entry)) «walk_length» «high_precision») (now (segments .entry)) (now (segments .exit)) ⌝ }
+{
+    let spline = spline_of(*x, *y, *b, *sigma);
+    let counted = counted_of(points::add_segments_from_points(
+        spline,
+        walk,
+        walk_length,
+        high_precision,
+        segments,
+        0,
+    ));
+    *count = counted.count;
+    counted.room
 }

@@ -1,7 +1,7 @@
 //! The port's layers as safe calls on slices: each tests what its layer asks of a caller.
 
 use crate::symbols;
-use cases::segments::SegmentCase;
+use cases::segments::{AlongCase, SegmentCase};
 use cases::{Description, Segment};
 use model::dequantize::Quantized;
 use std::ops::Range;
@@ -188,6 +188,31 @@ pub fn add_segment(case: &SegmentCase) -> (bool, Segment) {
         )
     };
     (made, segment)
+}
+
+/// How many segments the walk makes, or `None` where there is no room.
+pub fn add_segments(case: &AlongCase, segments: &mut [f32]) -> Option<usize> {
+    let [x, y, b, sigma] = &case.coefficients;
+    let walk = case.walk.concat();
+    assert!(case.walk.len() <= 1 << 23, "a walk has 2^23 points at most");
+    let mut count = usize::MAX;
+    // SAFETY: each pointer comes with its slice's length or has it in its type; the count is our own, and nothing overlaps.
+    let room = unsafe {
+        symbols::layers_add_segments_from_points(
+            x,
+            y,
+            b,
+            sigma,
+            walk.as_ptr(),
+            walk.len(),
+            case.length,
+            case.high_precision,
+            segments.as_mut_ptr(),
+            segments.len(),
+            &mut count,
+        )
+    };
+    room.then_some(count)
 }
 
 pub fn rows(segment: &Segment) -> Range<u32> {

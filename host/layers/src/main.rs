@@ -25,12 +25,18 @@ struct Layer {
     outcomes: &'static [&'static str],
 }
 
-const LAYERS: [Layer; 8] = [
+const LAYERS: [Layer; 10] = [
     Layer {
         name: "readings",
         compare: readings::compare,
         least: readings::READINGS,
         outcomes: &readings::OUTCOMES,
+    },
+    Layer {
+        name: "limits",
+        compare: dequantize::compare_limits,
+        least: dequantize::LIMITS,
+        outcomes: &dequantize::LIMIT_OUTCOMES,
     },
     Layer {
         name: "dequantize",
@@ -67,6 +73,12 @@ const LAYERS: [Layer; 8] = [
         compare: segments::compare_making,
         least: segments::SEGMENTS,
         outcomes: &segments::OUTCOMES,
+    },
+    Layer {
+        name: "along",
+        compare: segments::compare_along,
+        least: segments::WALKS,
+        outcomes: &segments::WALK_OUTCOMES,
     },
     Layer {
         name: "record",

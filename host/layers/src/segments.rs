@@ -1,8 +1,10 @@
 //! Segments: the eight floats of a point, and the rows and columns of a segment.
 
 use crate::exported;
+use crate::lent::Lent;
 use crate::tally::Tally;
-use cases::segments::{record, segment_case, SegmentCase, MAKING_KINDS, RECORD_KINDS};
+use cases::segments::{along_case, record, segment_case, AlongCase, SegmentCase};
+use cases::segments::{ALONG_KINDS, MAKING_KINDS, RECORD_KINDS};
 use cases::{each, Segment};
 use compare::segments::touched;
 use compare::verdict::same_floats;
@@ -24,6 +26,14 @@ pub const OUTCOMES: [&str; 12] = [
     "rows by the second reading: too many for spline.rs",
     "no column below 2^24",
     "left of the image: column 0",
+];
+
+pub const WALKS: u64 = 20_000;
+pub const WALK_OUTCOMES: [&str; 4] = [
+    "no segment",
+    "fewer segments than points",
+    "a segment a point",
+    "ROOM (one cell short)",
 ];
 
 pub const RECORDS: u64 = 40_000;
@@ -162,5 +172,41 @@ pub fn compare_records(tally: &mut Tally) {
         }
         tally.equal(&("rows", record), ours(exported::rows(&record)), rows);
         made_columns(tally, &record);
+    }
+}
+
+/// The segments of a walk: where in the transform each point lies, and which points make one.
+pub fn compare_along(tally: &mut Tally) {
+    for (kind, seed) in each(&ALONG_KINDS, WALKS / 2) {
+        let case = along_case(kind, seed);
+        let made = oracle::segments(
+            &case.coefficients,
+            &case.walk,
+            case.length,
+            case.high_precision,
+        );
+        match made {
+            Outcome::Done(made) => along(tally, &case, &made.concat()),
+            _ => tally.case("too many rows for spline.rs"),
+        }
+    }
+}
+
+fn along(tally: &mut Tally, case: &AlongCase, made: &[f32]) {
+    let count = made.len() / 8;
+    tally.case(match count {
+        0 => "no segment",
+        _ if count < case.walk.len() => "fewer segments than points",
+        _ => "a segment a point",
+    });
+    let mut lent = Lent::new(made.len() + case.walk.len());
+    let ours = exported::add_segments(case, lent.lend());
+    let same = ours == Some(count) && lent.holds(made.iter().copied());
+    tally.hold(case, (ours, &lent.lend()[..]), (Some(count), made), same);
+    if count > 0 {
+        tally.also("ROOM (one cell short)");
+        let mut lent = Lent::new(made.len() - 1);
+        let ours = exported::add_segments(case, lent.lend());
+        tally.hold(case, ours, None, ours.is_none() && lent.inside());
     }
 }

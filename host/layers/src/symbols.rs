@@ -87,6 +87,20 @@ extern "C" {
         segment: *mut [f32; 8],
     ) -> bool;
 
+    pub fn layers_add_segments_from_points(
+        x: *const [f32; 32],
+        y: *const [f32; 32],
+        b: *const [f32; 32],
+        sigma: *const [f32; 32],
+        walk: *const f32,
+        walk_len: usize,
+        walk_length: f32,
+        high_precision: bool,
+        segments: *mut f32,
+        segments_len: usize,
+        count: *mut usize,
+    ) -> bool;
+
     pub fn layers_rows(segment: *const f32, segment_len: usize, ends: *mut [u32; 2]);
 
     pub fn layers_columns(segment: *const f32, segment_len: usize, ends: *mut [u32; 2]);
