@@ -12,12 +12,14 @@ use Rattle.reader.specs.Read as Read
 use Rattle.reader.specs.declared.ReadAnswer.{ReadAnswer}
 use Rattle.writer.specs.Write as Write
 use Rattle.writer.specs.declared.WriteAnswer.{WriteAnswer}
+use Rattle.table.specs.Table as Build
+use Rattle.table.specs.declared.BuildAnswer.{BuildAnswer}
 use Rattle.draw.specs.Draw as Draw
 use Rattle.draw.specs.Reach as Reach
 use Rattle.draw.specs.declared.DrawAnswer.{DrawAnswer}
 use Rattle.draw.specs.declared.ReachAnswer.{ReachAnswer}
 use Rattle.aktyrbuz.specs.declared.Told.{Told}
-use Rattle.aktyrbuz.specs.Exported.{signedOf, toldIn, toldRead, toldWrite, toldDraw, toldReach, readLeaves, readExport, writeLeaves, writeExport, drawLeaves, drawExport, reachLeaves, reachExport}
+use Rattle.aktyrbuz.specs.Exported.{signedOf, toldIn, toldRead, toldWrite, toldBuild, toldDraw, toldReach, readLeaves, readExport, writeLeaves, writeExport, buildLeaves, buildExport, drawLeaves, drawExport, reachLeaves, reachExport}
 
 pub signed-back : (n : ℕ) → toZ w64 (ofZ w64 (signedOf n)) ≡ signedOf n
 signed-back n = toZ-ofZ {w = w64} {z = signedOf n} (record { sfits = omega arith })
@@ -31,6 +33,11 @@ pub write-exported : {o : Write.WriteOutcome} (r : WriteAnswer) (t : Told) (five
     → Write.leaves r l ≡ o → t ≡ toldWrite r → five ≡ toldIn t
     → writeLeaves (t .number) five l ≡ writeExport o
 write-exported r t five l p q s = rw (← p, s, q)
+
+pub build-exported : {t : Build.Table} (r : BuildAnswer) (told : Told) (five : List ℤ) (path walk segments : List Float) (starts entries : List ℕ)
+    → Build.leaves r path walk segments starts entries ≡ t → told ≡ toldBuild r → five ≡ toldIn told
+    → buildLeaves (told .number) five path walk segments starts entries ≡ buildExport t
+build-exported r told five path walk segments starts entries p q s = rw (← p, s, q)
 
 pub draw-exported : {o : Draw.DrawOutcome} (r : DrawAnswer) (t : Told) (five : List ℤ) (a : Draw.Channels)
     → Draw.leaves r a ≡ o → t ≡ toldDraw r → five ≡ toldIn t

@@ -10,6 +10,8 @@ use Rattle.reader.specs.Read.{Outcome}
 use Rattle.reader.specs.declared.ReadAnswer.{ReadAnswer}
 use Rattle.writer.specs.Write.{WriteOutcome}
 use Rattle.writer.specs.declared.WriteAnswer.{WriteAnswer}
+use Rattle.table.specs.Table.{Table}
+use Rattle.table.specs.declared.BuildAnswer.{BuildAnswer}
 use Rattle.draw.specs.Draw.{Channels, DrawOutcome}
 use Rattle.draw.specs.Reach.{ReachOutcome}
 use Rattle.draw.specs.declared.DrawAnswer.{DrawAnswer}
@@ -31,6 +33,10 @@ toldRead (ReadAnswer.Refused c p) = toldRefusal c p
 abbrev pub toldWrite : WriteAnswer → Told
 toldWrite (WriteAnswer.Done n) = record { number = 0; place = pos 0; first = signedOf n; second = pos 0; third = pos 0 }
 toldWrite (WriteAnswer.Refused c p) = toldRefusal c p
+
+abbrev pub toldBuild : BuildAnswer → Told
+toldBuild (BuildAnswer.Done s n a) = record { number = 0; place = pos 0; first = pos s; second = pos n; third = signedOf a }
+toldBuild (BuildAnswer.Refused c p) = toldRefusal c p
 
 abbrev pub toldDraw : DrawAnswer → Told
 toldDraw (DrawAnswer.Done n) = record { number = 0; place = pos 0; first = signedOf n; second = pos 0; third = pos 0 }
@@ -70,6 +76,30 @@ writeLeaves r five l = record { number = r; answer = five; list = l }
 
 abbrev pub writeExport : WriteOutcome → WriteExport
 writeExport o = writeLeaves (toldWrite (o .answer) .number) (toldIn (toldWrite (o .answer))) (o .list)
+
+pub record BuildExport : Type 0 where
+  pub number : ℕ
+  pub answer : List ℤ
+  pub path : List Float
+  pub walk : List Float
+  pub segments : List Float
+  pub starts : List ℕ
+  pub entries : List ℕ
+
+abbrev pub buildLeaves : ℕ → List ℤ → List Float → List Float → List Float → List ℕ → List ℕ → BuildExport
+buildLeaves r five path walk segments starts entries = record {
+  number = r;
+  answer = five;
+  path = path;
+  walk = walk;
+  segments = segments;
+  starts = starts;
+  entries = entries;
+}
+
+abbrev pub buildExport : Table → BuildExport
+buildExport t =
+    buildLeaves (toldBuild (t .answer) .number) (toldIn (toldBuild (t .answer))) (t .path) (t .walk) (t .segments) (t .starts) (t .entries)
 
 pub record DrawExport : Type 0 where
   pub number : ℕ

@@ -5,13 +5,17 @@ ghost use lib.ListN.{length};
 ghost use Rattle.numbers.specs.Ln.{lnOf};
 ghost use Rattle.reader.specs.Read.{readOutcome, roomsOf};
 ghost use Rattle.writer.specs.Write.{writeOf};
+ghost use Rattle.dequantize.specs.Judge.{descriptionOf};
+ghost use Rattle.table.specs.Table.{imageOf, buildOf};
+ghost use Rattle.table.specs.Table as build;
 ghost use Rattle.draw.specs.Draw.{tableOf, three, drawOf};
 ghost use Rattle.draw.specs.Reach.{reachOf};
-ghost use Rattle.aktyrbuz.specs.Exported.{signedOf, toldIn, toldRefusal, toldRead, toldWrite, toldDraw, toldReach, readLeaves, readExport, writeLeaves, writeExport, drawLeaves, drawExport, reachLeaves, reachExport};
+ghost use Rattle.aktyrbuz.specs.Exported.{signedOf, toldIn, toldRefusal, toldRead, toldWrite, toldBuild, toldDraw, toldReach, readLeaves, readExport, writeLeaves, writeExport, buildLeaves, buildExport, drawLeaves, drawExport, reachLeaves, reachExport};
 use codes::Code;
 use draw::DrawAnswer;
 use draw::ReachAnswer;
 use reader::ReadAnswer;
+use table::BuildAnswer;
 use writer::WriteAnswer;
 
 // The natural logarithm of an f32.
@@ -81,6 +85,21 @@ fn told_write(answer: WriteAnswer) -> Told
             third: 0,
         },
         WriteAnswer::Refused(code, place) => told_refusal(code, place),
+    }
+}
+
+fn told_build(answer: BuildAnswer) -> Told
+    ensures { λ r. ⌜ r ≡ toldBuild answer ⌝ }
+{
+    match answer {
+        BuildAnswer::Done(segments, entries, estimate) => Told {
+            number: 0,
+            place: 0,
+            first: segments as i64,
+            second: entries as i64,
+            third: signed(estimate as usize),
+        },
+        BuildAnswer::Refused(code, place) => told_refusal(code, place),
     }
 }
 
@@ -183,6 +202,51 @@ pub extern "C" fn aktyrbuz_write(
         configured,
         pixels,
         list,
+    ));
+    tell(answer, told);
+    told.number
+}
+
+#[no_mangle]
+pub extern "C" fn aktyrbuz_build(
+    counts: &[u32],
+    starts: &[f32],
+    deltas: &[i32],
+    coefficients: &[i32],
+    adjustment: i32,
+    width: u32,
+    height: u32,
+    y_to_x: f32,
+    y_to_b: f32,
+    high_precision: bool,
+    level10: bool,
+    path: &mut [f32],
+    walk: &mut [f32],
+    segments: &mut [f32],
+    row_starts: &mut [u32],
+    entries: &mut [u32],
+    answer: &mut [i64; 5],
+) -> u32
+    ensures { λ r. ⌜ buildLeaves r (now (answer .exit)) (now (path .exit)) (now (walk .exit)) (now (segments .exit)) (now («row_starts» .exit)) (now (entries .exit))
+        ≡ buildExport (buildOf (descriptionOf (now (counts .entry)) (now (starts .entry)) (now (deltas .entry)) (now (coefficients .entry))) (imageOf adjustment width height «y_to_x» «y_to_b» «high_precision» level10) (build.roomsOf (now (path .entry)) (now (walk .entry)) (now (segments .entry)) (now («row_starts» .entry)) (now (entries .entry)))) ⌝ }
+{
+    let told = told_build(table::build(
+        counts,
+        starts,
+        deltas,
+        coefficients,
+        adjustment,
+        width,
+        height,
+        y_to_x,
+        y_to_b,
+        high_precision,
+        level10,
+        path,
+        walk,
+        segments,
+        row_starts,
+        entries,
     ));
     tell(answer, told);
     told.number
