@@ -26,6 +26,7 @@ const LAYERS: [Layer; 12] = [
 ];
 
 fn main() -> ExitCode {
+    quiet::end_with_the_reader();
     let asked: Vec<String> = std::env::args().skip(1).collect();
     let known = |name: &String| LAYERS.iter().any(|(layer, _)| layer == name);
     if let Some(unknown) = asked.iter().find(|name| !known(name)) {

@@ -89,6 +89,7 @@ const LAYERS: [Layer; 10] = [
 ];
 
 fn main() -> ExitCode {
+    quiet::end_with_the_reader();
     let asked: Vec<String> = std::env::args().skip(1).collect();
     if let Some(unknown) = asked
         .iter()

@@ -22,6 +22,7 @@ struct Wanted {
 }
 
 fn main() -> ExitCode {
+    quiet::end_with_the_reader();
     let Some(wanted) = wanted(std::env::args().skip(1)) else {
         eprintln!("usage: leaves [--all | --stride N] [--only NAME]");
         return ExitCode::from(2);

@@ -85,6 +85,7 @@ fn draw(path: &str) -> Result<String, String> {
 }
 
 fn main() -> ExitCode {
+    quiet::end_with_the_reader();
     let words: Vec<String> = std::env::args().skip(1).collect();
     let words: Vec<&str> = words.iter().map(String::as_str).collect();
     oracle::set_ln(model::logarithm::ln);

@@ -118,6 +118,7 @@ fn list(layer: &Layer) -> Result<String, String> {
 }
 
 fn main() -> ExitCode {
+    quiet::end_with_the_reader();
     let words: Vec<String> = std::env::args().skip(1).collect();
     let words: Vec<&str> = words.iter().map(String::as_str).collect();
     let act = match words[..] {

@@ -17,6 +17,7 @@ const CALLS: [Call; 4] = [
 ];
 
 fn main() -> ExitCode {
+    quiet::end_with_the_reader();
     oracle::set_ln(port::ln);
     model::set_ln(port::ln);
     println!("the port against spline.rs where that decides, and against the second reading of document 01");

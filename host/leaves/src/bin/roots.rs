@@ -55,6 +55,7 @@ fn accepted(table: &[u64], bits: u64) -> bool {
 }
 
 fn main() -> ExitCode {
+    quiet::end_with_the_reader();
     let rule: Vec<u64> = (0..128).map(word).collect();
     let Some(table) = stored() else {
         eprintln!("roots: the table of root_by is not in the port's source");

@@ -7,6 +7,7 @@ use oracle::{Built, Description, Given, Outcome, Table, Why};
 use std::process::ExitCode;
 
 fn main() -> ExitCode {
+    quiet::end_with_the_reader();
     let sections: [(&str, fn() -> bool); 6] = [
         ("Panics on positions", panics),
         ("Rows below the image", rows_below),

@@ -37,6 +37,7 @@ impl Readings {
 }
 
 fn main() -> ExitCode {
+    quiet::end_with_the_reader();
     let mut readings = Readings::default();
     for group in [
         machine,

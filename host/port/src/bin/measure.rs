@@ -12,6 +12,7 @@ const SIZES: [usize; 2] = [1 << 10, 1 << 20];
 const CALLS: u32 = 20;
 
 fn main() -> ExitCode {
+    quiet::end_with_the_reader();
     let words: Vec<String> = std::env::args().skip(1).collect();
     match words.iter().map(String::as_str).collect::<Vec<_>>()[..] {
         [] => table(),
