@@ -24,7 +24,7 @@ pub const OUTCOMES: [&str; 8] = [
 const MOST: usize = 1 << 23;
 
 /// Walks longer than this are not walked to their end here, whether they have one or not.
-const ENOUGH: usize = 3_000;
+const ENOUGH: usize = 1_000;
 
 const KINDS: [&str; 4] = ["along a curve", "hostile", "near 2^23", "near 2^24"];
 
