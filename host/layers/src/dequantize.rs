@@ -4,7 +4,6 @@ use crate::expected::{by_rust, Refused};
 use crate::exported::{self, Shared};
 use crate::tally::Tally;
 use cases::descriptions::{build_case, BuildCase, KINDS};
-use cases::random::Random;
 use cases::{each, Code};
 use compare::verdict::same_floats;
 use model::dequantize::{splines, Quantized};
@@ -12,45 +11,6 @@ use model::list::well_shaped;
 use oracle::Outcome;
 
 const CASES_A_KIND: u64 = 4_000;
-
-pub const LIMITS: u64 = 100_000;
-pub const LIMIT_OUTCOMES: [&str; 4] = [
-    "area below the greatest limit",
-    "area at the greatest limit",
-    "adjustment below 0",
-    "adjustment 0 or above",
-];
-
-/// The area limit of images of every size and around where it stops growing; the inverse quant of every adjustment.
-pub fn compare_limits(tally: &mut Tally) {
-    for seed in 0..LIMITS / 2 {
-        let r = &mut Random::new("limits", seed);
-        let level10 = r.once_in(2);
-        let stops: i64 = if level10 { 4290772992 } else { 130023424 };
-        let area = if r.once_in(2) {
-            (stops + r.within(-3, 3)) as u64
-        } else {
-            r.next() >> r.below(64)
-        };
-        tally.case(if area < stops as u64 {
-            "area below the greatest limit"
-        } else {
-            "area at the greatest limit"
-        });
-        let ours = exported::spline_area_limit(level10, area);
-        let theirs = oracle::spline_area_limit(level10, area);
-        tally.equal(&(level10, area), ours, theirs);
-        let adjustment = r.any_i32();
-        tally.case(if adjustment < 0 {
-            "adjustment below 0"
-        } else {
-            "adjustment 0 or above"
-        });
-        let ours = exported::inv_adjusted_quant(adjustment).to_bits();
-        let theirs = oracle::inv_adjusted_quant(adjustment).to_bits();
-        tally.equal(&("adjustment", adjustment), ours, theirs);
-    }
-}
 
 pub const SPLINES: u64 = 200_000;
 pub const SPLINE_OUTCOMES: [&str; 6] = [
@@ -109,12 +69,11 @@ fn expected_spline(spline: &Quantized, shared: &Shared) -> Result<oracle::Dequan
         y_to_b,
         limit,
     } = *shared;
-    if let Err(Code::Delta) =
-        model::dequantize::dequantize(spline, adjustment, y_to_x, y_to_b, limit)
-    {
+    let second = model::dequantize::dequantize(spline, adjustment, y_to_x, y_to_b, limit).err();
+    if second == Some(Code::Delta) {
         return Err(Refused::DELTA);
     }
-    by_rust(oracle::dequantize(
+    let outcome = oracle::dequantize(
         spline.start.into(),
         spline.deltas,
         spline.coefficients,
@@ -122,7 +81,8 @@ fn expected_spline(spline: &Quantized, shared: &Shared) -> Result<oracle::Dequan
         y_to_x,
         y_to_b,
         limit,
-    ))
+    );
+    by_rust(outcome, second)
 }
 
 fn taken(tally: &mut Tally, spline: &Quantized, shared: &Shared, theirs: &oracle::Dequantized) {
@@ -201,13 +161,13 @@ pub fn compare_descriptions(tally: &mut Tally) {
 }
 
 fn expected_judgement(case: &BuildCase) -> Result<u64, (usize, Refused)> {
-    match model::dequantize::judge(&case.description, &case.given) {
-        Err(refusal) if refusal.code == Code::Delta => {
-            Err((refusal.place as usize, Refused::DELTA))
-        }
-        _ => oracle::judged(&case.description, &case.given).map_err(|(place, outcome)| {
-            let refused = by_rust(outcome).expect_err("it is refused");
-            (place, refused)
-        }),
+    let second = model::dequantize::judge(&case.description, &case.given).err();
+    if let Some(refusal) = second.filter(|refusal| refusal.code == Code::Delta) {
+        return Err((refusal.place as usize, Refused::DELTA));
     }
+    oracle::judged(&case.description, &case.given).map_err(|(place, outcome)| {
+        let code = second.map(|refusal| refusal.code);
+        let refused = by_rust(outcome, code).expect_err("it is refused");
+        (place, refused)
+    })
 }

@@ -4,18 +4,22 @@ use cases::Code;
 use compare::verdict::code_of;
 use oracle::Outcome;
 
-/// The value or the code of an outcome. Where spline.rs panics (a position that is no i32) the port refuses: docs/DIFFERENCES.md.
-pub fn by_rust<T>(outcome: Outcome<T>) -> Result<T, Refused> {
+/// The value or the code of an outcome, beside the second reading's code. Where spline.rs panics the port refuses, and that is
+/// a position that is no i32 (docs/DIFFERENCES.md): the second reading must say so.
+pub fn by_rust<T>(outcome: Outcome<T>, second: Option<Code>) -> Result<T, Refused> {
     match outcome {
         Outcome::Done(value) => Ok(value),
         Outcome::Refused(why) => Err(Refused {
             code: code_of(why),
             panicked: false,
         }),
-        Outcome::Panicked(_) => Err(Refused {
+        Outcome::Panicked(_) if second == Some(Code::Position) => Err(Refused {
             code: Code::Position,
             panicked: true,
         }),
+        Outcome::Panicked(message) => {
+            panic!("spline.rs panics: {message}; second reading: {second:?}")
+        }
         Outcome::NoMemory => panic!("spline.rs ran out of memory where nothing is stored"),
     }
 }

@@ -7,6 +7,7 @@ mod dequantize;
 mod expected;
 mod exported;
 mod lent;
+mod limits;
 mod readings;
 mod segments;
 mod symbols;
@@ -34,9 +35,9 @@ const LAYERS: [Layer; 10] = [
     },
     Layer {
         name: "limits",
-        compare: dequantize::compare_limits,
-        least: dequantize::LIMITS,
-        outcomes: &dequantize::LIMIT_OUTCOMES,
+        compare: limits::compare,
+        least: limits::LIMITS,
+        outcomes: &limits::OUTCOMES,
     },
     Layer {
         name: "dequantize",
