@@ -74,7 +74,7 @@ fn expected_spline(spline: &Quantized, shared: &Shared) -> Result<oracle::Dequan
         return Err(Refused::DELTA);
     }
     let outcome = oracle::dequantize(
-        spline.start.into(),
+        [spline.start.0, spline.start.1],
         spline.deltas,
         spline.coefficients,
         adjustment,
