@@ -36,7 +36,7 @@ pub fn mixed(pattern: u32) -> u64 {
 
 /// A number of any length: the pattern itself where its last bit is 0, else mixed bits cut to some length.
 pub fn whole(pattern: u32) -> u64 {
-    if pattern.is_multiple_of(2) {
+    if pattern % 2 == 0 {
         u64::from(pattern) << (mixed(pattern) % 33)
     } else {
         mixed(pattern) >> (pattern / 2 % 64)
