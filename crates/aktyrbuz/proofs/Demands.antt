@@ -1,10 +1,13 @@
--- The demands hold: each is a theorem of the layers, or read off the definition of an outcome. Assumes nothing.
+-- The demands hold: each is a theorem of the layers at the equation that a contract is, or is read off that equation.
 use mathlib.Core.Path.{_≡_, sym, ap, _∙_}
-use mathlib.Core.List.{_++_, [], _∷_}
+use mathlib.Core.List.{List, _++_, [], _∷_}
 use Prim.Native.Nat.{ℕ}
 use native.Mathlib.Omega.{arith}
 use lib.Dec.{ltb}
+use lib.IntN.{ℤ}
 use lib.ListN.{length, replicate}
+use lib.Ieee.{Float}
+use Rattle.codes.specs.declared.Code.{Code}
 use Rattle.codes.specs.declared.Code.the-variants.{Room}
 use Rattle.list.specs.List.{limitOf}
 use Rattle.reader.proofs.Promises.{refused-exactly, given-exactly}
@@ -14,46 +17,52 @@ use Rattle.writer.specs.declared.Verdict.the-variants.{Fine, Fault}
 use Rattle.writer.specs.declared.WriteAnswer.{WriteAnswer}
 use Rattle.roundtrip.proofs.RoundTrip.{written-then-read, read-then-written}
 use Rattle.draw.specs.Draw as drawing
-use Rattle.draw.specs.declared.DrawAnswer.{DrawAnswer}
 use Rattle.draw.specs.declared.Verdict.{Verdict as Judged}
 use Rattle.draw.specs.declared.Verdict.the-variants as judged
 use Rattle.table.specs.Table as building
-use Rattle.table.proofs.Users.{refused-leaves-zero}
+use Rattle.table.proofs.Users as building-laws
 use Rattle.picture.proofs.Tables.{built-table}
 use Rattle.picture.proofs.Pictures as pictures
 use Rattle.picture.proofs.Rooms.{same-segments}
-use Rattle.aktyrbuz.specs.Demands.{ReadsAsSplineRs, WritesTheList, WrittenIsRead, ReadIsWritten, BuildsAsSplineRs, BuildsTheTable, DrawsAsSplineRs, ReachesByTheRule, RefusedReadLeavesZero, RefusedWriteLeavesZero, RefusedBuildLeavesZero, RefusedDrawsNothing, RowInParts, ImageInParts, UpdatesSum, RoomChangesNothing, OneOutcome}
+use Rattle.aktyrbuz.specs.Demands.{ReadsAsSplineRs, WritesTheList, WrittenIsRead, ReadIsWritten, BuildsAsSplineRs, BuildsTheTable, DrawsAsSplineRs, ReachesByTheRule, RefusedLeavesZero, RefusedDrawsNothing, RowInParts, ImageInParts, UpdatesSum, RoomChangesNothing, OneOutcome}
+use Rattle.aktyrbuz.proofs.Calls.{read-equation, write-equation, build-equation, draw-equation, reach-equation, built-by, row-by, image-by}
 
--- a contract is the equation that it is written as
+-- ---- the same numbers
+
 pub reads-as-spline-rs : ReadsAsSplineRs
-reads-as-spline-rs κs _ _ _ _ _ _ _ _ _ _ _ _ _ _ _ p = p
+reads-as-spline-rs = read-equation
 
 pub writes-the-list : WritesTheList
-writes-the-list κs _ _ _ _ _ _ _ _ _ _ _ _ _ _ _ _ _ p = p
-
-pub builds-as-spline-rs : BuildsAsSplineRs
-builds-as-spline-rs κs _ _ _ _ _ _ _ _ _ _ _ _ _ _ _ _ _ _ _ _ _ _ _ _ _ _ _ _ _ _ _ _ _ p = p
-
-pub draws-as-spline-rs : DrawsAsSplineRs
-draws-as-spline-rs κs _ _ _ _ _ _ _ _ _ _ _ _ _ _ _ _ _ _ _ _ _ _ _ _ _ p = p
-
-pub reaches-by-the-rule : ReachesByTheRule
-reaches-by-the-rule κs _ _ _ _ _ _ _ _ _ _ _ _ _ _ _ _ _ p = p
+writes-the-list = write-equation
 
 pub written-is-read : WrittenIsRead
-written-is-read = written-then-read
+written-is-read ns ss ds cs a configured pixels room o n floats w done rooms enough q r =
+    written-then-read ns ss ds cs a configured pixels room o n floats (write-equation ns ss ds cs a configured pixels room o w) done rooms enough q
+    (read-equation _ configured pixels rooms q r)
 
 pub read-is-written : ReadIsWritten
-read-is-written = read-then-written
+read-is-written configured pixels rooms l q s p a r done room fits o w =
+    read-then-written configured pixels rooms l q s p a (read-equation l configured pixels rooms q r) done room fits o
+    (write-equation _ _ _ _ a configured pixels room o w)
 
-pub refused-read-leaves-zero : RefusedReadLeavesZero
-refused-read-leaves-zero configured pixels rooms l o c p r e =
-    let z = given-exactly configured pixels rooms l o r c p (refused-exactly configured pixels rooms l o r c p e) in
-    record { counts = z .counts; starts = z .starts; deltas = z .deltas; coefficients = z .coefficients }
+pub builds-as-spline-rs : BuildsAsSplineRs
+builds-as-spline-rs = build-equation
 
-pub refused-write-leaves-zero : RefusedWriteLeavesZero
+pub builds-the-table : BuildsTheTable
+builds-the-table d i r o s e estimate b = built-table (built-by b)
+
+pub draws-as-spline-rs : DrawsAsSplineRs
+draws-as-spline-rs = draw-equation
+
+pub reaches-by-the-rule : ReachesByTheRule
+reaches-by-the-rule = reach-equation
+
+-- ---- refusals
+
+write-zeros : (ns : List ℕ) (ss : List Float) (ds cs : List ℤ) (a : ℤ) (configured pixels room : ℕ) (o : WriteOutcome) (c : Code) (p : ℕ)
+    → o ≡ writeOf ns ss ds cs a configured pixels room → o .answer ≡ WriteAnswer.Refused c p → o .list ≡ replicate room 0
 unfolding writeOf
-refused-write-leaves-zero ns ss ds cs a configured pixels room o c p w e =
+write-zeros ns ss ds cs a configured pixels room o c p w e =
     go (firstFault (contentChecks ns ss ds cs (limitOf configured pixels) ++ check (ltb room (length (valuesOf ns ss ds cs a))) Room room ∷ []))
     (sym (ap (λ (u : WriteOutcome). u .answer) w) ∙ e) (ap (λ (u : WriteOutcome). u .list) w)
   where
@@ -62,55 +71,70 @@ refused-write-leaves-zero ns ss ds cs a configured pixels room o c p w e =
     go Fine f l = let z : _≡_ {A = ℕ} 0 1 = cc in absurd (omega arith)
     go (Fault k q) f l = l
 
-pub refused-build-leaves-zero : RefusedBuildLeavesZero
+pub refused-leaves-zero : RefusedLeavesZero
 unfolding building.refusedWith
-refused-build-leaves-zero d i r o c p is e =
-    let z = refused-leaves-zero d i r o c p is e in
-    record {
-      path = ap (λ (u : building.Table). u .path) z;
-      walk = ap (λ (u : building.Table). u .walk) z;
-      segments = ap (λ (u : building.Table). u .segments) z;
-      starts = ap (λ (u : building.Table). u .starts) z;
-      entries = ap (λ (u : building.Table). u .entries) z;
-    }
+refused-leaves-zero = record {
+  read = λ l configured pixels rooms o c p r e.
+      let is = read-equation l configured pixels rooms o r in
+      let z = given-exactly configured pixels rooms l o is c p (refused-exactly configured pixels rooms l o is c p e) in
+      record { counts = z .counts; starts = z .starts; deltas = z .deltas; coefficients = z .coefficients };
+  write = λ ns ss ds cs a configured pixels room o c p w e. write-zeros ns ss ds cs a configured pixels room o c p (write-equation ns ss ds cs a configured pixels room o w) e;
+  build = λ d i r o c p b e.
+      let z = building-laws.refused-leaves-zero d i r o c p (build-equation d i r o b) e in
+      record {
+        path = ap (λ (u : building.Table). u .path) z;
+        walk = ap (λ (u : building.Table). u .walk) z;
+        segments = ap (λ (u : building.Table). u .segments) z;
+        starts = ap (λ (u : building.Table). u .starts) z;
+        entries = ap (λ (u : building.Table). u .entries) z;
+      };
+}
 
 pub refused-draws-nothing : RefusedDrawsNothing
 unfolding drawing.drawOf
-refused-draws-nothing t y x0 n a z c p e =
-    go (drawing.judgeOf t y x0 n (length (a .r0)) (length (a .r1)) (length (a .r2))) e
+refused-draws-nothing t y x0 n a o c p d e =
+    go (drawing.judgeOf t y x0 n (length (a .r0)) (length (a .r1)) (length (a .r2))) (draw-equation t y x0 n a o d)
   where
-    go : (v : Judged) → drawing.leaves (DrawAnswer.Refused c p) z ≡ drawing.outcome v t y x0 n a → z ≡ a
+    go : (v : Judged) → o ≡ drawing.outcome v t y x0 n a → o .channels ≡ a
     go judged.Fine f =
-        let g = ap (λ (u : drawing.DrawOutcome). u .answer) f in
+        let g = sym (ap (λ (u : drawing.DrawOutcome). u .answer) f) ∙ e in
         let k : _≡_ {A = ℕ} 0 1 = cc in
         absurd (omega arith)
     go (judged.Fault k) f = ap (λ (u : drawing.DrawOutcome). u .channels) f
 
-pub builds-the-table : BuildsTheTable
-builds-the-table d i r b = built-table b
+-- ---- pixels
 
 pub row-in-parts : RowInParts
-row-in-parts d i r b y W a w sum t = pictures.row-in-parts b y W a w sum t
+row-in-parts d i r o s e estimate b y W a w sum t =
+    pictures.row-in-parts (built-by b) W (t .narrow) y (t .in-image) (t .widths) (t .cut) (t .parts) (t .order) a w (t .wide) sum (row-by (t .drawn))
 
 pub image-in-parts : ImageInParts
-image-in-parts d i r b W a w sum t = pictures.image-in-parts b W a w sum t
+image-in-parts d i r o s e estimate b W a w sum t =
+    pictures.image-in-parts (built-by b) W (t .narrow) (t .widths) (t .tall) (t .cut) (t .parts) (t .order) a w (t .wide) sum (image-by (t .drawn))
 
 pub updates-sum : UpdatesSum
 updates-sum = record {
-  row = λ d i r b y W a w sum t. pictures.row-updates b y W a w sum t;
-  at-most = λ d i r b y W a w sum t. pictures.row-updates-most b y W a w sum t;
-  image = λ d i r b W a w sum t. pictures.image-updates b W a w sum t;
+  row = λ d i r o s e estimate b y W a w sum t.
+      let exact = pictures.row-updates (built-by b) W (t .narrow) y (t .in-image) (t .widths) (t .cut) (t .parts) (t .order) a w (t .wide) sum (row-by (t .drawn)) in
+      let most = pictures.row-updates-most (built-by b) W (t .narrow) y (t .in-image) (t .widths) (t .cut) (t .parts) (t .order) a w (t .wide) sum (row-by (t .drawn)) in
+      (exact, most);
+  image = λ d i r o s e estimate b W a w sum t.
+      pictures.image-updates (built-by b) W (t .narrow) (t .widths) (t .tall) (t .cut) (t .parts) (t .order) a w (t .wide) sum (image-by (t .drawn));
 }
 
 pub room-changes-nothing : RoomChangesNothing
-room-changes-nothing d i r q a b = same-segments a b
+room-changes-nothing d i r r′ o o′ s e n s′ e′ n′ a b = same-segments (built-by a) (built-by b)
 
--- an equation determines its outcome
+-- ---- an equation determines its outcome
+
 pub one-outcome : OneOutcome
 one-outcome = record {
-  read = λ configured pixels rooms l o q e f. e ∙ sym f;
-  write = λ ns ss ds cs a configured pixels room o q e f. e ∙ sym f;
-  build = λ d i r o q e f. e ∙ sym f;
-  draw = λ t y x0 n a o q e f. e ∙ sym f;
-  reach = λ t y W o q e f. e ∙ sym f;
+  read = λ l configured pixels rooms o q a b. read-equation l configured pixels rooms o a ∙ sym (read-equation l configured pixels rooms q b);
+  write = λ ns ss ds cs n configured pixels room o q a b.
+      write-equation ns ss ds cs n configured pixels room o a ∙ sym (write-equation ns ss ds cs n configured pixels room q b);
+  build = λ d i r o q a b. build-equation d i r o a ∙ sym (build-equation d i r q b);
+  draw = λ t y x0 n z o q a b. draw-equation t y x0 n z o a ∙ sym (draw-equation t y x0 n z q b);
+  reach = λ t y W o q a b. reach-equation t y W o a ∙ sym (reach-equation t y W q b);
 }
+
+-- Assumes nothing.

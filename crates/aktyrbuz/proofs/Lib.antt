@@ -1,3 +1,5 @@
+-- The laws of the crate `aktyrbuz`.
 pub mod Numbers
+pub mod Calls
 pub mod Readings
 pub mod Demands

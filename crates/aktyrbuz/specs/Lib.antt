@@ -1,3 +1,4 @@
 -- The definitions of the crate `aktyrbuz`.
 pub mod Exported
+pub mod Calls
 pub mod Demands

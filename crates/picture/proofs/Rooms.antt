@@ -26,7 +26,7 @@ use Rattle.points.specs.Points.{segmentRoom}
 use Rattle.strand.specs.Strand.{Strand, NoRoom, Segments, afterWalk, pickStrand, strandOf, walkSegments, strandFilled, segmentsOf}
 use Rattle.rows.proofs.Counts.{split}
 use Rattle.painting.specs.Painting.{strandAt, strandOfSpline, Painted, All, afterStrand, paintFrom, paintOf}
-use Rattle.table.specs.Table.{Rooms, Image, givenOf}
+use Rattle.table.specs.Table.{Rooms, Image, Table, givenOf}
 use Rattle.picture.specs.Picture as picture
 use Rattle.picture.specs.Picture.{Built}
 use Rattle.picture.proofs.Tables.{facts, segments-are}
@@ -93,7 +93,8 @@ module _ (d : Description) (g : Given) (high : Bool) (p w room p′ w′ room′
           (after-all (strandFilled room′ (length done) (Segments us)) k (paintFrom d g high p′ w′ room′ n (suc k) (done ++ us)) ys f))
 
 -- two builds of one description for one image draw the same segments, whatever was lent
-pub same-segments : {d : Description} {i : Image} {r r′ : Rooms} → Built d i r → Built d i r′ → picture.segmentsOf d i r ≡ picture.segmentsOf d i r′
+pub same-segments : {d : Description} {i : Image} {r r′ : Rooms} {o o′ : Table} {s e n s′ e′ n′ : ℕ} → Built d i r o s e n → Built d i r′ o′ s′ e′ n′
+    → picture.segmentsOf d i r ≡ picture.segmentsOf d i r′
 unfolding paintOf
 same-segments {d} {i} {r} {r′} a b =
     sym (segments-are a)

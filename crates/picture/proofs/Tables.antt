@@ -22,7 +22,7 @@ use Rattle.rows.specs.Rows as rows
 use Rattle.rows.specs.Rows.{inRow, listed, upTo, startOf, Outcome}
 use Rattle.rows.proofs.Counts.{listed-in, by-row}
 use Rattle.rows.proofs.Users as users
-use Rattle.table.specs.Table.{Rooms, Image, zeros, padded}
+use Rattle.table.specs.Table.{Rooms, Image, Table, zeros, padded}
 use Rattle.draw.proofs.Entries.{and-left, and-right}
 use Rattle.draw.specs.Draw.{pixel, updates, rowOf, allBelow, countsGood, entriesGood, rowGood}
 use Rattle.picture.specs.Picture.{Built, built, BuiltTable, segmentsOf, pixelOf, rowPairs}
@@ -90,82 +90,82 @@ none = segmentAt [] 0
 alone : (segs : List Segment) (k : ℕ) → k < length segs → segmentAt (eights segs) k ≡ getD segs k none
 alone segs k l = ap (λ (m : List Float). segmentAt m k) (sym (append-nil (eights segs))) ∙ segment-at segs [] none k l
 
-module _ {d : Description} {i : Image} {r : Rooms} (b : Built d i r) where
-  pub facts : Accepted d i r (b .left) (b .segments) (b .entries) (b .estimate)
-  facts = accepted d i r (b .left) (b .segments) (b .entries) (b .estimate) (b .outcome) (b .done)
+module _ {d : Description} {i : Image} {r : Rooms} {o : Table} {s e estimate : ℕ} (b : Built d i r o s e estimate) where
+  pub facts : Accepted d i r o s e estimate
+  facts = accepted d i r o s e estimate (b .outcome) (b .done)
 
   -- the segments that were drawn are those of the table, in their order
   pub segments-are : facts .segs ≡ segmentsOf d i r
   unfolding segmentsOf
   segments-are = rw (facts .drawn)
 
-  pub segment-is : (k : ℕ) (e : Segment) → k < length (facts .segs) → segmentAt (b .left .segments) k ≡ getD (facts .segs) k e
-  segment-is k e h = ap (λ (l : List Float). segmentAt l k) (facts .segments) ∙ segment-at (facts .segs) _ e k h
+  pub segment-is : (k : ℕ) (m : Segment) → k < length (facts .segs) → segmentAt (o .segments) k ≡ getD (facts .segs) k m
+  segment-is k m h = ap (λ (l : List Float). segmentAt l k) (facts .segments) ∙ segment-at (facts .segs) _ m k h
 
   in-row : (k y : ℕ) → k < length (facts .segs) → inRow (eights (facts .segs)) k y ≡ hasRow (getD (facts .segs) k none) y
-  in-row k y l = ap (λ (s : Segment). hasRow s y) (alone (facts .segs) k l)
+  in-row k y l = ap (λ (m : Segment). hasRow m y) (alone (facts .segs) k l)
 
-  pub counts-good : countsGood (built b) ≡ true
+  pub counts-good : countsGood (built i o s e) ≡ true
   unfolding countsGood
   counts-good =
-      let f = fits-listing (inRow (eights (facts .segs))) (length (facts .segs)) (i .height) (r .starts) (r .entries) (b .entries) (facts .fits-starts) (facts .listed) in
+      let f = fits-listing (inRow (eights (facts .segs))) (length (facts .segs)) (i .height) (r .starts) (r .entries) e (facts .fits-starts) (facts .listed) in
       let n = ap length (facts .segments) ∙ length-append (eights (facts .segs)) (zeros (r .segments - length (eights (facts .segs)))) in
       rw (
-        le-leb (b .segments) (2 ^ 24) (omega (arith, facts .size, facts .fits-segments)),
-        le-leb (8 * b .segments) (length (b .left .segments)) (omega (arith, facts .size, n, length-eights (facts .segs))),
-        le-leb (b .entries) (2 ^ 30) (f .few),
-        le-leb (b .entries) (length (b .left .entries)) (rw (facts .entries) (f .room)),
+        le-leb s (2 ^ 24) (omega (arith, facts .size, facts .fits-segments)),
+        le-leb (8 * s) (length (o .segments)) (omega (arith, facts .size, n, length-eights (facts .segs))),
+        le-leb e (2 ^ 30) (f .few),
+        le-leb e (length (o .entries)) (rw (facts .entries) (f .room)),
         le-leb (i .height) (2 ^ 23) (facts .low),
-        le-leb (i .height + 1) (length (b .left .starts)) (rw (facts .starts) (f .tall)),
+        le-leb (i .height + 1) (length (o .starts)) (rw (facts .starts) (f .tall)),
       )
 
   module _ (y : ℕ) (h : y < i .height) where
-    checks : users.Checks (inRow (eights (facts .segs))) (length (facts .segs)) (i .height) (b .entries) y (b .left .starts) (b .left .entries)
+    checks : users.Checks (inRow (eights (facts .segs))) (length (facts .segs)) (i .height) e y (o .starts) (o .entries)
     checks =
-        checks-of (inRow (eights (facts .segs))) (length (facts .segs)) (i .height) (r .starts) (r .entries) (b .entries) (facts .fits-starts) (facts .listed) y h (facts .starts) (facts .entries)
+        checks-of (inRow (eights (facts .segs))) (length (facts .segs)) (i .height) (r .starts) (r .entries) e (facts .fits-starts) (facts .listed) y h (facts .starts) (facts .entries)
 
     -- the row's entries, by the segments that were drawn
-    pub row-is : rowOf (built b) y ≡ listed (inRow (eights (facts .segs))) y (length (facts .segs))
+    pub row-is : rowOf (built i o s e) y ≡ listed (inRow (eights (facts .segs))) y (length (facts .segs))
     row-is = rw (add-one y) (checks .row)
 
     -- the row lists, ascending, the segments of the table that have it
-    pub row-listed : rowOf (built b) y ≡ listed (inRow (b .left .segments)) y (b .segments)
+    pub row-listed : rowOf (built i o s e) y ≡ listed (inRow (o .segments)) y s
     row-listed =
         row-is
-        ∙ listed-same (inRow (eights (facts .segs))) (inRow (b .left .segments)) y (length (facts .segs)) (λ k l. ap (λ (s : Segment). hasRow s y) (same k l))
-        ∙ ap (listed (inRow (b .left .segments)) y) (facts .size)
+        ∙ listed-same (inRow (eights (facts .segs))) (inRow (o .segments)) y (length (facts .segs)) (λ k l. ap (λ (m : Segment). hasRow m y) (same k l))
+        ∙ ap (listed (inRow (o .segments)) y) (facts .size)
       where
-        same : (k : ℕ) → k < length (facts .segs) → segmentAt (eights (facts .segs)) k ≡ segmentAt (b .left .segments) k
+        same : (k : ℕ) → k < length (facts .segs) → segmentAt (eights (facts .segs)) k ≡ segmentAt (o .segments) k
         same k l = alone (facts .segs) k l ∙ sym (segment-is k none l)
 
-    pub row-good : rowGood (built b) y ≡ true
+    pub row-good : rowGood (built i o s e) y ≡ true
     unfolding entriesGood
     row-good =
-        let n : allBelow (b .segments) (rowOf (built b) y) ≡ true = rw row-listed (listed-below (inRow (b .left .segments)) (b .segments) y (b .segments) (omega arith)) in
+        let n : allBelow s (rowOf (built i o s e) y) ≡ true = rw row-listed (listed-below (inRow (o .segments)) s y s (omega arith)) in
         rw (
-          le-leb (getD (b .left .starts) y 0) (getD (b .left .starts) (y + 1) 0) (rw (add-one y) (checks .rises)),
-          le-leb (getD (b .left .starts) (y + 1) 0) (b .entries) (rw (add-one y) (checks .ends)),
+          le-leb (getD (o .starts) y 0) (getD (o .starts) (y + 1) 0) (rw (add-one y) (checks .rises)),
+          le-leb (getD (o .starts) (y + 1) 0) e (rw (add-one y) (checks .ends)),
           n,
         )
 
     -- a pixel of the row, drawn by its entries, and the updates of its first W pixels
-    pub row-pixel : (c x : ℕ) (v : Float) → pixel c (b .left .segments) y x (rowOf (built b) y) v ≡ pixelOf c (segmentsOf d i r) y x v
+    pub row-pixel : (c x : ℕ) (v : Float) → pixel c (o .segments) y x (rowOf (built i o s e) y) v ≡ pixelOf c (segmentsOf d i r) y x v
     row-pixel c x v =
-        ap (λ (l : List ℕ). pixel c (b .left .segments) y x l v) row-is
-        ∙ pixel-is (b .left .segments) (facts .segs) none (λ k l. segment-is k none l) (inRow (eights (facts .segs))) in-row c y x v
-        ∙ ap (λ (s : List Segment). pixelOf c s y x v) segments-are
+        ap (λ (l : List ℕ). pixel c (o .segments) y x l v) row-is
+        ∙ pixel-is (o .segments) (facts .segs) none (λ k l. segment-is k none l) (inRow (eights (facts .segs))) in-row c y x v
+        ∙ ap (λ (l : List Segment). pixelOf c l y x v) segments-are
 
-    pub row-pairs : (W : ℕ) → updates (b .left .segments) 0 W (rowOf (built b) y) ≡ rowPairs (segmentsOf d i r) W y
+    pub row-pairs : (W : ℕ) → updates (o .segments) 0 W (rowOf (built i o s e) y) ≡ rowPairs (segmentsOf d i r) W y
     row-pairs W =
-        ap (updates (b .left .segments) 0 W) row-is
-        ∙ pairs-are (b .left .segments) (facts .segs) none (λ k l. segment-is k none l) (inRow (eights (facts .segs))) in-row W y
-        ∙ ap (λ (s : List Segment). rowPairs s W y) segments-are
+        ap (updates (o .segments) 0 W) row-is
+        ∙ pairs-are (o .segments) (facts .segs) none (λ k l. segment-is k none l) (inRow (eights (facts .segs))) in-row W y
+        ∙ ap (λ (l : List Segment). rowPairs l W y) segments-are
 
-  pub built-table : BuiltTable b
+  pub built-table : BuiltTable d i r o s e estimate
   built-table = record {
     judged = facts .judged;
     count = sym (facts .size) ∙ ap length segments-are;
-    segments = facts .segments ∙ ap (λ (s : List Segment). padded (r .segments) (eights s)) segments-are;
+    segments = facts .segments ∙ ap (λ (l : List Segment). padded (r .segments) (eights l)) segments-are;
     rows = row-listed;
     no-path = facts .path;
     no-walk = facts .walk;

@@ -1,8 +1,8 @@
 -- The picture of a list of segments: each pixel with the segments added that have it, and the pairs of a segment and a pixel that it has. Definitions only.
 use mathlib.Core.Path.{_≡_}
 use mathlib.Core.Bool.{Bool, cond, _&&_}
-use mathlib.Core.List.{List, [], _∷_, foldl, List·Permᴰ}
-use Prim.Native.Nat.{ℕ, zero, suc, _+_, _^_, _≤_, _<_}
+use mathlib.Core.List.{List, [], _∷_, foldl}
+use Prim.Native.Nat.{ℕ, zero, suc, _+_, _<_}
 use lib.ListN.{length}
 use lib.Ieee.{Float}
 use Rattle.dequantize.specs.declared.judge.Judged.the-variants as Judged
@@ -18,9 +18,6 @@ use Rattle.table.specs.Table as build
 use Rattle.table.specs.Refusals.{painted}
 use Rattle.table.specs.declared.BuildAnswer.{BuildAnswer}
 use Rattle.draw.specs.Draw.{count, Table, tableOf, rowOf, Channels}
-use Rattle.draw.specs.Parts.{Part, cuts, total, Wide, Drawn}
-use Rattle.draw.specs.Image.{Job, jobs, Each, DrawnAll}
-use Rattle.draw.specs.Image as drawing
 use Rattle.shade.specs.Edit.{edit}
 
 -- whether a segment has the pixel at row y and column x
@@ -47,18 +44,14 @@ imagePairs segments W y (suc H) = rowPairs segments W y + imagePairs segments W 
 
 -- ---- a built table
 
--- an outcome that the contract of `build` allows, and that is done
-pub record Built (d : Description) (i : Image) (r : Rooms) : Type 0 where
-  pub left : build.Table
-  pub segments : ℕ
-  pub entries : ℕ
-  pub estimate : ℕ
-  pub outcome : left ≡ buildOf d i r
-  pub done : left .answer ≡ BuildAnswer.Done segments entries estimate
+-- an outcome of a build, with its three counts where it is done
+pub record Built (d : Description) (i : Image) (r : Rooms) (o : build.Table) (s e estimate : ℕ) : Type 0 where
+  pub outcome : o ≡ buildOf d i r
+  pub done : o .answer ≡ BuildAnswer.Done s e estimate
 
--- the table as drawing takes it
-abbrev pub built : {d : Description} {i : Image} {r : Rooms} → Built d i r → Table
-built {d} {i} {r} b = tableOf (b .left .segments) (b .segments) (b .left .entries) (b .entries) (b .left .starts) (i .height)
+-- the table as drawing takes it: s segments, e entries, and a row start for each row of the image and one more
+abbrev pub built : Image → build.Table → ℕ → ℕ → Table
+built i o s e = tableOf (o .segments) s (o .entries) e (o .starts) (i .height)
 
 abbrev pub paintedSegments : Painted → List Segment
 paintedSegments (All segments) = segments
@@ -69,37 +62,15 @@ unfoldable pub segmentsOf : Description → Image → Rooms → List Segment
 segmentsOf d i r = paintedSegments (painted d i r)
 
 -- what the table holds: the segments laid flat, each row's segments once each, ascending, and zeros in the working cells and behind the used part
-pub record BuiltTable {d : Description} {i : Image} {r : Rooms} (b : Built d i r) : Type 0 where
-  pub judged : judgeOf d (givenOf i) ≡ Judged.Fine (b .estimate)
-  pub count : b .segments ≡ length (segmentsOf d i r)
-  pub segments : b .left .segments ≡ padded (r .segments) (eights (segmentsOf d i r))
-  pub rows : (y : ℕ) → y < i .height → rowOf (built b) y ≡ listed (inRow (b .left .segments)) y (b .segments)
-  pub no-path : b .left .path ≡ zeros (r .path)
-  pub no-walk : b .left .walk ≡ zeros (r .walk)
+pub record BuiltTable (d : Description) (i : Image) (r : Rooms) (o : build.Table) (s e estimate : ℕ) : Type 0 where
+  pub judged : judgeOf d (givenOf i) ≡ Judged.Fine estimate
+  pub count : s ≡ length (segmentsOf d i r)
+  pub segments : o .segments ≡ padded (r .segments) (eights (segmentsOf d i r))
+  pub rows : (y : ℕ) → y < i .height → rowOf (built i o s e) y ≡ listed (inRow (o .segments)) y s
+  pub no-path : o .path ≡ zeros (r .path)
+  pub no-walk : o .walk ≡ zeros (r .walk)
 
--- ---- drawn in parts
-
--- row y of a built table, drawn W pixels wide: cut into adjacent parts, the parts drawn in any order, from the channels a to w, with the updates summed
-pub record RowRun {d : Description} {i : Image} {r : Rooms} (b : Built d i r) (y W : ℕ) (a w : Channels) (sum : ℕ) : Type 0 where
-  pub in-image : y < i .height
-  pub narrow : W ≤ 2 ^ 23
-  pub wide : Wide W a
-  pub widths : List ℕ
-  pub cut : total widths ≡ W
-  pub parts : List Part
-  pub order : List·Permᴰ (cuts 0 widths) parts
-  pub drawn : Drawn (built b) y parts a sum w
-
--- the same of all rows, whose parts may be mixed
-pub record ImageRun {d : Description} {i : Image} {r : Rooms} (b : Built d i r) (W : ℕ) (a w : drawing.Image) (sum : ℕ) : Type 0 where
-  pub narrow : W ≤ 2 ^ 23
-  pub wide : (y : ℕ) → Wide W (a y)
-  pub widths : List (List ℕ)
-  pub tall : length widths ≡ i .height
-  pub cut : Each W widths
-  pub parts : List Job
-  pub order : List·Permᴰ (jobs 0 widths) parts
-  pub drawn : DrawnAll (built b) parts a sum w
+-- ---- a row drawn
 
 -- from the channels a of row y to w: each pixel of each channel is its starting value with the segments added that have it, in their order
 pub record RowPicture (segments : List Segment) (y : ℕ) (a w : Channels) : Type 0 where

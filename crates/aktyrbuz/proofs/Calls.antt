@@ -1,0 +1,71 @@
+-- A contract is the equation that it is written as, and a run of calls is a run of outcomes by that equation: each follows by taking the call apart.
+use mathlib.Core.Path.{_≡_, refl, sym, ap, _∙_}
+use mathlib.Core.List.{List}
+use Prim.Native.Nat.{ℕ}
+use lib.IntN.{ℤ}
+use lib.Ieee.{Float}
+use Rattle.list.specs.List.{Rooms}
+use Rattle.reader.specs.Read.{Outcome, readOutcome}
+use Rattle.writer.specs.Write.{WriteOutcome, writeOf}
+use Rattle.dequantize.specs.Judge.{Description}
+use Rattle.table.specs.Table.{Image, buildOf}
+use Rattle.table.specs.Table as building
+use Rattle.picture.specs.Picture.{Built}
+use Rattle.draw.specs.Draw.{Table, Channels, DrawOutcome, drawOf}
+use Rattle.draw.specs.Draw as drawing
+use Rattle.draw.specs.Parts.{Part, lentOf, Draws, Drawn}
+use Rattle.draw.specs.Parts as parts
+use Rattle.draw.specs.Image.{Job, DrawnAll}
+use Rattle.draw.specs.Image as images
+use Rattle.draw.specs.Reach.{ReachOutcome, reachOf}
+use Rattle.aktyrbuz.specs.Calls.{ReadCall, reads, WriteCall, writes, BuildCall, builds, DrawCall, draws, ReachCall, reaches, BuildDone, PartCall, RowCalls, ImageCalls}
+use Rattle.aktyrbuz.specs.Calls as calls
+
+pub read-equation : (l : List ℕ) (configured pixels : ℕ) (rooms : Rooms) (o : Outcome) → ReadCall l configured pixels rooms o → o ≡ readOutcome configured pixels rooms l
+read-equation l configured pixels rooms o (reads κs _ _ _ _ _ _ _ _ _ _ _ _ _ _ _ p) = p
+
+pub write-equation : (ns : List ℕ) (ss : List Float) (ds cs : List ℤ) (a : ℤ) (configured pixels room : ℕ) (o : WriteOutcome) → WriteCall ns ss ds cs a configured pixels room o
+    → o ≡ writeOf ns ss ds cs a configured pixels room
+write-equation ns ss ds cs a configured pixels room o (writes κs _ _ _ _ _ _ _ _ _ _ _ _ _ _ _ _ _ p) = p
+
+pub build-equation : (d : Description) (i : Image) (r : building.Rooms) (o : building.Table) → BuildCall d i r o → o ≡ buildOf d i r
+build-equation d i r o (builds κs _ _ _ _ _ _ _ _ _ _ _ _ _ _ _ _ _ _ _ _ _ _ _ _ _ _ _ _ _ _ _ _ _ p) = p
+
+pub draw-equation : (t : Table) (y x0 n : ℕ) (a : Channels) (o : DrawOutcome) → DrawCall t y x0 n a o → o ≡ drawOf t y x0 n a
+draw-equation t y x0 n a o (draws κs _ _ _ _ _ _ _ _ _ _ _ _ _ _ _ _ _ _ _ _ _ _ _ _ _ p) = p
+
+pub reach-equation : (t : Table) (y W : ℕ) (o : ReachOutcome) → ReachCall t y W o → o ≡ reachOf t y W
+reach-equation t y W o (reaches κs _ _ _ _ _ _ _ _ _ _ _ _ _ _ _ _ _ p) = p
+
+-- what a drawing tells is told by its answer
+told-by : (t : Table) (y x0 n : ℕ) (a : Channels) (o : DrawOutcome) → DrawCall t y x0 n a o → o ≡ drawing.leaves (o .answer) (o .channels)
+told-by t y x0 n a o (draws κs _ _ _ _ _ _ _ _ _ _ _ _ _ _ _ _ _ _ _ _ _ _ _ _ _ p) = refl
+
+-- ---- builds and runs
+
+pub built-by : {d : Description} {i : Image} {r : building.Rooms} {o : building.Table} {s e estimate : ℕ} → BuildDone d i r o s e estimate → Built d i r o s e estimate
+built-by {d} {i} {r} {o} b = record { outcome = build-equation d i r o (b .called); done = b .done }
+
+part-by : {t : Table} {y : ℕ} {p : Part} {a b : Channels} {count : ℕ} → PartCall t y p a count b → Draws t y p a count b
+part-by {t} {y} {p} {a} c =
+    let told = told-by t y (p .at) (p .wide) (lentOf (p .at) (c .room) a) (c .outcome) (c .called) in
+    record {
+      room = c .room;
+      answer = c .outcome .answer;
+      left = c .outcome .channels;
+      holds = c .holds;
+      in-row = c .in-row;
+      outcome = sym told ∙ draw-equation t y (p .at) (p .wide) (lentOf (p .at) (c .room) a) (c .outcome) (c .called);
+      counted = c .counted ∙ ap (λ (o : DrawOutcome). o .told .updates) told;
+      comes-back = c .comes-back;
+    }
+
+pub row-by : {t : Table} {y : ℕ} {ps : List Part} {a w : Channels} {sum : ℕ} → RowCalls t y ps a sum w → Drawn t y ps a sum w
+row-by calls.none = parts.none
+row-by (calls.more c rest) = parts.more (part-by c) (row-by rest)
+
+pub image-by : {t : Table} {js : List Job} {a w : images.Image} {sum : ℕ} → ImageCalls t js a sum w → DrawnAll t js a sum w
+image-by calls.none = images.none
+image-by (calls.more c rest) = images.more (part-by c) (image-by rest)
+
+-- Assumes nothing.

@@ -1,0 +1,121 @@
+-- The calls by their contracts: which outcomes a contract allows, and which runs of drawing. Definitions only.
+-- `Post` is a contract as it was proved: what it promises of the parameters, of the answer r, and of the parameters as they come back, which have a prime.
+use mathlib.Core.Path.{_≡_}
+use mathlib.Core.List.{List, [], _∷_, List·Permᴰ}
+use Prim.Native.Nat.{ℕ, _+_, _^_, _≤_, _<_}
+use lib.ListN.{length}
+use lib.IntN.{ℤ}
+use lib.Ieee.{Float}
+use contract.Lifetimes.{Lfts}
+use denote.Ref.{now}
+use Rattle.list.specs.List.{Rooms}
+use Rattle.reader.specs.Read as reading
+use Rattle.reader.proofs.read.Reads as read
+use Rattle.writer.specs.Write as writing
+use Rattle.writer.proofs.write.Reads as write
+use Rattle.dequantize.specs.Judge.{Description, descriptionOf}
+use Rattle.table.specs.Table.{Image, imageOf}
+use Rattle.table.specs.Table as building
+use Rattle.table.specs.declared.BuildAnswer.{BuildAnswer}
+use Rattle.table.proofs.build.Reads as build
+use Rattle.draw.specs.Draw.{Table, tableOf, Channels, three, DrawOutcome, leaves}
+use Rattle.draw.specs.Parts.{Part, cuts, total, lentOf, backOf, Wide}
+use Rattle.draw.specs.Image.{Job, job, jobs, Each, withRow}
+use Rattle.draw.specs.Image as drawing
+use Rattle.draw.specs.Reach.{ReachOutcome, tells}
+use Rattle.draw.proofs.draw.Reads as draw
+use Rattle.draw.proofs.reach.Reads as reach
+
+-- ---- outcomes that a contract allows
+
+-- of a list, under two limits, with so many cells lent
+pub data ReadCall : List ℕ → ℕ → ℕ → Rooms → reading.Outcome → Type 0 where
+  reads : (κs : Lfts 5) (list : _) (configured : _) (pixels : _) (counts : _) (starts : _) (deltas : _) (coefficients : _) (r : _)
+      (list′ : _) (configured′ : _) (pixels′ : _) (counts′ : _) (starts′ : _) (deltas′ : _) (coefficients′ : _)
+      → read.Post κs (list, (configured, (pixels, (counts, (starts, (deltas, (coefficients, tt))))))) r
+      (list′, (configured′, (pixels′, (counts′, (starts′, (deltas′, (coefficients′, tt)))))))
+      → ReadCall (now list) configured pixels (reading.roomsOf (now counts) (now starts) (now deltas) (now coefficients))
+      (reading.leaves r (now counts′) (now starts′) (now deltas′) (now coefficients′))
+
+-- of a description, under two limits, with so many cells lent
+pub data WriteCall : List ℕ → List Float → List ℤ → List ℤ → ℤ → ℕ → ℕ → ℕ → writing.WriteOutcome → Type 0 where
+  writes : (κs : Lfts 5) (counts : _) (starts : _) (deltas : _) (coefficients : _) (adjustment : _) (configured : _) (pixels : _) (list : _) (r : _)
+      (counts′ : _) (starts′ : _) (deltas′ : _) (coefficients′ : _) (adjustment′ : _) (configured′ : _) (pixels′ : _) (list′ : _)
+      → write.Post κs (counts, (starts, (deltas, (coefficients, (adjustment, (configured, (pixels, (list, tt)))))))) r
+      (counts′, (starts′, (deltas′, (coefficients′, (adjustment′, (configured′, (pixels′, (list′, tt))))))))
+      → WriteCall (now counts) (now starts) (now deltas) (now coefficients) adjustment configured pixels (length (now list)) (writing.leaves r (now list′))
+
+-- of a description, for an image, with so many cells lent
+pub data BuildCall : Description → Image → building.Rooms → building.Table → Type 0 where
+  builds : (κs : Lfts 9) (counts : _) (starts : _) (deltas : _) (coefficients : _) (adjustment : _) (width : _) (height : _) (ytox : _) (ytob : _) (high : _) (level10 : _) (path : _) (walk : _) (segments : _) (rowStarts : _) (entries : _) (r : _)
+      (counts′ : _) (starts′ : _) (deltas′ : _) (coefficients′ : _) (adjustment′ : _) (width′ : _) (height′ : _) (ytox′ : _) (ytob′ : _) (high′ : _) (level10′ : _) (path′ : _) (walk′ : _) (segments′ : _) (rowStarts′ : _) (entries′ : _)
+      → build.Post κs (counts, (starts, (deltas, (coefficients, (adjustment, (width, (height, (ytox, (ytob, (high, (level10, (path, (walk, (segments, (rowStarts, (entries, tt)))))))))))))))) r
+      (counts′, (starts′, (deltas′, (coefficients′, (adjustment′, (width′, (height′, (ytox′, (ytob′, (high′, (level10′, (path′, (walk′, (segments′, (rowStarts′, (entries′, tt))))))))))))))))
+      → BuildCall (descriptionOf (now counts) (now starts) (now deltas) (now coefficients)) (imageOf adjustment width height ytox ytob high level10)
+      (building.roomsOf (now path) (now walk) (now segments) (now rowStarts) (now entries))
+      (building.leaves r (now path′) (now walk′) (now segments′) (now rowStarts′) (now entries′))
+
+-- of row y of a table, n pixels from column x0 on, with channels lent that begin there
+pub data DrawCall : Table → ℕ → ℕ → ℕ → Channels → DrawOutcome → Type 0 where
+  draws : (κs : Lfts 6) (segments : _) (segmentCount : _) (entries : _) (entryCount : _) (rowStarts : _) (height : _) (y : _) (x0 : _) (n : _) (r0 : _) (r1 : _) (r2 : _) (r : _)
+      (segments′ : _) (segmentCount′ : _) (entries′ : _) (entryCount′ : _) (rowStarts′ : _) (height′ : _) (y′ : _) (x0′ : _) (n′ : _) (r0′ : _) (r1′ : _) (r2′ : _)
+      → draw.Post κs (segments, (segmentCount, (entries, (entryCount, (rowStarts, (height, (y, (x0, (n, (r0, (r1, (r2, tt)))))))))))) r
+      (segments′, (segmentCount′, (entries′, (entryCount′, (rowStarts′, (height′, (y′, (x0′, (n′, (r0′, (r1′, (r2′, tt))))))))))))
+      → DrawCall (tableOf (now segments) segmentCount (now entries) entryCount (now rowStarts) height)
+      y x0 n (three (now r0) (now r1) (now r2)) (leaves r (three (now r0′) (now r1′) (now r2′)))
+
+-- of row y of a table, for a width
+pub data ReachCall : Table → ℕ → ℕ → ReachOutcome → Type 0 where
+  reaches : (κs : Lfts 3) (segments : _) (segmentCount : _) (entries : _) (entryCount : _) (rowStarts : _) (height : _) (y : _) (width : _) (r : _)
+      (segments′ : _) (segmentCount′ : _) (entries′ : _) (entryCount′ : _) (rowStarts′ : _) (height′ : _) (y′ : _) (width′ : _)
+      → reach.Post κs (segments, (segmentCount, (entries, (entryCount, (rowStarts, (height, (y, (width, tt)))))))) r
+      (segments′, (segmentCount′, (entries′, (entryCount′, (rowStarts′, (height′, (y′, (width′, tt))))))))
+      → ReachCall (tableOf (now segments) segmentCount (now entries) entryCount (now rowStarts) height) y width (tells r)
+
+-- a build that is done, with its three counts
+pub record BuildDone (d : Description) (i : Image) (r : building.Rooms) (o : building.Table) (s e estimate : ℕ) : Type 0 where
+  pub called : BuildCall d i r o
+  pub done : o .answer ≡ BuildAnswer.Done s e estimate
+
+-- ---- runs of drawing
+
+-- a part of row y drawn by one call, in lent cells that hold at least the part: from the channels a to b, with a count of updates
+pub record PartCall (t : Table) (y : ℕ) (p : Part) (a : Channels) (count : ℕ) (b : Channels) : Type 0 where
+  pub room : ℕ
+  pub outcome : DrawOutcome
+  pub holds : p .wide ≤ room
+  pub in-row : p .at + room ≤ length (a .r0)
+  pub called : DrawCall t y (p .at) (p .wide) (lentOf (p .at) room a) outcome
+  pub counted : count ≡ outcome .told .updates
+  pub comes-back : b ≡ backOf (p .at) room a (outcome .channels)
+
+-- one part after another, the updates summed
+pub data RowCalls (t : Table) (y : ℕ) : List Part → Channels → ℕ → Channels → Type 0 where
+  none : {a : Channels} → RowCalls t y [] a 0 a
+  more : {p : Part} {ps : List Part} {a b w : Channels} {count rest : ℕ} → PartCall t y p a count b → RowCalls t y ps b rest w → RowCalls t y (p ∷ ps) a (count + rest) w
+
+-- a row drawn W pixels wide: cut into adjacent parts, which are drawn in any order
+pub record RowRun (t : Table) (y W : ℕ) (a w : Channels) (sum : ℕ) : Type 0 where
+  pub in-image : y < t .height
+  pub narrow : W ≤ 2 ^ 23
+  pub wide : Wide W a
+  pub widths : List ℕ
+  pub cut : total widths ≡ W
+  pub parts : List Part
+  pub order : List·Permᴰ (cuts 0 widths) parts
+  pub drawn : RowCalls t y parts a sum w
+
+-- the same of all rows, whose parts may be mixed
+pub data ImageCalls (t : Table) : List Job → drawing.Image → ℕ → drawing.Image → Type 0 where
+  none : {a : drawing.Image} → ImageCalls t [] a 0 a
+  more : {y : ℕ} {p : Part} {js : List Job} {a w : drawing.Image} {b : Channels} {count rest : ℕ} → PartCall t y p (a y) count b → ImageCalls t js (withRow a y b) rest w → ImageCalls t (job y p ∷ js) a (count + rest) w
+
+pub record ImageRun (t : Table) (W : ℕ) (a w : drawing.Image) (sum : ℕ) : Type 0 where
+  pub narrow : W ≤ 2 ^ 23
+  pub wide : (y : ℕ) → Wide W (a y)
+  pub widths : List (List ℕ)
+  pub tall : length widths ≡ t .height
+  pub cut : Each W widths
+  pub parts : List Job
+  pub order : List·Permᴰ (jobs 0 widths) parts
+  pub drawn : ImageCalls t parts a sum w
