@@ -66,7 +66,7 @@ fn against_oracle(table: &FlatTable, request: &Request) -> Verdict {
     if drawn != Outcome::Done(()) || !same_floats(&mine.concat(), &theirs.concat()) {
         return equal(false, &mine, &(drawn, theirs));
     }
-    let theirs = touched_in_all(table, request);
+    let theirs = touched_in_all(table, y, x0, n);
     if theirs != Some(updates) {
         return equal(false, &updates, &theirs);
     }
@@ -94,10 +94,11 @@ fn entries(table: &FlatTable, y: u32) -> &[u32] {
     &table.entries[first as usize..past as usize]
 }
 
-fn touched_in_all(table: &FlatTable, request: &Request) -> Option<u64> {
+/// The updates of an accepted part: how many pixels spline.rs touches, segment by segment.
+pub fn touched_in_all(table: &FlatTable, y: u32, x0: u32, n: u32) -> Option<u64> {
     let mut sum = 0;
-    for &entry in entries(table, request.y) {
-        let pixels = touched(&table.segment(entry), request.y, request.x0, request.n)?;
+    for &entry in entries(table, y) {
+        let pixels = touched(&table.segment(entry), y, x0, n)?;
         sum += pixels.iter().filter(|&&pixel| pixel).count() as u64;
     }
     Some(sum)

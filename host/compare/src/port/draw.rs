@@ -1,18 +1,19 @@
 //! Drawing: sound, strange and hostile tables and requests as they come, and rows of built tables cut into parts that are drawn in any order; reach beside them.
+//! Every accepted part is drawn by spline.rs too: its cells, and its updates as the pixels that it touches segment by segment.
 
 use super::tally::Tally;
 use super::told_refusal;
-use crate::draw::unflattened;
+use crate::draw::{touched_in_all, unflattened};
 use crate::verdict::same_floats;
 use cases::descriptions::build_case;
 use cases::random::Random;
 use cases::tables::{request, table, REQUEST_KINDS, TABLE_KINDS};
 use cases::{each, FlatTable, Refusal};
-use oracle::Outcome;
+use oracle::{Loaded, Outcome};
 use port::Answer;
 
 const CASES_A_KIND: u64 = 16_000;
-const BUILT_TABLES: u64 = 2_000;
+const BUILT_TABLES: u64 = 2_400;
 
 /// Descriptions whose tables are drawn.
 const BUILT_KINDS: [&str; 5] = ["fibres", "straight", "sigma", "colours", "correlations"];
@@ -35,9 +36,9 @@ pub fn compare(tally: &mut Tally) {
             format!("{kind}, seed {seed}: {table:?} {request:?}")
         });
         if expected.0.is_ok() {
-            tally.by_rust += 1;
-            let theirs = rust_part(&table, y, x0, n, &request.channels);
-            same_cells(tally, &theirs, &drawn.2, || {
+            let loaded = oracle::load(&unflattened(&table));
+            let theirs = rust_part(&loaded, &table, y, x0, n, &request.channels);
+            check_with_rust(tally, &theirs, &drawn, || {
                 format!("{kind}, seed {seed}: {table:?} {request:?}")
             });
         }
@@ -52,14 +53,16 @@ pub fn compare(tally: &mut Tally) {
     }
 }
 
-/// Rows of one table, each cut into parts that are drawn in any order: cell by cell as spline.rs draws the row whole, and the updates sum to the row's.
+/// Rows of one table, each cut into parts that are drawn in any order: part after part as spline.rs draws it, in the end cell by cell as spline.rs draws the row whole,
+/// and the updates sum to the row's.
 fn rows_in_parts(tally: &mut Tally, kind: &str, seed: u64, table: &FlatTable) {
     let mut r = Random::new("parts", seed);
+    let loaded = oracle::load(&unflattened(table));
     for _ in 0..ROWS.min(table.height.into()) {
         let y = r.below(table.height.into()) as u32;
         let before: Channels =
             [0, 1, 2].map(|_| (0..WIDTH).map(|_| r.between(-1.0, 1.0)).collect());
-        let (whole, _) = expected_part(table, y, 0, WIDTH, &before);
+        let whole = rust_part(&loaded, table, y, 0, WIDTH, &before);
         let mut cells = before.clone();
         let mut updates = 0;
         for (x0, n) in cut(&mut r) {
@@ -68,22 +71,22 @@ fn rows_in_parts(tally: &mut Tally, kind: &str, seed: u64, table: &FlatTable) {
                 .map(|channel| channel[x0 as usize..].to_vec());
             let expected = expected_part(table, y, x0, n, &part);
             let drawn = drawn_part(table, y, x0, n, &part);
-            check(tally, &expected, &drawn, || {
-                format!("{kind}, seed {seed}, row {y}, part {x0}, {n}")
-            });
+            let words = || format!("{kind}, seed {seed}, row {y}, part {x0}, {n}");
+            check(tally, &expected, &drawn, words);
+            let theirs = rust_part(&loaded, table, y, x0, n, &part);
+            check_with_rust(tally, &theirs, &drawn, words);
             updates += drawn.1[1];
             for (channel, new) in cells.iter_mut().zip(&drawn.2) {
                 channel[x0 as usize..].copy_from_slice(new);
             }
         }
-        tally.by_rust += 1;
-        let theirs = rust_part(table, y, 0, WIDTH, &before);
-        same_cells(tally, &theirs, &cells, || {
+        same_cells(tally, &whole.1, &cells, || {
             format!("{kind}, seed {seed}, row {y} in parts")
         });
-        if whole != Ok(updates as u64) {
+        if whole.0 != Some(updates as u64) {
             tally.differs(format!(
-                "{kind}, seed {seed}, row {y}: updates {updates} in parts, {whole:?} whole"
+                "{kind}, seed {seed}, row {y}: updates {updates} in parts, {:?} whole",
+                whole.0
             ));
         }
     }
@@ -125,6 +128,25 @@ fn check(
     same_cells(tally, &expected.1, &drawn.2, words);
 }
 
+/// The same updates and cells as spline.rs.
+fn check_with_rust(
+    tally: &mut Tally,
+    theirs: &(Option<u64>, Channels),
+    drawn: &(u32, Answer, Channels),
+    words: impl Fn() -> String,
+) {
+    tally.by_rust += 1;
+    if theirs.0 != Some(drawn.1[1] as u64) {
+        tally.differs(format!(
+            "draw, {}\n  port: {:?}\n  spline.rs touches {:?} pixels",
+            words(),
+            drawn.1,
+            theirs.0
+        ));
+    }
+    same_cells(tally, &theirs.1, &drawn.2, words);
+}
+
 fn same_cells(
     tally: &mut Tally,
     expected: &Channels,
@@ -164,21 +186,24 @@ fn drawn_part(
     (code, answer, after)
 }
 
-/// The channels as spline.rs leaves them; it draws as many pixels as its channels have.
-fn rust_part(table: &FlatTable, y: u32, x0: u32, n: u32, before: &Channels) -> Channels {
+/// The updates of spline.rs, and the channels as it leaves them; it draws as many pixels as its channels have.
+fn rust_part(
+    loaded: &Loaded,
+    table: &FlatTable,
+    y: u32,
+    x0: u32,
+    n: u32,
+    before: &Channels,
+) -> (Option<u64>, Channels) {
     let mut after = before.clone();
     let [r0, r1, r2] = &mut after;
     let part = n as usize;
-    let drawn = oracle::load(&unflattened(table)).draw(
-        y,
-        x0,
-        [&mut r0[..part], &mut r1[..part], &mut r2[..part]],
-    );
+    let drawn = loaded.draw(y, x0, [&mut r0[..part], &mut r1[..part], &mut r2[..part]]);
     assert!(
         drawn == Outcome::Done(()),
         "spline.rs draws every accepted part"
     );
-    after
+    (touched_in_all(table, y, x0, n), after)
 }
 
 fn lent(table: &FlatTable) -> port::Table<'_> {
