@@ -29,10 +29,7 @@ use Rattle.rows.proofs.Table.{rest-same}
 use Rattle.table.specs.declared.BuildAnswer.the-variants.{Done, Refused}
 use Rattle.table.specs.Table.{Rooms, Image, givenOf, leaves, zeros, padded, refusedWith, verdictOf, afterRows, afterPaint, buildOf}
 
--- ---- cleared buffers
-
-pub cleared : (o : List Float) {e : List Float} → e ≡ take 0 o ++ replicate (length o - 0) (ofBits binary32 0) → e ≡ zeros (length o)
-cleared o h = let n : length o - 0 ≡ length o = omega arith in h ∙ rw n
+-- ---- a buffer that is cleared behind what it keeps
 
 pub kept : (o : List Float) {e : List Float} (n : ℕ) → n ≤ length o → e ≡ take n o ++ replicate (length o - n) (ofBits binary32 0) → e ≡ padded (length o) (take n o)
 kept o n h e = e ∙ rw (length-take-le n o h)

@@ -128,11 +128,7 @@ fn refuse(
     ensures { λ r. ⌜ leaves r (now (path .exit)) (now (walk .exit)) (now (segments .exit)) (now («row_starts» .exit)) (now (entries .exit))
         ≡ refusedWith (roomsOf (now (path .entry)) (now (walk .entry)) (now (segments .entry)) (now («row_starts» .entry)) (now (entries .entry))) code place ⌝ }
 {
-    buffers::clear(path, 0);
-    buffers::clear(walk, 0);
-    buffers::clear(segments, 0);
-    rows::clear(row_starts);
-    rows::clear(entries);
+    wipe::wipe(path, walk, segments, row_starts, entries);
     BuildAnswer::Refused(code, place)
 }
 

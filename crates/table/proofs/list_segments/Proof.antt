@@ -7,7 +7,8 @@ use lib.Ieee.{Float}
 use borrow.Author.Needs.{needs}
 use Rattle.rows.specs.Rows.{Outcome, inRow, built}
 use Rattle.table.specs.Table.{Rooms, roomsOf}
-use Rattle.table.proofs.Placing.{cleared, kept, rows-room, rows-done}
+use Rattle.wipe.proofs.Zeros.{cleared}
+use Rattle.table.proofs.Placing.{kept, rows-room, rows-done}
 use Rattle.table.proofs.list_segments.Statement.{statement}
 use Rattle.table.proofs.list_segments.Tie as tie
 

@@ -1,24 +1,11 @@
--- `refuse`: five buffers, cleared one after the other.
+-- `refuse`: all five buffers are wiped.
 use borrow.Author.Needs.{needs}
 use Rattle.table.specs.Table.{refusedWith}
-use Rattle.table.proofs.Placing.{cleared}
 use Rattle.table.proofs.refuse.Statement.{statement}
 use Rattle.table.proofs.refuse.Tie as tie
 
-clear-requires : tie.Need-clear-requires
-clear-requires c κs = search needs
-
-clear-requires-2 : tie.Need-clear-requires-2
-clear-requires-2 c κs = search needs
-
-clear-requires-3 : tie.Need-clear-requires-3
-clear-requires-3 c κs = search needs
-
-clear-requires-4 : tie.Need-clear-requires-4
-clear-requires-4 c κs = search needs
-
-clear-requires-5 : tie.Need-clear-requires-5
-clear-requires-5 c κs = search needs
+wipe-requires : tie.Need-wipe-requires
+wipe-requires c κs = search needs
 
 same-length : tie.Need-same-length
 same-length c = search needs
@@ -38,18 +25,14 @@ same-length-5 c = search needs
 returns : tie.Need-returns
 unfolding refusedWith
 returns c =
-    let a = c .before .before .before .before .before .before .before .before .before .before .before .before .before .before .before .before .before .before .before .before .before .before .before .before .before .args in
-    rw (cleared (a .path .now) (c .before .before .before .before .before .before .before .before .before .before .before .before .before .before .before .before .before .before .clear .ensures), cleared (a .walk .now) (c .before .before .before .before .before .before .before .before .before .before .before .before .before .before .clear2 .ensures), cleared (a .segments .now) (c .before .before .before .before .before .before .before .before .before .before .clear3 .ensures), c .before .before .before .before .before .before .clear4 .ensures, c .before .before .clear5 .ensures)
+    let w = c .before .before .before .before .before .before .before .before .before .before .wipe .ensures in
+    rw (w .0, w .1 .0, w .1 .1 .0, w .1 .1 .1 .0, w .1 .1 .1 .1)
 
 pub refuse-spec : {M : Type 1} → statement M
 refuse-spec =
     tie.close
     (tie.spec
-    clear-requires
-    clear-requires-2
-    clear-requires-3
-    clear-requires-4
-    clear-requires-5
+    wipe-requires
     same-length
     same-length-2
     same-length-3
