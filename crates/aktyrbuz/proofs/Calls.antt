@@ -4,6 +4,7 @@ use mathlib.Core.List.{List}
 use Prim.Native.Nat.{ℕ}
 use lib.IntN.{ℤ}
 use lib.Ieee.{Float}
+use Rattle.numbers.specs.Ln.{lnOf}
 use Rattle.list.specs.List.{Rooms}
 use Rattle.reader.specs.Read.{Outcome, readOutcome}
 use Rattle.writer.specs.Write.{WriteOutcome, writeOf}
@@ -18,7 +19,7 @@ use Rattle.draw.specs.Parts as parts
 use Rattle.draw.specs.Image.{Job, DrawnAll}
 use Rattle.draw.specs.Image as images
 use Rattle.draw.specs.Reach.{ReachOutcome, reachOf}
-use Rattle.aktyrbuz.specs.Calls.{ReadCall, reads, WriteCall, writes, BuildCall, builds, DrawCall, draws, ReachCall, reaches, BuildDone, PartCall, RowCalls, ImageCalls}
+use Rattle.aktyrbuz.specs.Calls.{ReadCall, reads, WriteCall, writes, BuildCall, builds, DrawCall, draws, ReachCall, reaches, LnCall, logs, BuildDone, PartCall, RowCalls, ImageCalls}
 use Rattle.aktyrbuz.specs.Calls as calls
 
 pub read-equation : (l : List ℕ) (configured pixels : ℕ) (rooms : Rooms) (o : Outcome) → ReadCall l configured pixels rooms o → o ≡ readOutcome configured pixels rooms l
@@ -36,6 +37,9 @@ draw-equation t y x0 n a o (draws κs _ _ _ _ _ _ _ _ _ _ _ _ _ _ _ _ _ _ _ _ _ 
 
 pub reach-equation : (t : Table) (y W : ℕ) (o : ReachOutcome) → ReachCall t y W o → o ≡ reachOf t y W
 reach-equation t y W o (reaches κs _ _ _ _ _ _ _ _ _ _ _ _ _ _ _ _ _ p) = p
+
+pub ln-equation : (x r : Float) → LnCall x r → r ≡ lnOf x
+ln-equation x r (logs κs _ _ _ p) = p
 
 -- what a drawing tells is told by its answer
 told-by : (t : Table) (y x0 n : ℕ) (a : Channels) (o : DrawOutcome) → DrawCall t y x0 n a o → o ≡ drawing.leaves (o .answer) (o .channels)

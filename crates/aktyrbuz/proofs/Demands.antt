@@ -24,8 +24,8 @@ use Rattle.table.proofs.Users as building-laws
 use Rattle.picture.proofs.Tables.{built-table}
 use Rattle.picture.proofs.Pictures as pictures
 use Rattle.picture.proofs.Rooms.{same-segments}
-use Rattle.aktyrbuz.specs.Demands.{ReadsAsSplineRs, WritesTheList, WrittenIsRead, ReadIsWritten, BuildsAsSplineRs, BuildsTheTable, DrawsAsSplineRs, ReachesByTheRule, RefusedLeavesZero, RefusedDrawsNothing, RowInParts, ImageInParts, UpdatesSum, RoomChangesNothing, OneOutcome}
-use Rattle.aktyrbuz.proofs.Calls.{read-equation, write-equation, build-equation, draw-equation, reach-equation, built-by, row-by, image-by}
+use Rattle.aktyrbuz.specs.Demands.{ReadsAsSplineRs, WritesTheList, WrittenIsRead, ReadIsWritten, BuildsAsSplineRs, BuildsTheTable, DrawsAsSplineRs, ReachesByTheRule, LogsByItsSteps, RefusedLeavesZero, RefusedDrawsNothing, RowInParts, ImageInParts, UpdatesSum, RoomChangesNothing, OneOutcome}
+use Rattle.aktyrbuz.proofs.Calls.{read-equation, write-equation, build-equation, draw-equation, reach-equation, ln-equation, built-by, row-by, image-by}
 
 -- ---- the same numbers
 
@@ -56,6 +56,9 @@ draws-as-spline-rs = draw-equation
 
 pub reaches-by-the-rule : ReachesByTheRule
 reaches-by-the-rule = reach-equation
+
+pub logs-by-its-steps : LogsByItsSteps
+logs-by-its-steps = ln-equation
 
 -- ---- refusals
 
@@ -135,6 +138,7 @@ one-outcome = record {
   build = λ d i r o q a b. build-equation d i r o a ∙ sym (build-equation d i r q b);
   draw = λ t y x0 n z o q a b. draw-equation t y x0 n z o a ∙ sym (draw-equation t y x0 n z q b);
   reach = λ t y W o q a b. reach-equation t y W o a ∙ sym (reach-equation t y W q b);
+  ln = λ x o q a b. ln-equation x o a ∙ sym (ln-equation x q b);
 }
 
 -- Assumes nothing.

@@ -8,6 +8,7 @@ use lib.IntN.{ℤ}
 use lib.Ieee.{Float}
 use contract.Lifetimes.{Lfts}
 use denote.Ref.{now}
+use Rattle.numbers.proofs.ln.Reads as ln
 use Rattle.list.specs.List.{Rooms}
 use Rattle.reader.specs.Read as reading
 use Rattle.reader.proofs.read.Reads as read
@@ -71,6 +72,10 @@ pub data ReachCall : Table → ℕ → ℕ → ReachOutcome → Type 0 where
       → reach.Post κs (segments, (segmentCount, (entries, (entryCount, (rowStarts, (height, (y, (width, tt)))))))) r
       (segments′, (segmentCount′, (entries′, (entryCount′, (rowStarts′, (height′, (y′, (width′, tt))))))))
       → ReachCall (tableOf (now segments) segmentCount (now entries) entryCount (now rowStarts) height) y width (tells r)
+
+-- of a number
+pub data LnCall : Float → Float → Type 0 where
+  logs : (κs : Lfts 0) (x : _) (r : _) (x′ : _) → ln.Post κs (x, tt) r (x′, tt) → LnCall x r
 
 -- a build that is done, with its three counts
 pub record BuildDone (d : Description) (i : Image) (r : building.Rooms) (o : building.Table) (s e estimate : ℕ) : Type 0 where

@@ -10,6 +10,7 @@ use lib.Ieee.{Float, nan, fin, binary32, ofInt}
 use Rattle.codes.specs.declared.Code.{Code}
 use Rattle.numbers.specs.Whole.{roundOf}
 use Rattle.numbers.specs.Length.{lengthOf}
+use Rattle.numbers.specs.Ln.{lnOf}
 use Rattle.list.specs.List.{Rooms, sum, unpackSigned}
 use Rattle.list.specs.Steps.{zeroF32}
 use Rattle.reader.specs.Read.{Outcome, padded, readOutcome}
@@ -34,7 +35,7 @@ use Rattle.draw.specs.Draw.{Table, rowOf, Channels, DrawOutcome, drawOf}
 use Rattle.draw.specs.Image as drawing
 use Rattle.draw.specs.declared.DrawAnswer.{DrawAnswer}
 use Rattle.draw.specs.Reach.{ReachOutcome, reachOf}
-use Rattle.aktyrbuz.specs.Calls.{ReadCall, WriteCall, BuildCall, DrawCall, ReachCall, BuildDone, RowRun, ImageRun}
+use Rattle.aktyrbuz.specs.Calls.{ReadCall, WriteCall, BuildCall, DrawCall, ReachCall, LnCall, BuildDone, RowRun, ImageRun}
 
 -- ---- the same numbers as spline.rs
 
@@ -81,6 +82,10 @@ DrawsAsSplineRs = (t : Table) (y x0 n : ℕ) (a : Channels) (o : DrawOutcome) �
 -- `reach` answers the columns of a row by the scope's rule
 abbrev pub ReachesByTheRule : Type 0
 ReachesByTheRule = (t : Table) (y W : ℕ) (o : ReachOutcome) → ReachCall t y W o → o ≡ reachOf t y W
+
+-- `ln` is the scope's fixed sequence of steps
+abbrev pub LogsByItsSteps : Type 0
+LogsByItsSteps = (x r : Float) → LnCall x r → r ≡ lnOf x
 
 -- ---- refusals
 
@@ -149,6 +154,7 @@ pub record OneOutcome : Type 0 where
   pub build : (d : Description) (i : Image) (r : building.Rooms) (o q : building.Table) → BuildCall d i r o → BuildCall d i r q → o ≡ q
   pub draw : (t : Table) (y x0 n : ℕ) (a : Channels) (o q : DrawOutcome) → DrawCall t y x0 n a o → DrawCall t y x0 n a q → o ≡ q
   pub reach : (t : Table) (y W : ℕ) (o q : ReachOutcome) → ReachCall t y W o → ReachCall t y W q → o ≡ q
+  pub ln : (x o q : Float) → LnCall x o → LnCall x q → o ≡ q
 
 -- ---- the starred readings
 
