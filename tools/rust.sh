@@ -16,13 +16,14 @@ if [ "$(uname -m)" != x86_64 ]; then
     rust_runner='qemu-x86_64 -L /usr/x86_64-linux-gnu'
 fi
 
-# Whether this cargo and rustc make programs that run here, and know the Rust that host/ is written in (1.70): tried, not guessed.
+# Whether this cargo and rustc make programs that run here, know the Rust that host/ is written in, and have the float sum of the
+# scope's oracle, which starts from minus zero (that of 1.85 does, that of 1.78 does not): tried, not guessed.
 try_compiler() { # CARGO RUSTC
     command -v "$1" >/dev/null 2>&1 && command -v "$2" >/dev/null 2>&1 || return 1
     trial=$(mktemp -d) || return 1
-    echo 'fn main() { let Some(n) = Some(8u32) else { return }; assert!(Some(n.ilog2()).is_some_and(|log| log == 3)) }' >"$trial/trial.rs"
+    echo 'fn main() { let Some(sum) = Some([0f32; 0].iter().sum::<f32>()) else { return }; assert!(sum.is_sign_negative()) }' >"$trial/trial.rs"
     # shellcheck disable=SC2086
-    "$2" --edition 2021 --target "$rust_target" ${rust_linker:+-C linker=$rust_linker} -o "$trial/trial" "$trial/trial.rs" 2>/dev/null && $rust_runner "$trial/trial"
+    "$2" --edition 2021 --target "$rust_target" ${rust_linker:+-C linker=$rust_linker} -o "$trial/trial" "$trial/trial.rs" 2>/dev/null && $rust_runner "$trial/trial" 2>/dev/null
     tried=$?
     rm -rf "$trial"
     [ "$tried" -eq 0 ] && CARGO=$1 RUSTC=$2
@@ -59,9 +60,9 @@ rust_ready() {
         return 1
     fi
     find_compiler && return 0
-    echo "no Rust compiler of 1.70 or later that makes $rust_target programs is here; installing Debian's"
+    echo "no Rust compiler that makes $rust_target programs as the oracle needs them is here; installing Debian's"
     install_compiler && find_compiler && return 0
-    rust_missing="there is no Rust compiler of 1.70 or later for $rust_target, and Debian's packages could not be installed"
+    rust_missing="there is no Rust compiler for $rust_target that the oracle can use, and Debian's packages could not be installed"
     return 1
 }
 
