@@ -17,14 +17,18 @@ use Rattle.writer.specs.declared.Verdict.the-variants.{Fine, Fault}
 use Rattle.writer.specs.declared.WriteAnswer.{WriteAnswer}
 use Rattle.roundtrip.proofs.RoundTrip.{written-then-read, read-then-written}
 use Rattle.draw.specs.Draw as drawing
+use Rattle.draw.specs.Reach as reaching
+use Rattle.draw.specs.declared.DrawAnswer.{DrawAnswer}
+use Rattle.draw.specs.declared.ReachAnswer.{ReachAnswer}
 use Rattle.draw.specs.declared.Verdict.{Verdict as Judged}
 use Rattle.draw.specs.declared.Verdict.the-variants as judged
 use Rattle.table.specs.Table as building
 use Rattle.table.proofs.Users as building-laws
-use Rattle.picture.proofs.Tables.{built-table}
+use Rattle.picture.specs.Picture.{built}
+use Rattle.picture.proofs.Tables.{built-table, draw-fine, reach-fine}
 use Rattle.picture.proofs.Pictures as pictures
 use Rattle.picture.proofs.Rooms.{same-segments}
-use Rattle.aktyrbuz.specs.Demands.{ReadsAsSplineRs, WritesTheList, WrittenIsRead, ReadIsWritten, BuildsAsSplineRs, BuildsTheTable, DrawsAsSplineRs, ReachesByTheRule, LogsByItsSteps, RefusedLeavesZero, RefusedDrawsNothing, RowInParts, ImageInParts, UpdatesSum, RoomChangesNothing, OneOutcome}
+use Rattle.aktyrbuz.specs.Demands.{ReadsAsSplineRs, WritesTheList, WrittenIsRead, ReadIsWritten, BuildsAsSplineRs, BuildsTheTable, DrawsAsSplineRs, ReachesByTheRule, LogsByItsSteps, RefusedLeavesZero, RefusedDrawsNothing, BuiltIsDrawn, RowInParts, ImageInParts, UpdatesSum, RoomChangesNothing, OneOutcome}
 use Rattle.aktyrbuz.proofs.Calls.{read-equation, write-equation, build-equation, draw-equation, reach-equation, ln-equation, built-by, row-by, image-by}
 
 -- ---- the same numbers
@@ -104,6 +108,24 @@ refused-draws-nothing t y x0 n a o c p d e =
         let k : _≡_ {A = ℕ} 0 1 = cc in
         absurd (omega arith)
     go (judged.Fault k) f = ap (λ (u : drawing.DrawOutcome). u .channels) f
+
+drawn-fine : (t : drawing.Table) (y x0 n : ℕ) (a : drawing.Channels) (z : drawing.DrawOutcome) → z ≡ drawing.drawOf t y x0 n a
+    → drawing.judgeOf t y x0 n (length (a .r0)) (length (a .r1)) (length (a .r2)) ≡ judged.Fine → z .answer ≡ DrawAnswer.Done (z .told .updates)
+unfolding drawing.drawOf
+drawn-fine t y x0 n a z e f = rw (e, f)
+
+reached-fine : (t : drawing.Table) (y W : ℕ) (z : reaching.ReachOutcome) → z ≡ reaching.reachOf t y W → reaching.judgeReachOf t y W ≡ judged.Fine
+    → z .answer ≡ ReachAnswer.Done (z .told .first) (z .told .past)
+unfolding reaching.reachOf
+reached-fine t y W z e f = rw (e, f)
+
+pub built-is-drawn : BuiltIsDrawn
+built-is-drawn = record {
+  draw = λ d i r o s e estimate b y x0 n a z k g c.
+      drawn-fine (built i o s e) y x0 n a z (draw-equation (built i o s e) y x0 n a z c) (draw-fine (built-by b) y k x0 n (length (a .r0)) (length (a .r1)) (length (a .r2)) g);
+  reach = λ d i r o s e estimate b y W z k w c.
+      reached-fine (built i o s e) y W z (reach-equation (built i o s e) y W z c) (reach-fine (built-by b) y k W w);
+}
 
 -- ---- pixels
 

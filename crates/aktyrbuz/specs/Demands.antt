@@ -2,7 +2,7 @@
 use mathlib.Core.Path.{_≡_}
 use mathlib.Core.Bool.{true, false, _&&_}
 use mathlib.Core.List.{List, _++_}
-use Prim.Native.Nat.{ℕ, _-_, _*_, _≤_, _<_}
+use Prim.Native.Nat.{ℕ, _-_, _*_, _^_, _≤_, _<_}
 use lib.Dec.{leb}
 use lib.ListN.{length, take, replicate}
 use lib.IntN.{ℤ, pos, negsuc}
@@ -31,9 +31,10 @@ use Rattle.table.specs.Table.{Image, buildOf, zeros}
 use Rattle.table.specs.Table as building
 use Rattle.table.specs.declared.BuildAnswer.{BuildAnswer}
 use Rattle.picture.specs.Picture.{built, BuiltTable, segmentsOf, rowPairs, imagePairs, RowPicture}
-use Rattle.draw.specs.Draw.{Table, rowOf, Channels, DrawOutcome, drawOf}
+use Rattle.draw.specs.Draw.{Table, rowOf, spanGood, Channels, DrawOutcome, drawOf}
 use Rattle.draw.specs.Image as drawing
 use Rattle.draw.specs.declared.DrawAnswer.{DrawAnswer}
+use Rattle.draw.specs.declared.ReachAnswer.{ReachAnswer}
 use Rattle.draw.specs.Reach.{ReachOutcome, reachOf}
 use Rattle.aktyrbuz.specs.Calls.{ReadCall, WriteCall, BuildCall, DrawCall, ReachCall, LnCall, BuildDone, RowRun, ImageRun}
 
@@ -117,6 +118,14 @@ pub record RefusedLeavesZero : Type 0 where
 abbrev pub RefusedDrawsNothing : Type 0
 RefusedDrawsNothing =
     (t : Table) (y x0 n : ℕ) (a : Channels) (o : DrawOutcome) (c : Code) (p : ℕ) → DrawCall t y x0 n a o → o .answer ≡ DrawAnswer.Refused c p → o .channels ≡ a
+
+-- a built table is not refused: a part of any of its rows that lies within 2^23 columns and in the channels is drawn, and every row has its reach
+pub record BuiltIsDrawn : Type 0 where
+  pub draw : (d : Description) (i : Image) (r : building.Rooms) (o : building.Table) (s e estimate : ℕ) → BuildDone d i r o s e estimate
+      → (y x0 n : ℕ) (a : Channels) (z : DrawOutcome) → y < i .height → spanGood x0 n (length (a .r0)) (length (a .r1)) (length (a .r2)) ≡ true
+      → DrawCall (built i o s e) y x0 n a z → z .answer ≡ DrawAnswer.Done (z .told .updates)
+  pub reach : (d : Description) (i : Image) (r : building.Rooms) (o : building.Table) (s e estimate : ℕ) → BuildDone d i r o s e estimate
+      → (y W : ℕ) (z : ReachOutcome) → y < i .height → W ≤ 2 ^ 23 → ReachCall (built i o s e) y W z → z .answer ≡ ReachAnswer.Done (z .told .first) (z .told .past)
 
 -- ---- pixels
 
