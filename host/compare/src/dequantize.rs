@@ -25,6 +25,32 @@ pub fn compare(tally: &mut Tally) {
             );
         }
     }
+    for last in 2..=4 {
+        let deltas = far_and_outside(last);
+        let spline = Quantized {
+            start: (0.0, 8388607.0),
+            deltas: &deltas,
+            coefficients: &[0; 128],
+        };
+        let verdict = against_oracle(&spline, 0, &NOTHING);
+        tally.add("far and outside", last as u64, &(spline, NOTHING), verdict);
+    }
+}
+
+const NOTHING: Given = Given {
+    width: 0,
+    height: 0,
+    y_to_x: 0.0,
+    y_to_b: 1.0,
+    high_precision: false,
+    level10: false,
+};
+
+/// To and fro in x, then a last step that leaves the range in y; with 2, 3 and 4 the Manhattan sum is one below, at and one
+/// above an empty image's limit.
+fn far_and_outside(last: i32) -> [i32; 10] {
+    let leg = (1 << 23) - 1;
+    [leg, 0, -2 * leg, 0, 2 * leg, 0, -2 * leg, 0, leg + last, 1]
 }
 
 fn against_oracle(spline: &Quantized, adjustment: i32, given: &Given) -> Verdict {

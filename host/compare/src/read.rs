@@ -22,7 +22,25 @@ pub fn compare(tally: &mut Tally) {
         let case = list_case(kind, seed);
         tally.add(kind, seed, &case, against_oracle(&case));
     }
+    for (seed, list) in (0..).zip(CUT_IN_A_PAIR) {
+        let case = ListCase {
+            list: list.to_vec(),
+            configured: 9,
+            pixels: 99,
+        };
+        tally.add("cut in a pair", seed, &case, against_oracle(&case));
+    }
 }
+
+/// A pair whose x is refused, cut after its x and after its y: a first start, a later one, a double delta.
+const CUT_IN_A_PAIR: [&[u32]; 6] = [
+    &[0, 1 << 23],
+    &[0, 1 << 23, 5],
+    &[1, 5, 6, u32::MAX],
+    &[1, 5, 6, u32::MAX, 0],
+    &[0, 1, 2, 3, 1, u32::MAX],
+    &[0, 1, 2, 3, 1, u32::MAX, 0],
+];
 
 fn against_oracle(case: &ListCase) -> Verdict {
     let mine = model::read(&case.list, case.configured, case.pixels, &ROOMS);
