@@ -1,12 +1,10 @@
 -- What an accepted build leaves: a refusal is not done, so every check of `buildOf` has passed, and the cells are those of the last step.
 use mathlib.Core.Path.{_≡_, refl, sym, ap, _∙_}
-use mathlib.Core.Bool.{Bool, true, false}
+use mathlib.Core.Bool.{Bool}
 use mathlib.Core.List.{List, [], _++_}
 use Prim.Native.Nat.{ℕ, zero, suc, _+_, _^_, _≤_, _<_}
 use native.Mathlib.Omega.{arith}
-use lib.Dec.{leb}
 use lib.ListN.{length, length-append}
-use borrow.Author.Tests.{leb-true}
 use Rattle.codes.specs.declared.Code.{Code}
 use Rattle.codes.specs.declared.Code.the-variants as Code
 use Rattle.dequantize.specs.declared.Given.{Given}
@@ -25,10 +23,10 @@ use Rattle.rows.specs.declared.Listed.{Listed}
 use Rattle.rows.specs.declared.Listed.the-variants as Listed
 use Rattle.rows.specs.Rows.{inRow, Outcome, outcome, built}
 use Rattle.painting.specs.Painting.{strandOfSpline, Painted, All, NoRoomAt, afterStrand, paintFrom, paintOf}
-use Rattle.table.specs.Table.{Rooms, Image, Table, givenOf, refusedWith, zeros, padded, sized, shaped, orRefused, verdictOf, afterRows, afterJudge, buildOf}
+use Rattle.table.specs.Table.{Rooms, Image, Table, givenOf, refusedWith, zeros, padded, verdictOf, afterRows, afterJudge, buildOf}
 use Rattle.table.specs.Refusals.{painted}
+use Rattle.table.proofs.Checks.{ready}
 use Rattle.table.specs.declared.BuildAnswer.the-variants.{Done}
-use Rattle.draw.proofs.Entries.{and-left, and-right}
 
 -- ---- the segments have room
 
@@ -106,34 +104,9 @@ module _ (r : Rooms) (t : Table) (s e est : ℕ) (done : t .answer ≡ Done s e 
       let o = built (inRow (eights segs)) (length segs) H (r .starts) (r .entries) in
       record { segs = segs; estimate = estimate; judged = refl; drawn = refl; listing = rows-listed estimate segs (o .answer) (o .starts) (o .entries) q }
 
-passed : (b : Bool) (c : Code) (rest : Judged) (n : ℕ) → orRefused b c rest ≡ Judged.Fine n → (b ≡ true) × (rest ≡ Judged.Fine n)
-passed true c rest n q = (refl, q)
-passed false c rest n q = absurd (let z : _≡_ {A = ℕ} 0 1 = cc in omega arith)
-
--- every check before the splines, and the splines themselves
-record Fine (d : Description) (g : Given) (width height rows n : ℕ) : Type 0 where
-  narrow : width ≤ 2 ^ 23
-  low : height ≤ 2 ^ 23
-  fits : height < rows
-  judged : judgeOf d g ≡ Judged.Fine n
-
-fine : (d : Description) (g : Given) (width height rows n : ℕ) → verdictOf d g width height rows ≡ Judged.Fine n → Fine d g width height rows n
-unfolding verdictOf
-fine d g width height rows n q =
-    let size = passed (sized width height) Code.Size _ n q in
-    let shape = passed (shaped d) Code.Shape _ n (size .1) in
-    let room = passed (leb (suc height) rows) Code.Room _ n (shape .1) in
-    record {
-      narrow = leb-true _ _ (and-left (leb width (2 ^ 23)) (leb height (2 ^ 23)) (size .0));
-      low = leb-true _ _ (and-right (leb width (2 ^ 23)) (leb height (2 ^ 23)) (size .0));
-      fits = leb-true _ _ (room .0);
-      judged = room .1;
-    }
-
 -- what an accepted build is
 pub record Accepted (d : Description) (i : Image) (r : Rooms) (t : Table) (s e est : ℕ) : Type 0 where
   pub segs : List Segment
-  pub narrow : i .width ≤ 2 ^ 23
   pub low : i .height ≤ 2 ^ 23
   pub fits-starts : i .height < r .starts
   pub judged : judgeOf d (givenOf i) ≡ Judged.Fine est
@@ -151,13 +124,12 @@ pub accepted : (d : Description) (i : Image) (r : Rooms) (t : Table) (s e est : 
 unfolding buildOf
 accepted d i r t s e est q done =
     let g = ended r t s e est done (i .height) (verdictOf d (givenOf i) (i .width) (i .height) (r .starts)) (painted d i r) q in
-    let f = fine d (givenOf i) (i .width) (i .height) (r .starts) (g .estimate) (g .judged) in
+    let f = ready d (givenOf i) (i .width) (i .height) (r .starts) (g .estimate) (g .judged) in
     record {
       segs = g .segs;
-      narrow = f .narrow;
       low = f .low;
-      fits-starts = f .fits;
-      judged = f .judged ∙ ap Judged.Fine (g .listing .same);
+      fits-starts = f .tall;
+      judged = f .fine ∙ ap Judged.Fine (g .listing .same);
       drawn = g .drawn;
       fits-segments = all-fit d (givenOf i) (i .high) (pathRoom (r .path)) (walkRoom (r .walk)) (segmentRoom (r .segments)) (g .segs) (g .drawn);
       size = g .listing .size;

@@ -2,7 +2,7 @@
 use mathlib.Core.Path.{_≡_, refl, sym, ap, _∙_}
 use mathlib.Core.Bool.{Bool, true}
 use mathlib.Core.Logic.{⊎-elim}
-use mathlib.Core.List.{List, [], _∷_, _++_, append-nil}
+use mathlib.Core.List.{List, [], _∷_, _++_}
 use Prim.Native.Nat.{ℕ, zero, suc, _+_, _-_, _*_, _^_, _≤_, _<_}
 use native.Mathlib.Omega.{arith}
 use native.Mathlib.Numerals.{add-one}
@@ -21,6 +21,7 @@ use Rattle.rows.specs.declared.Listed.the-variants as Listed
 use Rattle.rows.specs.Rows as rows
 use Rattle.rows.specs.Rows.{inRow, listed, upTo, startOf, Outcome}
 use Rattle.rows.proofs.Counts.{listed-in, by-row}
+use Rattle.rows.proofs.Table.{rest-same}
 use Rattle.rows.proofs.Users as users
 use Rattle.table.specs.Table.{Rooms, Image, Table, zeros, padded}
 use Rattle.draw.proofs.Entries.{and-left, and-right}
@@ -38,13 +39,16 @@ entriesIn : Listed → ℕ
 entriesIn (Listed.Entries n) = n
 entriesIn Listed.Room = 0
 
--- what the counts are, also where there is no row
-record Fits (H e : ℕ) (o : Outcome) : Type 0 where
+-- the table, also where there is no row
+record Fits (has : ℕ → ℕ → Bool) (S H ns ne e : ℕ) (o : Outcome) : Type 0 where
+  count : e ≡ startOf has S H
+  starts : o .starts ≡ rows.padded ns (upTo (startOf has S) (suc H))
+  entries : o .entries ≡ rows.padded ne (rows.rows has S H)
   few : e ≤ 2 ^ 30
   room : e ≤ length (o .entries)
   tall : H + 1 ≤ length (o .starts)
 
-fits-listing : (has : ℕ → ℕ → Bool) (S H ns ne e : ℕ) → H < ns → rows.built has S H ns ne .answer ≡ Listed.Entries e → Fits H e (rows.built has S H ns ne)
+fits-listing : (has : ℕ → ℕ → Bool) (S H ns ne e : ℕ) → H < ns → rows.built has S H ns ne .answer ≡ Listed.Entries e → Fits has S H ns ne e (rows.built has S H ns ne)
 unfolding entriesIn
 fits-listing has S H ns ne e w q =
     ⊎-elim
@@ -52,6 +56,9 @@ fits-listing has S H ns ne e w q =
     let t = users.table-when has S H ns ne f in
     let n : startOf has S H ≡ e = ap entriesIn (sym (ap (λ (o : Outcome). o .answer) t) ∙ q) in
     record {
+      count = sym n;
+      starts = ap (λ (o : Outcome). o .starts) t;
+      entries = ap (λ (o : Outcome). o .entries) t;
       few = omega (arith, n, f .1);
       room = omega (arith, n, f .0, ap (λ (o : Outcome). length (o .entries)) t, users.length-padded ne (rows.rows has S H) (f .0));
       tall = omega (arith, ap (λ (o : Outcome). length (o .starts)) t, users.length-padded ns (upTo (startOf has S) (suc H)) (omega (arith, users.length-up-to (startOf has S) (suc H))));
@@ -77,20 +84,11 @@ listed-below has m y (suc n) h =
     (λ e. rw (listed-in has y n e) (below-append m (listed has y n) (n ∷ []) (listed-below has m y n (omega arith)) (rw (lt-ltb n m h))))
     (λ e. rw e (listed-below has m y n (omega arith)))
 
-listed-same : (has other : ℕ → ℕ → Bool) (y n : ℕ) → ((i : ℕ) → i < n → has i y ≡ other i y) → listed has y n ≡ listed other y n
-unfolding listed
-listed-same has other y zero h = refl
-listed-same has other y (suc n) h = rw (h n (omega arith), listed-same has other y n (λ i k. h i (omega arith)))
-
 -- ---- the built table
 
 -- what stands where no segment is
 abbrev none : Segment
 none = segmentAt [] 0
-
--- a segment of a list that was laid flat, with nothing behind it
-alone : (segs : List Segment) (k : ℕ) → k < length segs → segmentAt (eights segs) k ≡ getD segs k none
-alone segs k l = ap (λ (m : List Float). segmentAt m k) (sym (append-nil (eights segs))) ∙ segment-at segs [] none k l
 
 module _ {d : Description} {i : Image} {r : Rooms} {o : Table} {s e estimate : ℕ} (b : Built d i r o s e estimate) where
   pub facts : Accepted d i r o s e estimate
@@ -104,41 +102,51 @@ module _ {d : Description} {i : Image} {r : Rooms} {o : Table} {s e estimate : �
   pub segment-is : (k : ℕ) (m : Segment) → k < length (facts .segs) → segmentAt (o .segments) k ≡ getD (facts .segs) k m
   segment-is k m h = ap (λ (l : List Float). segmentAt l k) (facts .segments) ∙ segment-at (facts .segs) _ m k h
 
-  in-row : (k y : ℕ) → k < length (facts .segs) → inRow (eights (facts .segs)) k y ≡ hasRow (getD (facts .segs) k none) y
-  in-row k y l = ap (λ (m : Segment). hasRow m y) (alone (facts .segs) k l)
+  in-row : (k y : ℕ) → k < length (facts .segs) → inRow (o .segments) k y ≡ hasRow (getD (facts .segs) k none) y
+  in-row k y l = ap (λ (m : Segment). hasRow m y) (segment-is k none l)
+
+  -- what stands behind the segments changes no row
+  same-listing : rows.built (inRow (eights (facts .segs))) (length (facts .segs)) (i .height) (r .starts) (r .entries)
+      ≡ rows.built (inRow (o .segments)) s (i .height) (r .starts) (r .entries)
+  same-listing =
+      sym (rest-same (eights (facts .segs)) _ (length (facts .segs)) (i .height) (r .starts) (r .entries) (omega (arith, length-eights (facts .segs))))
+      ∙ ap (λ (l : List Float). rows.built (inRow l) (length (facts .segs)) (i .height) (r .starts) (r .entries)) (sym (facts .segments))
+      ∙ ap (λ (n : ℕ). rows.built (inRow (o .segments)) n (i .height) (r .starts) (r .entries)) (facts .size)
+
+  listing : Fits (inRow (o .segments)) s (i .height) (r .starts) (r .entries) e (rows.built (inRow (o .segments)) s (i .height) (r .starts) (r .entries))
+  listing = fits-listing (inRow (o .segments)) s (i .height) (r .starts) (r .entries) e (facts .fits-starts) (sym (ap (λ (l : Outcome). l .answer) same-listing) ∙ facts .listed)
+
+  starts-are : o .starts ≡ rows.built (inRow (o .segments)) s (i .height) (r .starts) (r .entries) .starts
+  starts-are = facts .starts ∙ ap (λ (l : Outcome). l .starts) same-listing
+
+  entries-are : o .entries ≡ rows.built (inRow (o .segments)) s (i .height) (r .starts) (r .entries) .entries
+  entries-are = facts .entries ∙ ap (λ (l : Outcome). l .entries) same-listing
 
   pub counts-good : countsGood (built i o s e) ≡ true
   unfolding countsGood
   counts-good =
-      let f = fits-listing (inRow (eights (facts .segs))) (length (facts .segs)) (i .height) (r .starts) (r .entries) e (facts .fits-starts) (facts .listed) in
       let n = ap length (facts .segments) ∙ length-append (eights (facts .segs)) (zeros (r .segments - length (eights (facts .segs)))) in
       rw (
         le-leb s (2 ^ 24) (omega (arith, facts .size, facts .fits-segments)),
         le-leb (8 * s) (length (o .segments)) (omega (arith, facts .size, n, length-eights (facts .segs))),
-        le-leb e (2 ^ 30) (f .few),
-        le-leb e (length (o .entries)) (rw (facts .entries) (f .room)),
+        le-leb e (2 ^ 30) (listing .few),
+        le-leb e (length (o .entries)) (rw entries-are (listing .room)),
         le-leb (i .height) (2 ^ 23) (facts .low),
-        le-leb (i .height + 1) (length (o .starts)) (rw (facts .starts) (f .tall)),
+        le-leb (i .height + 1) (length (o .starts)) (rw starts-are (listing .tall)),
       )
 
   module _ (y : ℕ) (h : y < i .height) where
-    checks : users.Checks (inRow (eights (facts .segs))) (length (facts .segs)) (i .height) e y (o .starts) (o .entries)
+    checks : users.Checks (inRow (o .segments)) s (i .height) e y (o .starts) (o .entries)
     checks =
-        checks-of (inRow (eights (facts .segs))) (length (facts .segs)) (i .height) (r .starts) (r .entries) e (facts .fits-starts) (facts .listed) y h (facts .starts) (facts .entries)
-
-    -- the row's entries, by the segments that were drawn
-    pub row-is : rowOf (built i o s e) y ≡ listed (inRow (eights (facts .segs))) y (length (facts .segs))
-    row-is = rw (add-one y) (checks .row)
+        checks-of (inRow (o .segments)) s (i .height) (r .starts) (r .entries) e (facts .fits-starts)
+        (sym (ap (λ (l : Outcome). l .answer) same-listing) ∙ facts .listed) y h starts-are entries-are
 
     -- the row lists, ascending, the segments of the table that have it
     pub row-listed : rowOf (built i o s e) y ≡ listed (inRow (o .segments)) y s
-    row-listed =
-        row-is
-        ∙ listed-same (inRow (eights (facts .segs))) (inRow (o .segments)) y (length (facts .segs)) (λ k l. ap (λ (m : Segment). hasRow m y) (same k l))
-        ∙ ap (listed (inRow (o .segments)) y) (facts .size)
-      where
-        same : (k : ℕ) → k < length (facts .segs) → segmentAt (eights (facts .segs)) k ≡ segmentAt (o .segments) k
-        same k l = alone (facts .segs) k l ∙ sym (segment-is k none l)
+    row-listed = rw (add-one y) (checks .row)
+
+    row-is : rowOf (built i o s e) y ≡ listed (inRow (o .segments)) y (length (facts .segs))
+    row-is = row-listed ∙ ap (listed (inRow (o .segments)) y) (sym (facts .size))
 
     pub row-good : rowGood (built i o s e) y ≡ true
     unfolding entriesGood
@@ -163,13 +171,13 @@ module _ {d : Description} {i : Image} {r : Rooms} {o : Table} {s e estimate : �
     pub row-pixel : (c x : ℕ) (v : Float) → pixel c (o .segments) y x (rowOf (built i o s e) y) v ≡ pixelOf c (segmentsOf d i r) y x v
     row-pixel c x v =
         ap (λ (l : List ℕ). pixel c (o .segments) y x l v) row-is
-        ∙ pixel-is (o .segments) (facts .segs) none (λ k l. segment-is k none l) (inRow (eights (facts .segs))) in-row c y x v
+        ∙ pixel-is (o .segments) (facts .segs) none (λ k l. segment-is k none l) (inRow (o .segments)) in-row c y x v
         ∙ ap (λ (l : List Segment). pixelOf c l y x v) segments-are
 
     pub row-pairs : (W : ℕ) → updates (o .segments) 0 W (rowOf (built i o s e) y) ≡ rowPairs (segmentsOf d i r) W y
     row-pairs W =
         ap (updates (o .segments) 0 W) row-is
-        ∙ pairs-are (o .segments) (facts .segs) none (λ k l. segment-is k none l) (inRow (eights (facts .segs))) in-row W y
+        ∙ pairs-are (o .segments) (facts .segs) none (λ k l. segment-is k none l) (inRow (o .segments)) in-row W y
         ∙ ap (λ (l : List Segment). rowPairs l W y) segments-are
 
   pub built-table : BuiltTable d i r o s e estimate
@@ -177,7 +185,10 @@ module _ {d : Description} {i : Image} {r : Rooms} {o : Table} {s e estimate : �
     judged = facts .judged;
     count = sym (facts .size) ∙ ap length segments-are;
     segments = facts .segments ∙ ap (λ (l : List Segment). padded (r .segments) (eights l)) segments-are;
-    rows = row-listed;
+    entry-count = listing .count;
+    entries = entries-are ∙ listing .entries;
+    starts = starts-are ∙ listing .starts;
+    row = row-listed;
     no-path = facts .path;
     no-walk = facts .walk;
   }

@@ -12,7 +12,8 @@ use Rattle.segments.specs.declared.Segment.{Segment}
 use Rattle.segments.specs.Ranges.{hasRow, hasColumn}
 use Rattle.shade.specs.Shade.{shaded}
 use Rattle.painting.specs.Painting.{Painted, All, NoRoomAt}
-use Rattle.rows.specs.Rows.{listed, inRow}
+use Rattle.rows.specs.Rows.{listed, rows, startOf, upTo, inRow}
+use Rattle.rows.specs.Rows as listing
 use Rattle.table.specs.Table.{Rooms, Image, givenOf, zeros, padded, buildOf}
 use Rattle.table.specs.Table as build
 use Rattle.table.specs.Refusals.{painted}
@@ -61,12 +62,16 @@ paintedSegments (NoRoomAt k) = []
 unfoldable pub segmentsOf : Description → Image → Rooms → List Segment
 segmentsOf d i r = paintedSegments (painted d i r)
 
--- what the table holds: the segments laid flat, each row's segments once each, ascending, and zeros in the working cells and behind the used part
+-- what the table holds: the segments laid flat, the rows that list them, where each row starts, and zeros behind them and in the working cells; row y lists the segments
+-- that have it, once each, ascending
 pub record BuiltTable (d : Description) (i : Image) (r : Rooms) (o : build.Table) (s e estimate : ℕ) : Type 0 where
   pub judged : judgeOf d (givenOf i) ≡ Judged.Fine estimate
   pub count : s ≡ length (segmentsOf d i r)
   pub segments : o .segments ≡ padded (r .segments) (eights (segmentsOf d i r))
-  pub rows : (y : ℕ) → y < i .height → rowOf (built i o s e) y ≡ listed (inRow (o .segments)) y s
+  pub entry-count : e ≡ startOf (inRow (o .segments)) s (i .height)
+  pub entries : o .entries ≡ listing.padded (r .entries) (rows (inRow (o .segments)) s (i .height))
+  pub starts : o .starts ≡ listing.padded (r .starts) (upTo (startOf (inRow (o .segments)) s) (suc (i .height)))
+  pub row : (y : ℕ) → y < i .height → rowOf (built i o s e) y ≡ listed (inRow (o .segments)) y s
   pub no-path : o .path ≡ zeros (r .path)
   pub no-walk : o .walk ≡ zeros (r .walk)
 
