@@ -1,8 +1,10 @@
 //! Makes the list of values in samples/, checks that it is still what is made and that spline.rs reads and builds it, and has it
-//! drawn by spline.rs. Run from the repository's top: `samples make`, `samples check` or `samples draw PICTURE`.
+//! drawn by spline.rs. Run from the repository's top: `samples make`, `samples check`,
+//! `samples draw PICTURE` or `samples say`.
 
 mod fibres;
 mod picture;
+mod said;
 mod values;
 
 use cases::{Description, Table};
@@ -11,6 +13,8 @@ use oracle::Outcome;
 use std::process::ExitCode;
 
 const FILE: &str = "samples/fibres.values";
+/// What `gauge read` has to say of it.
+const READ: &str = "crates/gauge/stdout";
 /// The usual configured limit.
 const CONFIGURED: u32 = 1 << 20;
 
@@ -58,6 +62,7 @@ fn make() -> Result<String, String> {
         FILE,
         values::text(&list, description.counts.len()).as_bytes(),
     )?;
+    put(READ, said::read(&description, &list).as_bytes())?;
     Ok(told(&description, &list, &table))
 }
 
@@ -65,9 +70,14 @@ fn check() -> Result<String, String> {
     let description = fibres::fibres();
     let list = list(&description)?;
     let table = judged(&description, &list)?;
-    let stored = std::fs::read_to_string(FILE).map_err(|why| format!("{FILE}: {why}"))?;
-    if stored != values::text(&list, description.counts.len()) {
-        return Err(format!("{FILE}: it is not what is made today"));
+    for (file, made) in [
+        (FILE, values::text(&list, description.counts.len())),
+        (READ, said::read(&description, &list)),
+    ] {
+        let stored = std::fs::read_to_string(file).map_err(|why| format!("{file}: {why}"))?;
+        if stored != made {
+            return Err(format!("{file}: it is not what is made today"));
+        }
     }
     Ok(told(&description, &list, &table))
 }
@@ -84,6 +94,13 @@ fn draw(path: &str) -> Result<String, String> {
     Ok(format!("{path}: drawn by spline.rs"))
 }
 
+/// What the examples have to print.
+fn say() -> Result<String, String> {
+    let description = fibres::fibres();
+    let table = judged(&description, &list(&description)?)?;
+    Ok(said::examples(&description, &table)?.trim_end().to_string())
+}
+
 fn main() -> ExitCode {
     quiet::end_with_the_reader();
     let words: Vec<String> = std::env::args().skip(1).collect();
@@ -93,8 +110,9 @@ fn main() -> ExitCode {
         ["make"] => make(),
         ["check"] => check(),
         ["draw", path] => draw(path),
+        ["say"] => say(),
         _ => {
-            println!("usage, from the repository's top: samples make | check | draw PICTURE");
+            println!("usage, from the repository's top: samples make | check | draw PICTURE | say");
             return ExitCode::from(2);
         }
     };

@@ -4,7 +4,7 @@ use cases::Table;
 use oracle::Outcome;
 
 /// Every row's channels X, Y and B, top row first.
-fn rows(table: &Table, width: u32, height: u32) -> Result<Vec<[Vec<f32>; 3]>, String> {
+pub fn rows(table: &Table, width: u32, height: u32) -> Result<Vec<[Vec<f32>; 3]>, String> {
     let loaded = oracle::load(table);
     let mut rows = Vec::new();
     for y in 0..height {
