@@ -1,6 +1,7 @@
 # What `./test` and `./show` need of Rust: the source of spline.rs, a compiler, and the programs of host/. Sourced from the repository's top.
 #   rust_ready        finds both, installing a compiler where there is none; says in $rust_missing what cannot be had
 #   rust_build ..     compiles host/, or with words for cargo a part of it
+#   rust_test ..      runs tests of host/
 #   rust_run NAME ..  runs a program of host/
 # Everything is compiled for x86-64, since the static libraries are; on another processor it runs under an emulator.
 
@@ -14,6 +15,7 @@ export SPLINE_SRC
 if [ "$(uname -m)" != x86_64 ]; then
     rust_linker=x86_64-linux-gnu-gcc
     rust_runner='qemu-x86_64 -L /usr/x86_64-linux-gnu'
+    export CARGO_TARGET_X86_64_UNKNOWN_LINUX_GNU_RUNNER="$rust_runner"
 fi
 
 # Whether this cargo and rustc make programs that run here, know the Rust that host/ is written in, and have the float sum of the
@@ -66,10 +68,15 @@ rust_ready() {
     return 1
 }
 
-rust_build() { # WORDS..
+rust_cargo() { # COMMAND WORDS..
+    command=$1
+    shift
     RUSTC=$RUSTC CARGO_TARGET_DIR=$PWD/host/target CARGO_TARGET_X86_64_UNKNOWN_LINUX_GNU_LINKER=${rust_linker:-cc} \
-        "$CARGO" build --quiet --release --offline --target "$rust_target" --manifest-path host/Cargo.toml "$@"
+        "$CARGO" "$command" --quiet --release --offline --target "$rust_target" --manifest-path host/Cargo.toml "$@"
 }
+
+rust_build() { rust_cargo build "$@"; }
+rust_test() { rust_cargo test "$@"; }
 
 # shellcheck disable=SC2086
 rust_run() { # PROGRAM WORDS..

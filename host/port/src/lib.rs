@@ -46,7 +46,7 @@ pub fn read(
     (code, answer)
 }
 
-/// The four parts of a description and its adjustment, as writing takes them.
+/// The four parts of a description and its adjustment, as writing and building take them.
 #[derive(Clone, Copy, Debug)]
 pub struct Parts<'a> {
     pub counts: &'a [u32],
@@ -75,6 +75,64 @@ pub fn write(parts: &Parts, configured: u32, pixels: u32, list: &mut [u32]) -> (
             pixels,
             list.as_mut_ptr(),
             list.len(),
+            &mut answer,
+        )
+    };
+    (code, answer)
+}
+
+/// What a build takes beside the description; false is Level5.
+#[derive(Clone, Copy, Debug)]
+pub struct Image {
+    pub width: u32,
+    pub height: u32,
+    pub y_to_x: f32,
+    pub y_to_b: f32,
+    pub high_precision: bool,
+    pub level10: bool,
+}
+
+/// The buffers that a build is lent.
+#[derive(Debug)]
+pub struct Buffers<'a> {
+    pub path: &'a mut [f32],
+    pub walk: &'a mut [f32],
+    pub segments: &'a mut [f32],
+    pub row_starts: &'a mut [u32],
+    pub entries: &'a mut [u32],
+}
+
+/// Builds the table of a description in the lent buffers: the code's number and the answer.
+pub fn build(parts: &Parts, image: &Image, lent: Buffers) -> (u32, Answer) {
+    let mut answer = UNFILLED;
+    // SAFETY: each pointer comes with its slice's length, and the lent slices overlap no other.
+    let code = unsafe {
+        symbols::aktyrbuz_build(
+            parts.counts.as_ptr(),
+            parts.counts.len(),
+            parts.starts.as_ptr(),
+            parts.starts.len(),
+            parts.deltas.as_ptr(),
+            parts.deltas.len(),
+            parts.coefficients.as_ptr(),
+            parts.coefficients.len(),
+            parts.adjustment,
+            image.width,
+            image.height,
+            image.y_to_x,
+            image.y_to_b,
+            image.high_precision,
+            image.level10,
+            lent.path.as_mut_ptr(),
+            lent.path.len(),
+            lent.walk.as_mut_ptr(),
+            lent.walk.len(),
+            lent.segments.as_mut_ptr(),
+            lent.segments.len(),
+            lent.row_starts.as_mut_ptr(),
+            lent.row_starts.len(),
+            lent.entries.as_mut_ptr(),
+            lent.entries.len(),
             &mut answer,
         )
     };

@@ -36,6 +36,35 @@ extern "C" {
         answer: *mut [i64; 5],
     ) -> u32;
 
+    pub fn aktyrbuz_build(
+        counts: *const u32,
+        counts_len: usize,
+        starts: *const f32,
+        starts_len: usize,
+        deltas: *const i32,
+        deltas_len: usize,
+        coefficients: *const i32,
+        coefficients_len: usize,
+        adjustment: i32,
+        width: u32,
+        height: u32,
+        y_to_x: f32,
+        y_to_b: f32,
+        high_precision: bool,
+        level10: bool,
+        path: *mut f32,
+        path_len: usize,
+        walk: *mut f32,
+        walk_len: usize,
+        segments: *mut f32,
+        segments_len: usize,
+        row_starts: *mut u32,
+        row_starts_len: usize,
+        entries: *mut u32,
+        entries_len: usize,
+        answer: *mut [i64; 5],
+    ) -> u32;
+
     pub fn aktyrbuz_draw(
         segments: *const f32,
         segments_len: usize,

@@ -1,0 +1,34 @@
+//! JPEG XL splines, from a list of decoded values to pixel rows: the proved library behind owned types.
+//!
+//! A [`Description`] is read from a list or written as one; a [`Table`] is built from it for an image; rows of the image are then drawn,
+//! whole or in parts, in any order. No input makes a call panic: what cannot be done is a [`Refusal`] with its code and place.
+//!
+//! ```
+//! use aktyrbuz::{Description, Image, Limit, Table};
+//!
+//! // One spline: its start, one point 30 pixels to the right, a steady brightness in Y and a steady width.
+//! let mut list = vec![0, 10, 8, 0, 1, 60, 0];
+//! list.extend([0; 128]);
+//! list[7 + 32] = 40;
+//! list[7 + 96] = 12;
+//!
+//! let description = Description::read(&list, Limit::of_pixels(64 * 16))?;
+//! let table = Table::build(&description, &Image::new(64, 16))?;
+//! let (mut x, mut y, mut b) = ([0.0; 64], [0.0; 64], [0.0; 64]);
+//! let updates = table.draw_row(8, 0, [&mut x, &mut y, &mut b])?;
+//! assert!(updates > 0 && y[20] > 0.0);
+//! # Ok::<(), aktyrbuz::Refusal>(())
+//! ```
+
+mod code;
+mod description;
+mod table;
+
+pub use code::{Code, Refusal};
+pub use description::{Description, Limit};
+pub use table::{Counts, Image, Rooms, Table};
+
+/// The natural logarithm that building uses, the same on every machine.
+pub fn ln(x: f32) -> f32 {
+    port::ln(x)
+}

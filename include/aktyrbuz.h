@@ -1,0 +1,99 @@
+/* Aktyrbuz: JPEG XL splines, from a list of decoded values to pixel rows.
+ *
+ * Every call takes any numbers and any lengths, ends, and never writes outside what it is lent. A call but aktyrbuz_ln returns a code,
+ * AKTYRBUZ_DONE or a refusal, and fills five numbers: the place, then the counts that are named with the call, then zeros. A success has
+ * place 0, a refusal counts 0. Where several codes apply, the first in the order of the checks is given.
+ *
+ * A buffer is a pointer and a length in cells; a length of 0 may come with any pointer but NULL. Buffers of one call do not overlap.
+ * Nothing is kept between calls and nothing is allocated, so calls on different buffers may run at the same time.
+ *
+ * Nothing proves that these declarations are those of the library: keep the header and libaktyrbuz.a of one version together.
+ */
+#ifndef AKTYRBUZ_H
+#define AKTYRBUZ_H
+
+#ifndef __cplusplus
+#include <stdbool.h>
+#endif
+#include <stddef.h>
+#include <stdint.h>
+
+#ifdef __cplusplus
+extern "C" {
+#endif
+
+enum aktyrbuz_code {
+    AKTYRBUZ_DONE = 0,
+    AKTYRBUZ_SHORT = 1,     /* the list ends before the next value */
+    AKTYRBUZ_SPLINES = 2,   /* more splines than the limit; writing also: none */
+    AKTYRBUZ_COORD = 3,     /* a start with a coordinate of magnitude 2^23 or more; writing also: not whole, minus zero, NaN, or a negative first start */
+    AKTYRBUZ_POINTS = 4,    /* more points than the limit */
+    AKTYRBUZ_DELTA = 5,     /* a double delta of magnitude 2^30 or more */
+    AKTYRBUZ_TRAIL = 6,     /* values left over */
+    AKTYRBUZ_ROOM = 7,      /* a lent buffer is too short for what is due */
+    AKTYRBUZ_SIZE = 8,      /* a width or height above 2^23 */
+    AKTYRBUZ_SHAPE = 9,     /* lengths that disagree: S counts go with 2S starts, two double deltas a point and 128S coefficients */
+    AKTYRBUZ_POSITION = 10, /* a start, delta or point outside -2^23 up to but not including 2^23, or a NaN start */
+    AKTYRBUZ_DISTANCE = 11, /* a spline whose steps add up to more than the area limit */
+    AKTYRBUZ_AREA = 12,     /* splines whose estimates add up to more than the area limit */
+    AKTYRBUZ_COINCIDE = 13, /* two adjacent control points are equal */
+    AKTYRBUZ_TABLE = 14,    /* a table that no build makes: counts that overrun its buffers, row starts that descend, an entry that names no segment */
+    AKTYRBUZ_ROW = 15,      /* a row that is not below the height */
+    AKTYRBUZ_SPAN = 16      /* x0 + n above 2^23, or a channel shorter than n */
+};
+
+/* The natural logarithm that building uses: a fixed sequence of operations, the same on every machine. */
+float aktyrbuz_ln(float x);
+
+/* Reads a list of decoded values into a description.
+ *
+ * At most min(configured, pixels / 2) splines and as many points are taken; configured is usually 2^20.
+ * Rooms for S splines of P points in all: S counts (points of each spline), 2S starts (x, y), 2P deltas (x, y of each double delta)
+ * and 128S coefficients (32 each for X, Y, B and sigma). Cells past these, and all cells after a refusal, are 0.
+ * Place: an index of the list. Counts: splines, points, adjustment. */
+uint32_t aktyrbuz_read(const uint32_t *list, size_t list_len, uint32_t configured, uint32_t pixels,
+                       uint32_t *counts, size_t counts_len, float *starts, size_t starts_len,
+                       int32_t *deltas, size_t deltas_len, int32_t *coefficients, size_t coefficients_len, int64_t answer[5]);
+
+/* Writes a description as the list that is read back as it, under the same two limits. Here the lengths are exact (SHAPE).
+ * Cells of the list past the last value, and all after a refusal, are 0.
+ * Place: an index of the list. Counts: values written. */
+uint32_t aktyrbuz_write(const uint32_t *counts, size_t counts_len, const float *starts, size_t starts_len,
+                        const int32_t *deltas, size_t deltas_len, const int32_t *coefficients, size_t coefficients_len,
+                        int32_t adjustment, uint32_t configured, uint32_t pixels, uint32_t *list, size_t list_len, int64_t answer[5]);
+
+/* Builds the table of an image of width by height pixels: segments, and for each row those that touch it. The lengths of the description are exact.
+ *
+ * y_to_x and y_to_b are what X and B gain of Y (usually 0 and 1). level10 gives the greater area limit, high_precision longer reaches.
+ * Rooms: path 2 floats a point, walk 3 floats a point, both for the longest spline and 0 on return; segments 8 floats each (centre x and y, distance,
+ * 1/sigma, 0.25 sigma times multiplier, three colours); height + 1 row_starts; entries. Row y lists entries[row_starts[y]] up to but not including
+ * entries[row_starts[y + 1]], ascending. Cells past the used part, and all cells after a refusal, are 0.
+ * Place: the number of a spline. Counts: segments, entries, estimate. */
+uint32_t aktyrbuz_build(const uint32_t *counts, size_t counts_len, const float *starts, size_t starts_len,
+                        const int32_t *deltas, size_t deltas_len, const int32_t *coefficients, size_t coefficients_len,
+                        int32_t adjustment, uint32_t width, uint32_t height, float y_to_x, float y_to_b,
+                        bool high_precision, bool level10,
+                        float *path, size_t path_len, float *walk, size_t walk_len, float *segments, size_t segments_len,
+                        uint32_t *row_starts, size_t row_starts_len, uint32_t *entries, size_t entries_len, int64_t answer[5]);
+
+/* Adds the segments of row y to the pixels x0 up to but not including x0 + n. Each channel begins at pixel x0; what they hold before stays and is added to.
+ * Parts of a row may be drawn in any order. A refused drawing changes nothing.
+ * Place: 0. Counts: updates, one for each segment at each pixel. */
+uint32_t aktyrbuz_draw(const float *segments, size_t segments_len, uint32_t segment_count,
+                       const uint32_t *entries, size_t entries_len, uint32_t entry_count,
+                       const uint32_t *row_starts, size_t row_starts_len, uint32_t height,
+                       uint32_t y, uint32_t x0, uint32_t n,
+                       float *r0, size_t r0_len, float *r1, size_t r1_len, float *r2, size_t r2_len, int64_t answer[5]);
+
+/* The columns of row y that its segments reach, in an image of this width.
+ * Place: 0. Counts: the first column and one past the last; 0 and 0 if there are none. */
+uint32_t aktyrbuz_reach(const float *segments, size_t segments_len, uint32_t segment_count,
+                        const uint32_t *entries, size_t entries_len, uint32_t entry_count,
+                        const uint32_t *row_starts, size_t row_starts_len, uint32_t height,
+                        uint32_t y, uint32_t width, int64_t answer[5]);
+
+#ifdef __cplusplus
+}
+#endif
+
+#endif
