@@ -1,4 +1,5 @@
--- The demands, as named statements on outcomes that the proved contracts of the calls allow (specs/Calls.antt). proofs/Demands.antt proves each. Definitions only.
+-- The demands, as named statements on outcomes that the proved contracts of the calls allow (specs/Calls.antt). proofs/Demands.antt proves each, proofs/Readings.antt the table
+-- of readings. Definitions only.
 use mathlib.Core.Path.{_≡_}
 use mathlib.Core.Bool.{true, false, _&&_}
 use mathlib.Core.List.{List, _++_}
