@@ -2,7 +2,9 @@
 
 pub mod draw;
 pub mod great;
+pub mod guarded;
 pub mod lent;
+pub mod pages;
 pub mod read;
 pub mod tally;
 pub mod write;

@@ -8,6 +8,13 @@ pub type Answer = [i64; 5];
 /// What stands in an answer before a call, so that a number that is not filled shows.
 const UNFILLED: Answer = [i64::MIN; 5];
 
+/// What a call tells in an answer of our own: the code's number and the answer.
+fn answered(call: impl FnOnce(&mut Answer) -> u32) -> (u32, Answer) {
+    let mut answer = UNFILLED;
+    let code = call(&mut answer);
+    (code, answer)
+}
+
 /// The natural logarithm.
 pub fn ln(x: f32) -> f32 {
     // SAFETY: plain numbers.
@@ -24,9 +31,33 @@ pub fn read(
     deltas: &mut [i32],
     coefficients: &mut [i32],
 ) -> (u32, Answer) {
-    let mut answer = UNFILLED;
+    answered(|answer| {
+        read_into(
+            list,
+            configured,
+            pixels,
+            counts,
+            starts,
+            deltas,
+            coefficients,
+            answer,
+        )
+    })
+}
+
+/// The same, with an answer that is lent too.
+pub fn read_into(
+    list: &[u32],
+    configured: u32,
+    pixels: u32,
+    counts: &mut [u32],
+    starts: &mut [f32],
+    deltas: &mut [i32],
+    coefficients: &mut [i32],
+    answer: &mut Answer,
+) -> u32 {
     // SAFETY: each pointer comes with its slice's length, and no two slices overlap.
-    let code = unsafe {
+    unsafe {
         symbols::aktyrbuz_read(
             list.as_ptr(),
             list.len(),
@@ -40,10 +71,9 @@ pub fn read(
             deltas.len(),
             coefficients.as_mut_ptr(),
             coefficients.len(),
-            &mut answer,
+            answer,
         )
-    };
-    (code, answer)
+    }
 }
 
 /// The four parts of a description and its adjustment, as writing and building take them.
@@ -58,9 +88,19 @@ pub struct Parts<'a> {
 
 /// Writes a description into the lent list: the code's number and the answer.
 pub fn write(parts: &Parts, configured: u32, pixels: u32, list: &mut [u32]) -> (u32, Answer) {
-    let mut answer = UNFILLED;
+    answered(|answer| write_into(parts, configured, pixels, list, answer))
+}
+
+/// The same, with an answer that is lent too.
+pub fn write_into(
+    parts: &Parts,
+    configured: u32,
+    pixels: u32,
+    list: &mut [u32],
+    answer: &mut Answer,
+) -> u32 {
     // SAFETY: each pointer comes with its slice's length, and the list overlaps no other slice.
-    let code = unsafe {
+    unsafe {
         symbols::aktyrbuz_write(
             parts.counts.as_ptr(),
             parts.counts.len(),
@@ -75,10 +115,9 @@ pub fn write(parts: &Parts, configured: u32, pixels: u32, list: &mut [u32]) -> (
             pixels,
             list.as_mut_ptr(),
             list.len(),
-            &mut answer,
+            answer,
         )
-    };
-    (code, answer)
+    }
 }
 
 /// What a build takes beside the description; false is Level5.
@@ -104,9 +143,13 @@ pub struct Buffers<'a> {
 
 /// Builds the table of a description in the lent buffers: the code's number and the answer.
 pub fn build(parts: &Parts, image: &Image, lent: Buffers) -> (u32, Answer) {
-    let mut answer = UNFILLED;
+    answered(|answer| build_into(parts, image, lent, answer))
+}
+
+/// The same, with an answer that is lent too.
+pub fn build_into(parts: &Parts, image: &Image, lent: Buffers, answer: &mut Answer) -> u32 {
     // SAFETY: each pointer comes with its slice's length, and the lent slices overlap no other.
-    let code = unsafe {
+    unsafe {
         symbols::aktyrbuz_build(
             parts.counts.as_ptr(),
             parts.counts.len(),
@@ -133,10 +176,9 @@ pub fn build(parts: &Parts, image: &Image, lent: Buffers) -> (u32, Answer) {
             lent.row_starts.len(),
             lent.entries.as_mut_ptr(),
             lent.entries.len(),
-            &mut answer,
+            answer,
         )
-    };
-    (code, answer)
+    }
 }
 
 /// A table as drawing and reach take it.
@@ -152,10 +194,21 @@ pub struct Table<'a> {
 
 /// Draws n pixels of row y from x0 on into channels that begin there: the code's number and the answer.
 pub fn draw(table: &Table, y: u32, x0: u32, n: u32, channels: [&mut [f32]; 3]) -> (u32, Answer) {
-    let mut answer = UNFILLED;
+    answered(|answer| draw_into(table, y, x0, n, channels, answer))
+}
+
+/// The same, with an answer that is lent too.
+pub fn draw_into(
+    table: &Table,
+    y: u32,
+    x0: u32,
+    n: u32,
+    channels: [&mut [f32]; 3],
+    answer: &mut Answer,
+) -> u32 {
     let [r0, r1, r2] = channels;
     // SAFETY: each pointer comes with its slice's length, and the channels overlap no other slice.
-    let code = unsafe {
+    unsafe {
         symbols::aktyrbuz_draw(
             table.segments.as_ptr(),
             table.segments.len(),
@@ -175,17 +228,20 @@ pub fn draw(table: &Table, y: u32, x0: u32, n: u32, channels: [&mut [f32]; 3]) -
             r1.len(),
             r2.as_mut_ptr(),
             r2.len(),
-            &mut answer,
+            answer,
         )
-    };
-    (code, answer)
+    }
 }
 
 /// The reach of row y in an image of this width: the code's number and the answer.
 pub fn reach(table: &Table, y: u32, width: u32) -> (u32, Answer) {
-    let mut answer = UNFILLED;
+    answered(|answer| reach_into(table, y, width, answer))
+}
+
+/// The same, with an answer that is lent too.
+pub fn reach_into(table: &Table, y: u32, width: u32, answer: &mut Answer) -> u32 {
     // SAFETY: each pointer comes with its slice's length.
-    let code = unsafe {
+    unsafe {
         symbols::aktyrbuz_reach(
             table.segments.as_ptr(),
             table.segments.len(),
@@ -198,8 +254,7 @@ pub fn reach(table: &Table, y: u32, width: u32) -> (u32, Answer) {
             table.height,
             y,
             width,
-            &mut answer,
+            answer,
         )
-    };
-    (code, answer)
+    }
 }

@@ -2,7 +2,7 @@
 //! Every accepted part is drawn by spline.rs too: its cells, and its updates as the pixels that it touches segment by segment.
 
 use super::tally::Tally;
-use super::told_refusal;
+use super::{guarded, told_refusal};
 use crate::draw::{touched_in_all, unflattened};
 use crate::verdict::same_floats;
 use cases::descriptions::build_case;
@@ -182,7 +182,7 @@ fn drawn_part(
 ) -> (u32, Answer, Channels) {
     let mut after = before.clone();
     let [r0, r1, r2] = &mut after;
-    let (code, answer) = port::draw(&lent(table), y, x0, n, [r0, r1, r2]);
+    let (code, answer) = guarded::draw(&lent(table), y, x0, n, [r0, r1, r2]);
     (code, answer, after)
 }
 
@@ -232,7 +232,7 @@ pub fn compare_reach(tally: &mut Tally) {
                 Ok((first, past)) => (0, [0, i64::from(*first), i64::from(*past), 0, 0]),
                 Err(refusal) => told_refusal(refusal),
             };
-            let found = port::reach(&lent(&table), y, width);
+            let found = guarded::reach(&lent(&table), y, width);
             if found != told {
                 tally.differs(format!("reach, {kind}, seed {seed}, row {y}, width {width}: {table:?}\n  port: {found:?}\n  model: {told:?}"));
             }

@@ -2,7 +2,7 @@
 
 use super::lent::Lent;
 use super::tally::Tally;
-use super::{great, told_read, told_write};
+use super::{great, guarded, told_read, told_write};
 use crate::verdict::{code_of, same_floats};
 use cases::lists::{list_case, ListCase, KINDS};
 use cases::random::Random;
@@ -55,7 +55,7 @@ fn compare_case(tally: &mut Tally, kind: &str, seed: u64, case: &ListCase) {
             wrong.extend(read.not_written_back(case));
         }
         if !wrong.is_empty() {
-            let told = (read.code, read.answer);
+            let told = read.told();
             tally.differs(format!(
                 "read, kind {kind}, seed {seed}, {rooms:?}: {case:?}\n  port:      {told:?}, or cells differ\n  {}",
                 wrong.join("\n  ")
@@ -123,7 +123,7 @@ fn exact_rooms(case: &ListCase) -> ListRooms {
 }
 
 /// What spline.rs makes of the list in document 01's words; `None` if it lacks memory or panics.
-fn original(case: &ListCase) -> Option<Result<Description, Refusal>> {
+pub fn original(case: &ListCase) -> Option<Result<Description, Refusal>> {
     let read = oracle::read(&case.list, case.configured, case.pixels);
     let length = case.list.len();
     let refuse = |code, place| {
@@ -164,7 +164,7 @@ impl PortRead {
         let mut starts = Lent::new(rooms.starts as usize);
         let mut deltas = Lent::new(rooms.deltas as usize);
         let mut coefficients = Lent::new(rooms.coefficients as usize);
-        let (code, answer) = port::read(
+        let (code, answer) = guarded::read(
             &case.list,
             case.configured,
             case.pixels,
@@ -183,11 +183,15 @@ impl PortRead {
         }
     }
 
+    pub fn told(&self) -> (u32, Answer) {
+        (self.code, self.answer)
+    }
+
     /// Whether code, place, counts and every cell are as expected.
     pub fn is(&self, expected: &Result<Description, Refusal>) -> bool {
         let nothing = Description::default();
         let description = expected.as_ref().unwrap_or(&nothing);
-        (self.code, self.answer) == told_read(expected)
+        self.told() == told_read(expected)
             && self.counts.holds(&description.counts)
             && self.starts.holds(&description.starts)
             && self.deltas.holds(&description.deltas)
@@ -208,12 +212,12 @@ impl PortRead {
     }
 
     /// In words, if the port does not write what it read as the same list.
-    fn not_written_back(&self, case: &ListCase) -> Option<String> {
+    pub fn not_written_back(&self, case: &ListCase) -> Option<String> {
         let Some(parts) = self.parts() else {
             return Some(String::from("the counts pass the buffers"));
         };
         let mut list = Lent::new(case.list.len());
-        let told = port::write(&parts, case.configured, case.pixels, list.lend());
+        let told = guarded::write(&parts, case.configured, case.pixels, list.lend());
         let same = told == told_write(&Ok(case.list.clone())) && list.holds(&case.list);
         (!same).then(|| format!("written back: {told:?}, or another list"))
     }
@@ -229,7 +233,7 @@ pub fn not_read_back(case: &ListCase, description: &Description) -> Option<Strin
     };
     let read = PortRead::of(case, &rooms);
     if !read.is(&Ok(description.clone())) {
-        let told = (read.code, read.answer);
+        let told = read.told();
         return Some(format!("read back: {told:?}, or cells differ"));
     }
     let same = matches!(original(case), Some(Ok(other)) if other == *description && same_floats(&other.starts, &description.starts));

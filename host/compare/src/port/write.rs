@@ -3,7 +3,7 @@
 use super::lent::Lent;
 use super::read::not_read_back;
 use super::tally::Tally;
-use super::{great, told_write};
+use super::{great, guarded, told_write};
 use cases::lists::{write_case, ListCase, WriteCase, WRITE_KINDS};
 use cases::random::Random;
 use cases::{each, Description, Refusal};
@@ -52,7 +52,7 @@ fn compare_case(tally: &mut Tally, kind: &str, seed: u64, case: &WriteCase) {
             wrong.extend(not_read_back(&list_case, &case.description));
         }
         if !wrong.is_empty() {
-            let told = (written.code, written.answer);
+            let told = written.told();
             tally.differs(format!(
                 "write, kind {kind}, seed {seed}, room {room}: {case:?}\n  port:  {told:?}, or cells differ\n  {}",
                 wrong.join("\n  ")
@@ -103,14 +103,14 @@ fn hostile_case(kind: &str, seed: u64) -> WriteCase {
 }
 
 /// What the port answered, and the list afterwards.
-struct PortWritten {
+pub struct PortWritten {
     code: u32,
     answer: Answer,
     list: Lent<u32>,
 }
 
 impl PortWritten {
-    fn of(case: &WriteCase, room: u64) -> PortWritten {
+    pub fn of(case: &WriteCase, room: u64) -> PortWritten {
         let description = &case.description;
         let parts = Parts {
             counts: &description.counts,
@@ -120,13 +120,16 @@ impl PortWritten {
             adjustment: description.adjustment,
         };
         let mut list = Lent::new(room as usize);
-        let (code, answer) = port::write(&parts, case.configured, case.pixels, list.lend());
+        let (code, answer) = guarded::write(&parts, case.configured, case.pixels, list.lend());
         PortWritten { code, answer, list }
     }
 
+    pub fn told(&self) -> (u32, Answer) {
+        (self.code, self.answer)
+    }
+
     /// Whether code, place, count and every cell are as expected.
-    fn is(&self, expected: &Result<Vec<u32>, Refusal>) -> bool {
-        (self.code, self.answer) == told_write(expected)
-            && self.list.holds(expected.as_deref().unwrap_or(&[]))
+    pub fn is(&self, expected: &Result<Vec<u32>, Refusal>) -> bool {
+        self.told() == told_write(expected) && self.list.holds(expected.as_deref().unwrap_or(&[]))
     }
 }
