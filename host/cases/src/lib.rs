@@ -8,6 +8,9 @@ pub mod random;
 pub mod segments;
 pub mod tables;
 
+use std::ops::Range;
+use std::sync::atomic::{AtomicU64, Ordering};
+
 /// A description as the calls take it: flat, lengths as document 01's SHAPE asks.
 #[derive(Clone, Debug, Default, PartialEq)]
 pub struct Description {
@@ -94,11 +97,35 @@ pub struct Refusal {
     pub place: u64,
 }
 
-/// Every kind with the seeds from 0 up to but not including n.
+/// The first seed of a run, and how many times as many cases it has as the standing one.
+static FIRST_SEED: AtomicU64 = AtomicU64::new(0);
+static TIMES: AtomicU64 = AtomicU64::new(1);
+
+/// Makes this a run of other seeds, and of so many times as many.
+pub fn set_seeds(first: u64, times: u64) {
+    FIRST_SEED.store(first, Ordering::Relaxed);
+    TIMES.store(times, Ordering::Relaxed);
+}
+
+/// The seeds of a kind: from 0 up to but not including n in the standing run.
+pub fn seeds(n: u64) -> Range<u64> {
+    let first = FIRST_SEED.load(Ordering::Relaxed);
+    first..first + n * TIMES.load(Ordering::Relaxed)
+}
+
+/// Every kind with n seeds in every run: for cases that are slow.
+pub fn few(kinds: &'static [&'static str], n: u64) -> impl Iterator<Item = (&'static str, u64)> {
+    let first = seeds(n).start;
+    kinds
+        .iter()
+        .flat_map(move |&kind| (first..first + n).map(move |seed| (kind, seed)))
+}
+
+/// Every kind with its seeds.
 pub fn each(kinds: &'static [&'static str], n: u64) -> impl Iterator<Item = (&'static str, u64)> {
     kinds
         .iter()
-        .flat_map(move |&kind| (0..n).map(move |seed| (kind, seed)))
+        .flat_map(move |&kind| seeds(n).map(move |seed| (kind, seed)))
 }
 
 /// The bits of an f32, every NaN as the one NaN.

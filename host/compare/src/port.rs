@@ -4,6 +4,7 @@ pub mod draw;
 pub mod great;
 pub mod guarded;
 pub mod lent;
+pub mod ln;
 pub mod pages;
 pub mod read;
 pub mod tally;

@@ -1,37 +1,61 @@
-//! The port through its C interface on fixed cases: reading and writing with both round trips, drawing whole and in parts, and reach; every cell of every lent buffer, and each against an inaccessible page.
+//! The port through its C interface on fixed cases: reading and writing with both round trips, drawing whole and in parts, reach,
+//! and the logarithm; every cell of every lent buffer, and each buffer against an inaccessible page.
 //!
+//! `compare-port` runs the standing cases, `compare-port --long` more than a million of other seeds, with lines of progress.
 //! Prints a table; ends with 1, and the smallest input, where an answer differs.
 
 use compare::port::tally::Tally;
-use compare::port::{draw, pages, read, write};
+use compare::port::{draw, ln, pages, read, write};
 use std::process::ExitCode;
 
 /// A call's name, and what runs its cases.
 type Call = (&'static str, fn(&mut Tally));
 
-const CALLS: [Call; 4] = [
+const CALLS: [Call; 5] = [
     ("read", read::compare),
     ("write", write::compare),
     ("draw", draw::compare),
     ("reach", draw::compare_reach),
+    ("ln", ln::compare),
 ];
+
+/// The seeds of a long run begin past all others, and there are so many times as many.
+const LONG_FIRST_SEED: u64 = 1 << 32;
+const LONG_TIMES: u64 = 5;
 
 fn main() -> ExitCode {
     quiet::end_with_the_reader();
+    let words: Vec<String> = std::env::args().skip(1).collect();
+    let long = words == ["--long"];
+    if !long && !words.is_empty() {
+        eprintln!("compare-port: usage: compare-port [--long]");
+        return ExitCode::from(2);
+    }
+    if long {
+        cases::set_seeds(LONG_FIRST_SEED, LONG_TIMES);
+    }
     pages::check_guards();
     oracle::set_ln(port::ln);
     model::set_ln(port::ln);
+    compare(long)
+}
+
+/// Runs every call, printing lines for each and for all.
+fn compare(long: bool) -> ExitCode {
     println!("the port against spline.rs where that decides, and against the second reading of document 01");
     println!("{}", Tally::HEAD);
     let mut code = ExitCode::SUCCESS;
+    let mut all = Tally::new("all", false);
     for (name, run) in CALLS {
-        let mut tally = Tally::new(name);
+        let mut tally = Tally::new(name, long);
         run(&mut tally);
         println!("{tally}");
+        all.join(&tally);
         if let Some(difference) = tally.smallest() {
             println!("\nThe smallest input with another answer:\n{difference}");
             code = ExitCode::FAILURE;
         }
     }
+    println!("{all}");
     code
 }

@@ -8,7 +8,7 @@ use crate::verdict::same_floats;
 use cases::descriptions::build_case;
 use cases::random::Random;
 use cases::tables::{request, table, REQUEST_KINDS, TABLE_KINDS};
-use cases::{each, FlatTable, Refusal};
+use cases::{each, seeds, FlatTable, Refusal};
 use oracle::{Loaded, Outcome};
 use port::Answer;
 
@@ -43,7 +43,7 @@ pub fn compare(tally: &mut Tally) {
             });
         }
     }
-    for seed in 0..BUILT_TABLES {
+    for seed in seeds(BUILT_TABLES) {
         let kind = BUILT_KINDS[seed as usize % BUILT_KINDS.len()];
         let case = build_case(kind, seed);
         if let Ok(built) = model::build(&case.description, &case.given, &model::AMPLE) {

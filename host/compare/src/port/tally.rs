@@ -20,15 +20,21 @@ pub struct Tally {
     pub round_trips: u64,
     differences: u64,
     smallest: Option<String>,
+    progress: bool,
 }
+
+/// Calls from one line of progress to the next.
+const CALLS_A_LINE: u64 = 500_000;
 
 impl Tally {
     pub const HEAD: &'static str =
         "call    cases    calls  by spline.rs  by its progress  accepted  round trips  differences";
 
-    pub fn new(call: &'static str) -> Tally {
+    /// With progress, how far a long run has come is said now and then.
+    pub fn new(call: &'static str, progress: bool) -> Tally {
         Tally {
             call,
+            progress,
             ..Tally::default()
         }
     }
@@ -36,6 +42,16 @@ impl Tally {
     /// Counts a call by its expected answer.
     pub fn called<T>(&mut self, expected: &Result<T, Refusal>) {
         self.calls += 1;
+        if self.progress && self.calls % CALLS_A_LINE == 0 {
+            let Tally {
+                call,
+                cases,
+                calls,
+                differences,
+                ..
+            } = self;
+            eprintln!("{call}: {cases} cases, {calls} calls, {differences} differences");
+        }
         match expected {
             Ok(_) => self.accepted += 1,
             Err(refusal) => *self.refused.entry(name(refusal.code)).or_default() += 1,
@@ -48,6 +64,20 @@ impl Tally {
         let shorter = |kept: &String| words.len() < kept.len();
         if self.smallest.as_ref().map_or(true, shorter) {
             self.smallest = Some(words);
+        }
+    }
+
+    /// Adds the counts of another call.
+    pub fn join(&mut self, other: &Tally) {
+        self.cases += other.cases;
+        self.calls += other.calls;
+        self.by_rust += other.by_rust;
+        self.by_taken += other.by_taken;
+        self.accepted += other.accepted;
+        self.round_trips += other.round_trips;
+        self.differences += other.differences;
+        for (code, count) in &other.refused {
+            *self.refused.entry(code.clone()).or_default() += count;
         }
     }
 
@@ -75,6 +105,9 @@ impl Display for Tally {
             self.round_trips,
             self.differences
         )?;
+        if self.refused.is_empty() {
+            return Ok(());
+        }
         let refused: Vec<String> = self
             .refused
             .iter()
