@@ -9,6 +9,18 @@ use crate::number_leaves;
 pub fn compared(kind: u32) -> bool {
     match kind {
         1..=15 => true,
+        18..=20 => true,
+        22 => true,
+        _ => false,
+    }
+}
+
+fn layer_agrees(kind: u32, input: &[u32], output: &[u32]) -> bool {
+    match kind {
+        18 => replay_layers::walk(input, output),
+        19 => replay_layers::transform(input, output),
+        20 => replay_layers::segment(input, output),
+        22 => replay_layers::draw(input, output),
         _ => false,
     }
 }
@@ -19,7 +31,7 @@ fn agrees(kind: u32, input: &[u32], output: &[u32]) -> bool {
     } else if kind < 16 {
         lists::agrees(kind, input, output)
     } else {
-        false
+        layer_agrees(kind, input, output)
     }
 }
 

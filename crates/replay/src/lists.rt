@@ -1,5 +1,4 @@
 // Reading and writing of the port against stored answers.
-use crate::words;
 use codes::Code;
 use reader::ReadAnswer;
 use writer::WriteAnswer;
@@ -30,27 +29,13 @@ fn begin_u32(values: &[u32], words: &[u32]) -> bool {
     true
 }
 
-fn begin_f32(values: &[f32], words: &[u32]) -> bool {
-    let mut i = 0;
-    while i < words.len() {
-        if values.len() <= i {
-            return false;
-        }
-        if !words::is_float(values[i], words[i]) {
-            return false;
-        }
-        i += 1;
-    }
-    true
-}
-
 fn begin_i32(values: &[i32], words: &[u32]) -> bool {
     let mut i = 0;
     while i < words.len() {
         if values.len() <= i {
             return false;
         }
-        if values[i] != words::signed_word(words[i]) {
+        if values[i] != stored::signed_word(words[i]) {
             return false;
         }
         i += 1;
@@ -69,7 +54,7 @@ fn are_counts(words: &[u32], s: u32, n: u32, adjustment: i32) -> bool {
     if words[1] != n {
         return false;
     }
-    words::signed_word(words[2]) == adjustment
+    stored::signed_word(words[2]) == adjustment
 }
 
 // Whether words are what the buffers begin with: S counts, 2S starts, 2P double deltas, 128S coefficients.
@@ -91,7 +76,7 @@ fn are_buffers(
     if !begin_u32(counts, &words[0..first]) {
         return false;
     }
-    if !begin_f32(starts, &words[first..second]) {
+    if !stored::begin_f32(starts, &words[first..second]) {
         return false;
     }
     if !begin_i32(deltas, &words[second..third]) {

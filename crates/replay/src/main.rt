@@ -4,7 +4,6 @@ mod agree;
 mod kinds;
 mod lists;
 mod number_leaves;
-mod words;
 
 ghost use Rattle.frame.specs.Frame.{IsWhole};
 use frame::Verdict;

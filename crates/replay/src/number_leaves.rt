@@ -1,5 +1,4 @@
 // The number leaves of the port against stored answers.
-use crate::words;
 
 // The leaves from f32 to f32, by kind.
 fn leaf(kind: u32, x: f32) -> f32 {
@@ -17,30 +16,30 @@ fn leaf(kind: u32, x: f32) -> f32 {
 
 // A leaf of one word.
 fn agrees_one(kind: u32, bits: u32, output: &[u32]) -> bool {
-    let x = words::float(bits);
+    let x = stored::float(bits);
     match kind {
-        4 => words::is_signed(numbers::saturating_f32_to_i64(x), output),
-        5 => words::is_long(numbers::saturating_f32_to_u64(x), output),
-        _ => words::is_only_float(leaf(kind, x), output),
+        4 => stored::is_signed(numbers::saturating_f32_to_i64(x), output),
+        5 => stored::is_long(numbers::saturating_f32_to_u64(x), output),
+        _ => stored::is_only_float(leaf(kind, x), output),
     }
 }
 
 // A leaf of two words.
 fn agrees_two(kind: u32, low: u32, high: u32, output: &[u32]) -> bool {
     match kind {
-        6 => words::is_only_float(numbers::nearest_u64_to_f32(words::long(low, high)), output),
-        7 => words::is_only_float(
-            numbers::nearest_f64_to_f32(words::double(words::long(low, high))),
+        6 => stored::is_only_float(numbers::nearest_u64_to_f32(stored::long(low, high)), output),
+        7 => stored::is_only_float(
+            numbers::nearest_f64_to_f32(stored::double(stored::long(low, high))),
             output,
         ),
-        9 => words::is_only_float(
-            numbers::length(words::signed_word(low), words::signed_word(high)),
+        9 => stored::is_only_float(
+            numbers::length(stored::signed_word(low), stored::signed_word(high)),
             output,
         ),
-        13 => words::is_only_float(
+        13 => stored::is_only_float(
             numbers::top(
-                numbers::abs(words::float(low)),
-                numbers::abs(words::float(high)),
+                numbers::abs(stored::float(low)),
+                numbers::abs(stored::float(high)),
             ),
             output,
         ),

@@ -1,0 +1,24 @@
+-- The numbers of a stored case's words. Definitions only.
+use mathlib.Core.Path.{_≡_}
+use mathlib.Core.List.{List}
+use Prim.Native.Nat.{ℕ, _+_, _*_, _<_, _≤_}
+use lib.IntN.{ℤ}
+use lib.ListN.{length, getD}
+use lib.Ieee.{Float, nan, binary32, ofBits}
+use mir.Syntax.{w32}
+use mir.Val.{toZ}
+
+-- word k as a float's bits, as a two's complement, and as the lower half of a long number; a word past the last is 0
+abbrev pub floatIn : List ℕ → ℕ → Float
+floatIn words k = ofBits binary32 (getD words k 0)
+
+abbrev pub signedIn : List ℕ → ℕ → ℤ
+signedIn words k = toZ w32 (getD words k 0)
+
+abbrev pub longIn : List ℕ → ℕ → ℕ
+longIn words k = getD words k 0 + 4294967296 * getD words (k + 1) 0
+
+-- the values begin with the floats of the words
+pub record Begins (values : List Float) (words : List ℕ) : Type 0 where
+  pub long : length words ≤ length values
+  pub same : (k : ℕ) → k < length words → getD values k nan ≡ floatIn words k
