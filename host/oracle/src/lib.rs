@@ -203,6 +203,21 @@ pub fn rebuild(
     layers::rebuild(first, second, given)
 }
 
+/// A description held as the original holds it, to build from many times.
+pub struct Prepared(original::Splines);
+
+/// Prepares a description whose lengths agree.
+pub fn prepare(description: &Description) -> Prepared {
+    Prepared(layers::splines_of(description))
+}
+
+impl Prepared {
+    /// `Splines::initialize_draw_cache` and nothing else; the table stays within.
+    pub fn build(&mut self, given: &Given) -> Outcome<()> {
+        layers::initialize(&mut self.0, given)
+    }
+}
+
 /// A table loaded into the original's `Splines`, to draw from many times.
 pub struct Loaded(original::Splines);
 
@@ -233,6 +248,11 @@ impl Loaded {
     /// what was drawn before it.
     pub fn draw(&self, y: u32, x0: u32, channels: [&mut [f32]; 3]) -> Outcome<()> {
         layers::draw(&self.0, y, x0, channels)
+    }
+
+    /// `draw_segments` on every row of an image, each whole; a channel holds the rows one after another.
+    pub fn draw_image(&self, width: u32, height: u32, channels: [&mut [f32]; 3]) -> Outcome<()> {
+        layers::draw_image(&self.0, width as usize, height as usize, channels)
     }
 }
 

@@ -254,7 +254,7 @@ pub(crate) fn segments(
 }
 
 /// The description as the original holds it.
-fn splines_of(description: &Description) -> Splines {
+pub(crate) fn splines_of(description: &Description) -> Splines {
     let Description {
         counts,
         starts,
@@ -291,7 +291,7 @@ fn splines_of(description: &Description) -> Splines {
     }
 }
 
-fn initialize(splines: &mut Splines, given: &Given) -> Outcome<()> {
+pub(crate) fn initialize(splines: &mut Splines, given: &Given) -> Outcome<()> {
     let correlation = ColorCorrelationParams {
         y_to_x: given.y_to_x,
         y_to_b: given.y_to_b,
@@ -459,6 +459,22 @@ pub(crate) fn draw(
     let n = channels[0].len();
     judge(|| {
         splines.draw_segments(&mut channels, (x0 as usize, y as usize), n);
+        Ok(())
+    })
+}
+
+pub(crate) fn draw_image(
+    splines: &Splines,
+    width: usize,
+    height: usize,
+    [r0, r1, r2]: [&mut [f32]; 3],
+) -> Outcome<()> {
+    judge(|| {
+        for y in 0..height {
+            let row = y * width..(y + 1) * width;
+            let mut channels = [&mut r0[row.clone()], &mut r1[row.clone()], &mut r2[row]];
+            splines.draw_segments(&mut channels, (0, y), width);
+        }
         Ok(())
     })
 }

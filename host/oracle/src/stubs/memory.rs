@@ -45,6 +45,9 @@ pub(crate) fn bytes_of<T>(count: usize) -> u64 {
 
 /// Pays for `count` values or ends the call.
 fn pay<T>(count: usize) {
+    if cfg!(feature = "uncounted") {
+        return;
+    }
     LEFT.with(|left| match left.get().checked_sub(bytes_of::<T>(count)) {
         Some(rest) => left.set(rest),
         None => stop(),
