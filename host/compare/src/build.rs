@@ -67,7 +67,7 @@ fn note_listed(tally: &mut Tally, table: &Table, built: &Built) {
     }
 }
 
-fn same_table(a: &Table, b: &Table) -> bool {
+pub fn same_table(a: &Table, b: &Table) -> bool {
     same_floats(&a.segments.concat(), &b.segments.concat())
         && a.row_starts == b.row_starts
         && a.entries == b.entries

@@ -1,5 +1,6 @@
 //! The proved port, through its C interface, against spline.rs where that decides and against the second reading everywhere.
 
+pub mod build;
 pub mod draw;
 pub mod great;
 pub mod guarded;
@@ -10,8 +11,8 @@ pub mod read;
 pub mod tally;
 pub mod write;
 
-use cases::{Description, Refusal};
-use port::Answer;
+use cases::{Description, Refusal, Table};
+use port::{Answer, Parts};
 
 /// The code and answer that stand for a description that was read, or for a refusal.
 fn told_read(expected: &Result<Description, Refusal>) -> (u32, Answer) {
@@ -35,6 +36,34 @@ fn told_write(expected: &Result<Vec<u32>, Refusal>) -> (u32, Answer) {
     match expected {
         Ok(list) => (0, [0, list.len() as i64, 0, 0, 0]),
         Err(refusal) => told_refusal(refusal),
+    }
+}
+
+/// The code and answer that stand for a table that was built, or for a refusal.
+fn told_build(expected: &Result<Table, Refusal>) -> (u32, Answer) {
+    match expected {
+        Ok(table) => (
+            0,
+            [
+                0,
+                table.segments.len() as i64,
+                table.entries.len() as i64,
+                table.estimate as i64,
+                0,
+            ],
+        ),
+        Err(refusal) => told_refusal(refusal),
+    }
+}
+
+/// A description as the port takes it.
+fn parts(description: &Description) -> Parts<'_> {
+    Parts {
+        counts: &description.counts,
+        starts: &description.starts,
+        deltas: &description.deltas,
+        coefficients: &description.coefficients,
+        adjustment: description.adjustment,
     }
 }
 

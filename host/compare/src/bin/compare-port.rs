@@ -1,19 +1,20 @@
-//! The port through its C interface on fixed cases: reading and writing with both round trips, drawing whole and in parts, reach,
-//! and the logarithm; every cell of every lent buffer, and each buffer against an inaccessible page.
+//! The port through its C interface on fixed cases: reading and writing with both round trips, building, drawing whole and in parts,
+//! reach, and the logarithm; every cell of every lent buffer, and each buffer against an inaccessible page.
 //!
 //! `compare-port` runs the standing cases, `compare-port --long` more than a million of other seeds, with lines of progress.
 //! Prints a table; ends with 1, and the smallest input, where an answer differs.
 
 use compare::port::tally::Tally;
-use compare::port::{draw, ln, pages, read, write};
+use compare::port::{build, draw, ln, pages, read, write};
 use std::process::ExitCode;
 
 /// A call's name, and what runs its cases.
 type Call = (&'static str, fn(&mut Tally));
 
-const CALLS: [Call; 5] = [
+const CALLS: [Call; 6] = [
     ("read", read::compare),
     ("write", write::compare),
+    ("build", build::compare),
     ("draw", draw::compare),
     ("reach", draw::compare_reach),
     ("ln", ln::compare),

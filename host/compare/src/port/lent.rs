@@ -77,10 +77,15 @@ impl<T: Cell> Lent<T> {
 
     /// Whether it holds these values, then zeros, and nothing around it was touched.
     pub fn holds(&self, values: &[T]) -> bool {
+        self.holds_as(values, T::same)
+    }
+
+    /// The same, where `same` holds a value against another.
+    pub fn holds_as(&self, values: &[T], same: impl Fn(T, T) -> bool) -> bool {
         let lent = self.lent();
         let untouched = |index: usize| self.cells[index].same(T::other(index));
         values.len() <= lent.len()
-            && lent.iter().zip(values).all(|(&a, &b)| a.same(b))
+            && lent.iter().zip(values).all(|(&a, &b)| same(a, b))
             && lent[values.len()..].iter().all(|&a| a.same(T::ZERO))
             && (0..AROUND).all(untouched)
             && (self.past()..self.cells.len()).all(untouched)

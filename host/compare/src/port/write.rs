@@ -3,11 +3,11 @@
 use super::lent::Lent;
 use super::read::not_read_back;
 use super::tally::Tally;
-use super::{great, guarded, told_write};
+use super::{great, guarded, parts, told_write};
 use cases::lists::{write_case, ListCase, WriteCase, WRITE_KINDS};
 use cases::random::Random;
 use cases::{each, Description, Refusal};
-use port::{Answer, Parts};
+use port::Answer;
 
 const CASES_A_KIND: u64 = 3_000;
 
@@ -111,16 +111,13 @@ pub struct PortWritten {
 
 impl PortWritten {
     pub fn of(case: &WriteCase, room: u64) -> PortWritten {
-        let description = &case.description;
-        let parts = Parts {
-            counts: &description.counts,
-            starts: &description.starts,
-            deltas: &description.deltas,
-            coefficients: &description.coefficients,
-            adjustment: description.adjustment,
-        };
         let mut list = Lent::new(room as usize);
-        let (code, answer) = guarded::write(&parts, case.configured, case.pixels, list.lend());
+        let (code, answer) = guarded::write(
+            &parts(&case.description),
+            case.configured,
+            case.pixels,
+            list.lend(),
+        );
         PortWritten { code, answer, list }
     }
 

@@ -1,0 +1,215 @@
+//! Building: every description with rooms exact, larger, one short each, and none.
+
+use super::lent::{Cell, Lent};
+use super::tally::Tally;
+use super::{guarded, parts, told_build};
+use crate::build::same_table;
+use crate::verdict::{code_of, no_equality};
+use cases::descriptions::{build_case, BuildCase, KINDS, SLOW_KINDS};
+use cases::random::Random;
+use cases::{bits, each, few, Code, Given, Refusal, Table};
+use model::list::well_shaped;
+use model::BuildRooms;
+use oracle::Outcome;
+use port::{Answer, Buffers, Image};
+
+const CASES_A_KIND: u64 = 1_200;
+const SLOW_CASES_A_KIND: u64 = 12;
+
+/// Rooms for a description that is refused before it is drawn, in records; the row starts are as many as are due.
+const SOME: u64 = 40;
+/// No more row starts are lent than the tallest image has.
+const MOST_ROW_STARTS: u64 = (1 << 23) + 1;
+/// A table with more numbers than this is left out: the buffers would not fit into memory.
+const MOST_NUMBERS: u64 = 1 << 28;
+
+pub fn compare(tally: &mut Tally) {
+    for (kind, seed) in each(&KINDS, CASES_A_KIND) {
+        compare_case(tally, kind, seed);
+    }
+    for (kind, seed) in few(&SLOW_KINDS, SLOW_CASES_A_KIND) {
+        compare_case(tally, kind, seed);
+    }
+}
+
+fn compare_case(tally: &mut Tally, kind: &str, seed: u64) {
+    let case = build_case(kind, seed);
+    let whole = original(&case);
+    let Some(exact) = exact_rooms(&case) else {
+        return;
+    };
+    tally.cases += 1;
+    for rooms in rooms(&exact, &mut Random::new("rooms", seed)) {
+        let expected = model::build(&case.description, &case.given, &rooms);
+        tally.called(&expected);
+        let built = PortBuilt::of(&case, &rooms);
+        let mut wrong = Vec::new();
+        if !built.is(&expected) {
+            wrong.push(format!("model:     {:?}", told_build(&expected)));
+        }
+        if let (Some(original), true) = (&whole, rust_decides(&expected)) {
+            tally.by_rust += 1;
+            if !same_outcome(original, &expected) || !built.is(original) {
+                wrong.push(format!("spline.rs: {:?}", told_build(original)));
+            }
+        }
+        if !wrong.is_empty() {
+            let told = (built.code, built.answer);
+            tally.differs(format!(
+                "build, kind {kind}, seed {seed}, {rooms:?}: {case:?}\n  port:      {told:?}, or cells differ\n  {}",
+                wrong.join("\n  ")
+            ));
+        }
+    }
+}
+
+/// The lengths with which the build is just done, or some where it is refused; `None` for a table past all memory.
+fn exact_rooms(case: &BuildCase) -> Option<BuildRooms> {
+    let some = BuildRooms {
+        path: 2 * SOME,
+        walk: 3 * SOME,
+        segments: 8 * SOME,
+        row_starts: (u64::from(case.given.height) + 1).min(MOST_ROW_STARTS),
+        entries: SOME,
+    };
+    let least = model::least_rooms(&case.description, &case.given).unwrap_or(some);
+    let numbers = least.path + least.walk + least.segments + least.entries;
+    (numbers <= MOST_NUMBERS).then_some(least)
+}
+
+/// Exact, larger, one short each, and none.
+fn rooms(exact: &BuildRooms, r: &mut Random) -> Vec<BuildRooms> {
+    let mut more = |n: u64| n + r.within(1, 9) as u64;
+    let larger = BuildRooms {
+        path: more(exact.path),
+        walk: more(exact.walk),
+        segments: more(exact.segments),
+        row_starts: more(exact.row_starts),
+        entries: more(exact.entries),
+    };
+    let none = BuildRooms {
+        path: 0,
+        walk: 0,
+        segments: 0,
+        row_starts: 0,
+        entries: 0,
+    };
+    let short = |part: fn(&mut BuildRooms) -> &mut u64| {
+        let mut rooms = *exact;
+        let length = part(&mut rooms);
+        *length = length.saturating_sub(1);
+        rooms
+    };
+    vec![
+        *exact,
+        larger,
+        none,
+        short(|rooms| &mut rooms.path),
+        short(|rooms| &mut rooms.walk),
+        short(|rooms| &mut rooms.segments),
+        short(|rooms| &mut rooms.row_starts),
+        short(|rooms| &mut rooms.entries),
+    ]
+}
+
+/// Whether the answer is one that spline.rs gives too.
+fn rust_decides(expected: &Result<Table, Refusal>) -> bool {
+    !matches!(expected, Err(refusal) if no_equality(refusal.code) || refusal.code == Code::Delta)
+}
+
+/// What spline.rs makes of a description in document 01's words; `None` if its lengths disagree, or if it lacks memory or panics.
+fn original(case: &BuildCase) -> Option<Result<Table, Refusal>> {
+    let BuildCase { description, given } = case;
+    if !well_shaped(description) {
+        return None;
+    }
+    match oracle::build(description, given) {
+        Outcome::Panicked(_) | Outcome::NoMemory => None,
+        Outcome::Done(built) => Some(Ok(built.table)),
+        Outcome::Refused(why) => {
+            let place = oracle::refused_spline(description, given)? as u64;
+            Some(Err(Refusal {
+                code: code_of(why),
+                place,
+            }))
+        }
+    }
+}
+
+fn same_outcome(a: &Result<Table, Refusal>, b: &Result<Table, Refusal>) -> bool {
+    match (a, b) {
+        (Ok(a), Ok(b)) => same_table(a, b),
+        (Err(a), Err(b)) => a == b,
+        _ => false,
+    }
+}
+
+fn image(given: &Given) -> Image {
+    Image {
+        width: given.width,
+        height: given.height,
+        y_to_x: given.y_to_x,
+        y_to_b: given.y_to_b,
+        high_precision: given.high_precision,
+        level10: given.level10,
+    }
+}
+
+/// What the port answered, and the buffers afterwards.
+struct PortBuilt {
+    code: u32,
+    answer: Answer,
+    path: Lent<f32>,
+    walk: Lent<f32>,
+    segments: Lent<f32>,
+    row_starts: Lent<u32>,
+    entries: Lent<u32>,
+}
+
+impl PortBuilt {
+    fn of(case: &BuildCase, rooms: &BuildRooms) -> PortBuilt {
+        let mut path = lent(rooms.path);
+        let mut walk = lent(rooms.walk);
+        let mut segments = lent(rooms.segments);
+        let mut row_starts = lent(rooms.row_starts);
+        let mut entries = lent(rooms.entries);
+        let (code, answer) = guarded::build(
+            &parts(&case.description),
+            &image(&case.given),
+            Buffers {
+                path: path.lend(),
+                walk: walk.lend(),
+                segments: segments.lend(),
+                row_starts: row_starts.lend(),
+                entries: entries.lend(),
+            },
+        );
+        PortBuilt {
+            code,
+            answer,
+            path,
+            walk,
+            segments,
+            row_starts,
+            entries,
+        }
+    }
+
+    /// Whether code, place, counts and every cell are as expected; any NaN counts as NaN.
+    fn is(&self, expected: &Result<Table, Refusal>) -> bool {
+        let nothing = Table::default();
+        let table = expected.as_ref().unwrap_or(&nothing);
+        (self.code, self.answer) == told_build(expected)
+            && self.path.holds(&[])
+            && self.walk.holds(&[])
+            && self
+                .segments
+                .holds_as(&table.segments.concat(), |a, b| bits(a) == bits(b))
+            && self.row_starts.holds(&table.row_starts)
+            && self.entries.holds(&table.entries)
+    }
+}
+
+fn lent<T: Cell>(room: u64) -> Lent<T> {
+    Lent::new(room as usize)
+}
