@@ -3,5 +3,6 @@ pub mod Flat
 pub mod Pixels
 pub mod Accepted
 pub mod Tables
+pub mod Listings
 pub mod Pictures
 pub mod Rooms
