@@ -1,11 +1,10 @@
 -- What each comparison has found, in the terms of the definitions.
-use mathlib.Core.Path.{_≡_, refl, sym, ap, subst, _∙_}
+use mathlib.Core.Path.{_≡_, sym, ap, subst, _∙_}
 use mathlib.Core.Bool.{Bool}
 use mathlib.Core.List.{List}
 use Prim.Native.Nat.{ℕ, _+_, _*_, _/_, _≤_}
 use native.Mathlib.Omega.{arith}
 use lib.ListN.{length, getD, take, replicate, length-take}
-use lib.Dec.{eqb}
 use lib.Seq.{sets, length-take-le}
 use lib.Ieee.{Float, nan, binary32, ofBits}
 use Rattle.dequantize.specs.declared.Spline.{Spline}
