@@ -2,6 +2,7 @@
 
 pub mod build;
 pub mod draw;
+pub mod fuzz;
 pub mod great;
 pub mod guarded;
 pub mod lent;

@@ -54,7 +54,7 @@ fn compare_case(tally: &mut Tally, kind: &str, seed: u64) {
             }
         }
         if !wrong.is_empty() {
-            let told = (built.code, built.answer);
+            let told = built.told();
             tally.differs(format!(
                 "build, kind {kind}, seed {seed}, {rooms:?}: {case:?}\n  port:      {told:?}, or cells differ\n  {}",
                 wrong.join("\n  ")
@@ -156,7 +156,7 @@ fn image(given: &Given) -> Image {
 }
 
 /// What the port answered, and the buffers afterwards.
-struct PortBuilt {
+pub struct PortBuilt {
     code: u32,
     answer: Answer,
     path: Lent<f32>,
@@ -167,7 +167,7 @@ struct PortBuilt {
 }
 
 impl PortBuilt {
-    fn of(case: &BuildCase, rooms: &BuildRooms) -> PortBuilt {
+    pub fn of(case: &BuildCase, rooms: &BuildRooms) -> PortBuilt {
         let mut path = lent(rooms.path);
         let mut walk = lent(rooms.walk);
         let mut segments = lent(rooms.segments);
@@ -195,11 +195,15 @@ impl PortBuilt {
         }
     }
 
+    pub fn told(&self) -> (u32, Answer) {
+        (self.code, self.answer)
+    }
+
     /// Whether code, place, counts and every cell are as expected; any NaN counts as NaN.
-    fn is(&self, expected: &Result<Table, Refusal>) -> bool {
+    pub fn is(&self, expected: &Result<Table, Refusal>) -> bool {
         let nothing = Table::default();
         let table = expected.as_ref().unwrap_or(&nothing);
-        (self.code, self.answer) == told_build(expected)
+        self.told() == told_build(expected)
             && self.path.holds(&[])
             && self.walk.holds(&[])
             && self

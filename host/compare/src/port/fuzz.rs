@@ -1,0 +1,37 @@
+//! Any bytes as calls of the port with hostile arguments and lent lengths, held against spline.rs where that decides and
+//! against the second reading everywhere. A difference is a panic.
+
+mod build;
+pub mod bytes;
+mod list;
+mod seeds;
+mod table;
+
+use super::pages;
+use bytes::Bytes;
+
+pub use seeds::seeds;
+
+/// Runs the call that these bytes stand for.
+pub fn run(input: &[u8]) {
+    pages::sides_from(input.iter().fold(1, |seed, &byte| {
+        (seed ^ u64::from(byte)).wrapping_mul(0x100_0000_01b3)
+    }));
+    let mut bytes = Bytes(input);
+    match bytes.byte() % CALLS {
+        READ => list::read(&mut bytes),
+        WRITE => list::write(&mut bytes),
+        BUILD => build::build(&mut bytes),
+        DRAW => table::draw(&mut bytes),
+        REACH => table::reach(&mut bytes),
+        _ => table::ln(&mut bytes),
+    }
+}
+
+const READ: u8 = 0;
+const WRITE: u8 = 1;
+const BUILD: u8 = 2;
+const DRAW: u8 = 3;
+const REACH: u8 = 4;
+const LN: u8 = 5;
+const CALLS: u8 = 6;

@@ -1,0 +1,126 @@
+//! Inputs to begin with: cases of the generator as bytes.
+
+use super::bytes::Put;
+use super::{BUILD, DRAW, LN, REACH, READ, WRITE};
+use cases::descriptions::{self, build_case, BuildCase};
+use cases::lists::{list_case, write_case, KINDS, WRITE_KINDS};
+use cases::random::Random;
+use cases::tables::{request, table, REQUEST_KINDS, TABLE_KINDS};
+use cases::{each, Description, FlatTable};
+
+/// So many of each kind.
+const A_KIND: u64 = 3;
+
+/// Each with a name.
+pub fn seeds() -> Vec<(String, Vec<u8>)> {
+    let mut seeds = Vec::new();
+    for (kind, seed) in each(&KINDS, A_KIND) {
+        seeds.push((format!("read-{kind}-{seed}"), read(kind, seed)));
+    }
+    for (kind, seed) in each(&WRITE_KINDS, A_KIND) {
+        seeds.push((format!("write-{kind}-{seed}"), write(kind, seed)));
+    }
+    for (kind, seed) in each(&descriptions::KINDS, A_KIND) {
+        seeds.push((format!("build-{kind}-{seed}"), build(kind, seed)));
+    }
+    for (kind, seed) in each(&TABLE_KINDS, A_KIND) {
+        let table = table(kind, seed);
+        seeds.push((format!("draw-{kind}-{seed}"), draw(&table, seed)));
+        seeds.push((format!("reach-{kind}-{seed}"), reach(&table, seed)));
+    }
+    seeds.push((String::from("ln"), ln()));
+    seeds
+}
+
+fn read(kind: &str, seed: u64) -> Vec<u8> {
+    let case = list_case(kind, seed);
+    let mut put = Put::default();
+    put.byte(READ);
+    // Room for three splines and ten points.
+    put_all(&mut put, &[3, 6, 20, 384]);
+    put.number(case.configured);
+    put.number(case.pixels);
+    put.numbers(&case.list);
+    put.0
+}
+
+fn write(kind: &str, seed: u64) -> Vec<u8> {
+    let case = write_case(kind, seed);
+    let mut put = Put::default();
+    put.byte(WRITE);
+    put.number(case.list_room.min(500) as u32);
+    put.number(case.configured);
+    put.number(case.pixels);
+    put_description(&mut put, &case.description);
+    put.0
+}
+
+fn put_all(put: &mut Put, numbers: &[u32]) {
+    numbers.iter().for_each(|&number| put.number(number));
+}
+
+fn build(kind: &str, seed: u64) -> Vec<u8> {
+    let BuildCase { description, given } = build_case(kind, seed);
+    let mut put = Put::default();
+    put.byte(BUILD);
+    put_all(
+        &mut put,
+        &[200, 1200, 3200, 250, 4000, given.width, given.height],
+    );
+    put.float(given.y_to_x);
+    put.float(given.y_to_b);
+    put.byte(given.high_precision.into());
+    put.byte(given.level10.into());
+    // A row and a part of it to be drawn.
+    put_all(&mut put, &[given.height / 2, 5, 60]);
+    put_description(&mut put, &description);
+    put.0
+}
+
+fn put_description(put: &mut Put, description: &Description) {
+    put.signed(description.adjustment);
+    put.numbers(&description.counts);
+    put.floats(&description.starts);
+    put.signed_numbers(&description.deltas);
+    put.signed_numbers(&description.coefficients);
+}
+
+fn put_table(put: &mut Put, table: &FlatTable) {
+    put.number(table.segment_count);
+    put.number(table.entry_count);
+    put.number(table.height);
+    put.numbers(&table.row_starts);
+    put.numbers(&table.entries);
+    put.floats(&table.segments);
+}
+
+fn draw(table: &FlatTable, seed: u64) -> Vec<u8> {
+    let request = request(REQUEST_KINDS[seed as usize % 3], seed, table.height.max(1));
+    let mut put = Put::default();
+    put.byte(DRAW);
+    put_all(&mut put, &[request.y, request.x0, request.n]);
+    for channel in &request.channels {
+        put.number(channel.len() as u32);
+    }
+    put.float(0.5);
+    put_table(&mut put, table);
+    put.0
+}
+
+fn reach(table: &FlatTable, seed: u64) -> Vec<u8> {
+    let mut put = Put::default();
+    put.byte(REACH);
+    put.number(seed as u32);
+    put.number(80);
+    put_table(&mut put, table);
+    put.0
+}
+
+fn ln() -> Vec<u8> {
+    let mut r = Random::new("ln", 0);
+    let numbers: Vec<f32> = (0..40).map(|_| r.any_f32()).collect();
+    let mut put = Put::default();
+    put.byte(LN);
+    put.floats(&numbers);
+    put.0
+}
