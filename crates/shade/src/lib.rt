@@ -1,13 +1,15 @@
 // One segment added to parts of three channels, pixel by pixel: `draw_segment_inner` of spline.rs.
 // Pixels go by blocks of 32 in three passes (squares of distances, their roots, shades): the machine's vectors take the first and the last.
 ghost use mathlib.Core.Path.{_≡_};
+ghost use mathlib.Core.Bool.{cond};
 ghost use Prim.Native.Nat.{_+_, _≤_, _<_, _^_};
 ghost use lib.ListN.{length, getD};
 ghost use lib.IntN.{pos};
-ghost use lib.Ieee.{nan, binary32, ofInt};
+ghost use lib.Ieee.{nan, neg, binary32, ofInt};
 ghost use Rattle.numbers.specs.Root.{sqrtOf};
+ghost use Rattle.numbers.specs.Erf.{erfCore, fastErff};
 ghost use Rattle.shade.specs.Edit.{edit, below};
-ghost use Rattle.shade.specs.Shade.{sqd, intensityAt, addedAt, added, shaded};
+ghost use Rattle.shade.specs.Shade.{sqd, Alike, intensityAt, addedAt, added, shaded};
 use segments::Segment;
 
 // A row or a column as a float, by way of a signed number, for which the machine has a vector instruction.
@@ -43,13 +45,41 @@ fn roots(v: &mut [f32; 32], m: usize, table: &[u64; 128])
     }
 }
 
+// erf of a magnitude.
+fn erf_core(x: f32) -> f32
+    ensures { λ r. ⌜ r ≡ erfCore x ⌝ }
+{
+    let denom1 = x * 7.77394369e-02 + 2.05260015e-04;
+    let denom2 = denom1 * x + 2.32120216e-01;
+    let denom3 = denom2 * x + 2.77820801e-01;
+    let denom4 = denom3 * x + 1.0;
+    let denom5 = denom4 * denom4;
+    let inv_denom5 = 1.0 / denom5;
+    1.0 - inv_denom5 * inv_denom5
+}
+
+// x, or -x where it is to be turned.
+fn turned(turn: bool, x: f32) -> f32
+    ensures { λ r. ⌜ r ≡ cond turn (neg x) x ⌝ }
+{
+    if turn { -x } else { x }
+}
+
+// `fast_erff_simd` by one comparison: of a zero it may have the other sign, which the square in `intensity` does not show.
+fn erf(x: f32) -> f32
+    ensures { λ r. ⌜ Alike r (fastErff x) ⌝ }
+{
+    let below = x < 0.0;
+    turned(below, erf_core(turned(below, x)))
+}
+
 // What a segment adds at a distance, before its colours.
 fn intensity(segment: Segment, distance: f32) -> f32
     ensures { λ r. ⌜ r ≡ intensityAt segment distance ⌝ }
 {
     let arg1 = (distance * 0.5 + 0.353_553_38) * segment.inv_sigma;
     let arg2 = (distance * 0.5 + -0.353_553_38) * segment.inv_sigma;
-    let factor = numbers::fast_erff(arg1) - numbers::fast_erff(arg2);
+    let factor = erf(arg1) - erf(arg2);
     segment.sigma_over_4_times_intensity * factor * factor
 }
 
