@@ -1,5 +1,6 @@
 // A segment of a spline: which points make one, its eight floats, and the rows and columns that it touches.
 ghost use mathlib.Core.Path.{_≡_};
+ghost use mathlib.Core.Bool.{cond};
 ghost use Prim.Native.Nat.{_+_, _*_, _≤_};
 ghost use mathlib.Core.List.{[], _∷_};
 ghost use lib.ListN.{length};
@@ -98,6 +99,13 @@ pub fn add_segment(
     })
 }
 
+// 0 where the test passes, else 1: added, it leaves the machine no branch to foresee.
+fn unless(test: bool) -> u32
+    ensures { λ r. ⌜ r ≡ cond test 0 1 ⌝ }
+{
+    if test { 0 } else { 1 }
+}
+
 // The number that x rounds to, half away from zero, brought between 0 and 2^24. A NaN gives 0.
 fn clip(x: f32) -> u32
     ensures { λ r. ⌜ r ≡ clip (rounded x) ⌝ }
@@ -105,10 +113,8 @@ fn clip(x: f32) -> u32
     if x > 0.0 {
         if x < 8388608.0 {
             let whole = std::num::truncating_f32_to_u64(x);
-            if x < ((whole + whole + 1) as f32) * 0.5 {
-                return whole as u32;
-            }
-            return (whole + 1) as u32;
+            let up = unless(x < ((whole + whole + 1) as f32) * 0.5);
+            return (whole as u32) + up;
         }
         if x < 16777216.0 {
             return std::num::truncating_f32_to_u64(x) as u32;
