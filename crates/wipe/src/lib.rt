@@ -19,6 +19,6 @@ pub fn wipe(
     buffers::clear(path, 0);
     buffers::clear(walk, 0);
     buffers::clear(segments, 0);
-    rows::clear(row_starts);
-    rows::clear(entries);
+    rows::clear(row_starts, 0);
+    rows::clear(entries, 0);
 }

@@ -3,11 +3,11 @@ use mathlib.Core.Path.{_∙_}
 use mathlib.Core.List.{List}
 use Prim.Native.Nat.{_*_}
 use lib.ListN.{length, take}
-use lib.Ieee.{Float}
+use lib.Ieee.{Float, binary32, ofBits}
 use borrow.Author.Needs.{needs}
 use Rattle.rows.specs.Rows.{Outcome, inRow, built}
 use Rattle.table.specs.Table.{Rooms, roomsOf}
-use Rattle.wipe.proofs.Zeros.{cleared}
+use Rattle.rows.proofs.Counts.{cleared}
 use Rattle.table.proofs.Placing.{kept, rows-room, rows-done}
 use Rattle.table.proofs.list_segments.Statement.{statement}
 use Rattle.table.proofs.list_segments.Tie as tie
@@ -91,7 +91,7 @@ returns-2 c =
     let s = c .before .before .before .before .before .before .before .before .before .before .before .before .before .before .before .before .before .before .before .before .before .before .before .before .before .before .before .before in
     let l = c .before .before .before .before .before .before .before .before .before .before .before .before .before .before .before .before .before .before .before .list-rows in
     rows-done (rooms s) (s .args .estimate) (s .args .count) (numbers s) (listing s) (l .ensures) (c .before .before .before .before .before .before .before .before .before .before .before .before .before .n .given .0 .0) (c .before .before .before .before .before .before .before .before .before .before .before .before .before .n .given .1)
-    (cleared (s .args .path .now) (c .before .before .before .before .before .before .before .before .before .before .clear .ensures)) (cleared (s .args .walk .now) (c .before .before .before .before .before .before .clear2 .ensures)) (kept (s .args .segments .now) (8 * s .args .count) (s .pre .0) (c .before .before .clear3 .ensures))
+    (cleared (ofBits binary32 0) (s .args .path .now) (c .before .before .before .before .before .before .before .before .before .before .clear .ensures)) (cleared (ofBits binary32 0) (s .args .walk .now) (c .before .before .before .before .before .before .clear2 .ensures)) (kept (s .args .segments .now) (8 * s .args .count) (s .pre .0) (c .before .before .clear3 .ensures))
 
 pub list-segments-spec : {M : Type 1} → statement M
 list-segments-spec =

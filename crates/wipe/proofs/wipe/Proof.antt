@@ -1,6 +1,7 @@
 -- `wipe`: five buffers, cleared one after the other.
+use lib.Ieee.{binary32, ofBits}
 use borrow.Author.Needs.{needs}
-use Rattle.wipe.proofs.Zeros.{cleared}
+use Rattle.rows.proofs.Counts.{cleared}
 use Rattle.wipe.proofs.wipe.Statement.{statement}
 use Rattle.wipe.proofs.wipe.Tie as tie
 
@@ -37,10 +38,10 @@ same-length-5 c = search needs
 returns : tie.Need-returns
 returns c =
     let a = c .before .before .before .before .before .before .before .before .before .before .before .before .before .before .before .before .before .before .before .before .before .before .before .before .before .args in (
-      cleared (a .path .now) (c .before .before .before .before .before .before .before .before .before .before .before .before .before .before .before .before .before .before .clear .ensures),
+      cleared (ofBits binary32 0) (a .path .now) (c .before .before .before .before .before .before .before .before .before .before .before .before .before .before .before .before .before .before .clear .ensures),
       (
-        cleared (a .walk .now) (c .before .before .before .before .before .before .before .before .before .before .before .before .before .before .clear2 .ensures),
-        (cleared (a .segments .now) (c .before .before .before .before .before .before .before .before .before .before .clear3 .ensures), (c .before .before .before .before .before .before .clear4 .ensures, c .before .before .clear5 .ensures)),
+        cleared (ofBits binary32 0) (a .walk .now) (c .before .before .before .before .before .before .before .before .before .before .before .before .before .before .clear2 .ensures),
+        (cleared (ofBits binary32 0) (a .segments .now) (c .before .before .before .before .before .before .before .before .before .before .clear3 .ensures), (cleared 0 (a .row-starts .now) (c .before .before .before .before .before .before .clear4 .ensures), cleared 0 (a .entries .now) (c .before .before .clear5 .ensures))),
       ),
     )
 
