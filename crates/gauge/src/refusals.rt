@@ -117,3 +117,18 @@ pub fn of_reading(code: Code, place: usize, list: &[u32], limit: u32) {
         _ => say::wrong(b"\n"),
     }
 }
+
+// What a description was refused for. Of the rooms, entries are this program's for all splines, the others for each.
+pub fn of_building(code: Code, place: usize) {
+    say_code(code, b") at spline ", place);
+    match code {
+        Code::Position => say::wrong(b"a point whose coordinates are not within 8388608\n"),
+        Code::Distance => say::wrong(b"its steps add up to more than the area limit\n"),
+        Code::Area => say::wrong(b"with it the estimates add up to more than the area limit\n"),
+        Code::Coincide => say::wrong(b"two control points that follow each other are equal\n"),
+        Code::Room => say::wrong(
+            b"more than 8192 path points, 16384 walk points, 49152 segments or 524288 entries\n",
+        ),
+        _ => say::wrong(b"\n"),
+    }
+}

@@ -1,0 +1,82 @@
+-- `gauge::pixels::tones` ends: it goes through the pixels in order, and the buffer keeps its length.
+use mathlib.Core.Path.{_≡_}
+use Prim.Native.Nat.{_-_, _≤_}
+use lib.ListN.{length}
+use borrow.Author.Needs.{needs}
+use Rattle.gauge.proofs.pixels.tones.Statement.{statement}
+use Rattle.gauge.proofs.pixels.tones.Tie as tie
+
+abbrev Inv-loop : tie.InvT-loop
+Inv-loop n x y b out₀ i₀ out i = (i ≤ n) × (length out ≡ length out₀)
+
+abbrev μ-loop : tie.MeasureT-loop
+μ-loop n x y b out₀ i₀ out i = n - i
+
+loop-holds : tie.Need-loop-holds Inv-loop μ-loop
+loop-holds c = search needs
+
+cast-k : tie.Need-cast-k Inv-loop μ-loop
+cast-k c = search needs
+
+cell-requires : tie.Need-cell-requires Inv-loop μ-loop
+cell-requires c κs = search needs
+
+cell-requires-2 : tie.Need-cell-requires-2 Inv-loop μ-loop
+cell-requires-2 c κs = search needs
+
+mul-put-tones : tie.Need-mul-put-tones Inv-loop μ-loop
+mul-put-tones c = search needs
+
+tone-requires : tie.Need-tone-requires Inv-loop μ-loop
+tone-requires c κs = search needs
+
+tone-requires-2 : tie.Need-tone-requires-2 Inv-loop μ-loop
+tone-requires-2 c κs = search needs
+
+cell-requires-3 : tie.Need-cell-requires-3 Inv-loop μ-loop
+cell-requires-3 c κs = search needs
+
+tone-requires-3 : tie.Need-tone-requires-3 Inv-loop μ-loop
+tone-requires-3 c κs = search needs
+
+put-tones-requires : tie.Need-put-tones-requires Inv-loop μ-loop
+put-tones-requires c κs = search needs
+
+add-i : tie.Need-add-i Inv-loop μ-loop
+add-i c = search needs
+
+loop-less : tie.Need-loop-less Inv-loop μ-loop
+loop-less c = search needs
+
+loop-again : tie.Need-loop-again Inv-loop μ-loop
+loop-again c = search needs
+
+same-length : tie.Need-same-length Inv-loop μ-loop
+same-length c = search needs
+
+returns : tie.Need-returns Inv-loop μ-loop
+returns c = search needs
+
+pub tones-spec : {M : Type 1} → statement M
+tones-spec =
+    tie.close
+    (tie.spec
+    Inv-loop
+    μ-loop
+    loop-holds
+    cast-k
+    cell-requires
+    cell-requires-2
+    mul-put-tones
+    tone-requires
+    tone-requires-2
+    cell-requires-3
+    tone-requires-3
+    put-tones-requires
+    add-i
+    loop-less
+    loop-again
+    same-length
+    returns)
+
+-- Assumes nothing.
