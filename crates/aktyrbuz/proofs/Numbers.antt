@@ -1,4 +1,4 @@
--- Signed numbers come back from their bits, and a layer's outcome is what its export leaves. Assumes nothing.
+-- Signed numbers come back from their bits, and a layer's outcome is what its export leaves.
 use mathlib.Core.Path.{_≡_}
 use mathlib.Core.List.{List}
 use Prim.Native.Nat.{ℕ}
@@ -48,3 +48,5 @@ pub reach-exported : {o : Reach.ReachOutcome} (r : ReachAnswer) (t : Told) (five
     → Reach.tells r ≡ o → t ≡ toldReach r → five ≡ toldIn t
     → reachLeaves (t .number) five ≡ reachExport o
 reach-exported r t five p q s = rw (← p, s, q)
+
+-- Assumes nothing.

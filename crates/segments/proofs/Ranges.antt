@@ -1,4 +1,4 @@
--- Ranges of rows and columns: the code's tests on a float against the bound that it rounds to, by cases of the float, and what a range has. Assumes nothing.
+-- Ranges of rows and columns: the code's tests on a float against the bound that it rounds to, by cases of the float, and what a range has.
 use mathlib.Core.Path.{_≡_, refl, sym, ap, _∙_, subst}
 use mathlib.Core.Bool.{Bool, true, false, not, _&&_, _||_, cond, Bool·beq}
 use Prim.Native.Nat.{ℕ, zero, suc, _+_, _-_, _*_, _/_, _^_, _≤_, _<_, min}
@@ -376,3 +376,5 @@ has-column s x h =
     let a = begins (positive l) x h in
     let b = lasts (2 ^ 64) (positive (rounded (add binary32 (s .«center_x») (s .«maximum_distance»)))) x h in
     rw (a, b, clip-positive l)
+
+-- Assumes nothing.

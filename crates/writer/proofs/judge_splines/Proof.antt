@@ -150,3 +150,5 @@ judge-splines-spec =
     loop-less
     loop-again
     returns-3)
+
+-- Assumes nothing.
