@@ -9,8 +9,7 @@ use crate::number_leaves;
 pub fn compared(kind: u32) -> bool {
     match kind {
         1..=15 => true,
-        18..=20 => true,
-        22 => true,
+        18..=22 => true,
         _ => false,
     }
 }
@@ -20,6 +19,7 @@ fn layer_agrees(kind: u32, input: &[u32], output: &[u32]) -> bool {
         18 => replay_layers::walk(input, output),
         19 => replay_layers::transform(input, output),
         20 => replay_layers::segment(input, output),
+        21 => replay_build::build(input, output),
         22 => replay_layers::draw(input, output),
         _ => false,
     }

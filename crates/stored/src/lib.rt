@@ -7,7 +7,7 @@ ghost use mir.Syntax.{w32, w64};
 ghost use mir.Val.{toZ};
 ghost use lib.Ieee.{binary32, binary64, ofBits};
 ghost use Rattle.dequantize.specs.Coefficients.{table};
-ghost use Rattle.stored.specs.Stored.{floatIn, signedIn, longIn, Begins};
+ghost use Rattle.stored.specs.Stored.{floatIn, signedIn, longIn, refusalWord, Begins};
 
 // The f32 of a bit pattern.
 pub fn float(bits: u32) -> f32
@@ -104,6 +104,14 @@ pub fn is_only_float(x: f32, output: &[u32]) -> bool
         return false;
     }
     is_float(x, output[0])
+}
+
+// The word of a refusal's number. spline.rs judges double deltas where it reads a list and nowhere else: what the scope calls DELTA (5) is
+// POSITION (10) there.
+pub fn refusal_word(number: u32) -> u32
+    ensures { λ r. ⌜ r ≡ refusalWord number ⌝ }
+{
+    if number == 5 { 10 } else { number }
 }
 
 // ---- many words

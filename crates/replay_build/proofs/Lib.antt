@@ -1,0 +1,2 @@
+-- The laws of the crate `replay_build`.
+pub mod Building
