@@ -1,0 +1,2 @@
+-- The laws of the crate `replay_splines`.
+pub mod Agreeing
