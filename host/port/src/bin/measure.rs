@@ -1,4 +1,4 @@
-//! What reading and writing cost: the stack that a call takes and its time, at 2^10 and at 2^20 points.
+//! What a call costs: the stack that it takes and its time; reading and writing at 2^10 and at 2^20 points, building and drawing at 2^4 and at 2^12 splines.
 //!
 //! `measure` prints both. `measure read POINTS` and `measure write POINTS` make one call, for a counter of instructions.
 
@@ -6,7 +6,9 @@ use std::arch::asm;
 use std::process::ExitCode;
 use std::time::Instant;
 
+/// Points of one spline, and splines of a picture.
 const SIZES: [usize; 2] = [1 << 10, 1 << 20];
+const SPLINES: [usize; 2] = [1 << 4, 1 << 12];
 
 /// The least time of this many calls is given.
 const CALLS: u32 = 20;
@@ -29,20 +31,33 @@ fn main() -> ExitCode {
 }
 
 fn table() {
-    println!("call     points  stack (bytes)  least time of {CALLS} (microseconds)");
+    println!("call       size  stack (bytes)  least time of {CALLS} (microseconds)");
     for call in ["nothing", "read", "write"] {
         for points in SIZES {
             let mut fibre = Fibre::of(points);
-            let stack = stack_of(|| fibre.call(call));
-            let least = (0..CALLS).map(|_| {
-                let started = Instant::now();
-                fibre.call(call);
-                started.elapsed().as_nanos()
-            });
-            let least = least.min().expect("some calls") as f64 / 1000.0;
-            println!("{call:<8} {points:>6} {stack:>14} {least:>12.1}");
+            line(call, points, || fibre.call(call));
         }
     }
+    for splines in SPLINES {
+        let mut picture = Picture::of(splines);
+        line("build", splines, || picture.build());
+    }
+    for splines in SPLINES {
+        let mut picture = Picture::of(splines);
+        picture.build();
+        line("draw", splines, || picture.draw());
+    }
+}
+
+fn line<F: FnMut()>(call: &str, size: usize, mut make: F) {
+    let stack = stack_of(&mut make);
+    let least = (0..CALLS).map(|_| {
+        let started = Instant::now();
+        make();
+        started.elapsed().as_nanos()
+    });
+    let least = least.min().expect("some calls") as f64 / 1000.0;
+    println!("{call:<8} {size:>6} {stack:>14} {least:>12.1}");
 }
 
 /// One spline as a list and as a description: each call writes one side again from the other.
@@ -108,6 +123,96 @@ impl Fibre {
         };
         let (code, _) = port::write(&parts, u32::MAX, u32::MAX, &mut self.list);
         code
+    }
+}
+
+/// Short strands below each other in an image of SIDE by SIDE, with the buffers of its table and of one row.
+struct Picture {
+    counts: Vec<u32>,
+    starts: Vec<f32>,
+    deltas: Vec<i32>,
+    coefficients: Vec<i32>,
+    path: Vec<f32>,
+    walk: Vec<f32>,
+    segments: Vec<f32>,
+    row_starts: Vec<u32>,
+    entries: Vec<u32>,
+    told: [u32; 2],
+    row: [Vec<f32>; 3],
+}
+
+const SIDE: u32 = 1024;
+
+impl Picture {
+    fn of(splines: usize) -> Picture {
+        // 20 to the right and as a whole one thickness: the first numbers of X, Y, B and sigma.
+        let mut coefficients = vec![0; 128 * splines];
+        for spline in coefficients.chunks_exact_mut(128) {
+            spline[32] = 10;
+            spline[96] = 6;
+        }
+        Picture {
+            counts: vec![1; splines],
+            starts: (0..splines)
+                .flat_map(|k| [100.0, (k % SIDE as usize) as f32])
+                .collect(),
+            deltas: [20, 0].repeat(splines),
+            coefficients,
+            path: vec![0.0; 1 << 10],
+            walk: vec![0.0; 1 << 10],
+            segments: vec![0.0; 8 * 64 * splines],
+            row_starts: vec![0; SIDE as usize + 1],
+            entries: vec![0; 64 * 64 * splines],
+            told: [0; 2],
+            row: [(); 3].map(|()| vec![0.0; SIDE as usize]),
+        }
+    }
+
+    #[inline(never)]
+    fn build(&mut self) {
+        let parts = port::Parts {
+            counts: &self.counts,
+            starts: &self.starts,
+            deltas: &self.deltas,
+            coefficients: &self.coefficients,
+            adjustment: 0,
+        };
+        let image = port::Image {
+            width: SIDE,
+            height: SIDE,
+            y_to_x: 0.0,
+            y_to_b: 1.0,
+            high_precision: false,
+            level10: true,
+        };
+        let lent = port::Buffers {
+            path: &mut self.path,
+            walk: &mut self.walk,
+            segments: &mut self.segments,
+            row_starts: &mut self.row_starts,
+            entries: &mut self.entries,
+        };
+        let (code, answer) = port::build(&parts, &image, lent);
+        assert_eq!(code, 0, "build is refused");
+        assert!(answer[1] > 0 && answer[2] > 0, "nothing is built");
+        self.told = [answer[1] as u32, answer[2] as u32];
+    }
+
+    /// The first row.
+    #[inline(never)]
+    fn draw(&mut self) {
+        let table = port::Table {
+            segments: &self.segments,
+            segment_count: self.told[0],
+            entries: &self.entries,
+            entry_count: self.told[1],
+            row_starts: &self.row_starts,
+            height: SIDE,
+        };
+        let [r0, r1, r2] = &mut self.row;
+        let (code, answer) = port::draw(&table, 0, 0, SIDE, [r0, r1, r2]);
+        assert_eq!(code, 0, "draw is refused");
+        assert!(answer[1] > 0, "nothing is drawn");
     }
 }
 
