@@ -5,11 +5,10 @@ ghost use Rattle.frame.specs.Frame.{caseEnd, IsWhole};
 use crate::lists;
 use crate::number_leaves;
 
-// Whether cases of a kind are compared yet.
+// Whether cases of a kind are compared.
 pub fn compared(kind: u32) -> bool {
     match kind {
-        1..=16 => true,
-        18..=22 => true,
+        1..=22 => true,
         _ => false,
     }
 }
@@ -17,6 +16,7 @@ pub fn compared(kind: u32) -> bool {
 fn layer_agrees(kind: u32, input: &[u32], output: &[u32]) -> bool {
     match kind {
         16 => replay_splines::dequantize(input, output),
+        17 => replay_splines::curve(input, output),
         18 => replay_layers::walk(input, output),
         19 => replay_layers::transform(input, output),
         20 => replay_layers::segment(input, output),

@@ -3,11 +3,11 @@ use mathlib.Core.Path.{_≡_, refl, sym, subst, ap, _∙_}
 use mathlib.Core.Bool.{Bool, true, false, not, Bool·beq}
 use mathlib.Core.Logic.{⊎-elim}
 use mathlib.Core.List.{List}
-use Prim.Native.Nat.{ℕ, _+_, _*_, _/_, _<_, _≤_}
+use Prim.Native.Nat.{ℕ, _+_, _-_, _*_, _/_, _<_, _≤_}
 use native.Mathlib.Nat.{eq-or-lt-of-le}
 use native.Mathlib.Omega.{arith}
 use lib.IntN.{ℤ}
-use lib.ListN.{length, getD, take}
+use lib.ListN.{length, getD, take, replicate}
 use lib.Seq.{length-take-le}
 use lib.Ieee.{Float}
 use Rattle.dequantize.specs.declared.Given.{Given}
@@ -19,9 +19,13 @@ use Rattle.dequantize.specs.Coefficients.{table}
 use Rattle.dequantize.specs.ControlPoints.{startingPoint}
 use Rattle.dequantize.specs.Dequantize.{dequantizeOf}
 use Rattle.dequantize.proofs.Tables.{length-table}
+use Rattle.numbers.specs.Arith.{f}
+use Rattle.curve.specs.declared.Curved.{Curved}
+use Rattle.curve.specs.declared.Curved.the-variants.{Points}
+use Rattle.curve.specs.Curve.{pathOf, curvedOf, curvedOn}
 use Rattle.stored.proofs.Begun.{no-true}
-use Rattle.stored.specs.Stored.{floatIn, signedIn, longIn}
-use Rattle.replay_splines.specs.Splines.{part, LeadsTo, PointsAgree, PointsFrom, RowsAgree, TakenAgrees, DequantizeAgrees, givenIn, deltasIn, coefficientsIn}
+use Rattle.stored.specs.Stored.{floatIn, signedIn, longIn, Begins}
+use Rattle.replay_splines.specs.Splines.{part, LeadsTo, PointsAgree, PointsFrom, RowsAgree, TakenAgrees, DequantizeAgrees, Sized, PathAgrees, givenIn, deltasIn, coefficientsIn}
 
 pub same-bool : (a b : Bool) → not (Bool·beq a b) ≡ false → a ≡ b
 same-bool true true e = refl
@@ -92,5 +96,20 @@ module _ (input output : List ℕ) where
       subst (λ (k : ℕ). Cased (take (2 * k) (table (signedIn (part 8 (8 + 2 * k) input)) 64)) (table (signedIn (part (8 + 2 * k) (length input) input)) 128)) p
       (subst (λ (v : List ℤ). Cased (take (2 * n) v) (table (signedIn (part (8 + 2 * n) (length input) input)) 128)) q
       (subst (λ (v : List ℤ). Cased (take (2 * n) ds) v) r a))
+
+-- ---- the curve
+
+pub path-agrees : (start : Pair) (ds : List ℤ) (output : List ℕ) {a : Curved} {k : ℕ} {e : List Float} → a ≡ curvedOf 128 (pathOf start ds) → a ≡ Points k → e ≡ curvedOn 128 (pathOf start ds) (replicate 256 (f 0)) → k ≡ length output / 2 → Begins e output → PathAgrees start ds output
+path-agrees start ds output p q on l b = record {
+  count = ap Points (sym l) ∙ sym q ∙ p;
+  path = subst (λ (v : List Float). Begins v output) on b;
+}
+
+-- the double deltas of n control points, among 64 cells
+pub first-deltas : (n : ℕ) (ds : List ℤ) → Sized ds 64 → n ≤ 32 → length (take (2 * (n - 1)) ds) ≡ 2 * (n - 1)
+first-deltas n ds e h = length-take-le (2 * (n - 1)) ds (omega (arith, e .size))
+
+pub one-fewer : (n : ℕ) (ds : List ℤ) → Sized ds 64 → 1 ≤ n → n ≤ 32 → n ≡ length (take (2 * (n - 1)) ds) / 2 + 1
+one-fewer n ds e l h = omega (arith, first-deltas n ds e h)
 
 -- Assumes nothing.

@@ -4,7 +4,7 @@ use mathlib.Core.List.{List}
 use Prim.Native.Nat.{ℕ, _+_, _-_, _*_, _/_, _<_}
 use lib.Dec.{eqb}
 use lib.IntN.{ℤ}
-use lib.ListN.{length, getD, take, drop}
+use lib.ListN.{length, getD, take, drop, replicate}
 use lib.Ieee.{binary32, ofBits, ofInt}
 use Rattle.codes.specs.Codes.{numberOf}
 use Rattle.dequantize.specs.declared.Given.{Given}
@@ -16,6 +16,9 @@ use Rattle.dequantize.specs.declared.control_points.Start.the-variants.{At, Out
 use Rattle.dequantize.specs.declared.control_points.Traced.the-variants.{On}
 use Rattle.dequantize.specs.Coefficients.{table}
 use Rattle.dequantize.specs.ControlPoints.{traceOf}
+use Rattle.numbers.specs.Arith.{f}
+use Rattle.curve.specs.declared.Curved.the-variants.{Points}
+use Rattle.curve.specs.Curve.{pathOf, curvedOf, curvedOn}
 use Rattle.stored.specs.Stored.{floatIn, signedIn, longIn, refusalWord, Begins}
 
 -- the words from a up to b
@@ -63,6 +66,25 @@ pub record TakenAgrees (limit : ℕ) (start : Start) (ds : List ℤ) (s : Spline
 pub record DequantizeAgrees (limit : ℕ) (start : Start) (ds : List ℤ) (s : Spline) (output : List ℕ) : Type 0 where
   pub code : refusalWord (numberOf (s .code)) ≡ getD output 0 0
   pub taken : getD output 0 0 ≡ 0 → TakenAgrees limit start ds s output
+
+-- ---- the curve
+
+-- as many numbers
+pub record Sized (xs : List ℤ) (n : ℕ) : Type 0 where
+  pub size : length xs ≡ n
+
+-- the path in 256 cells: as many points as the words have, and their floats
+pub record PathAgrees (start : Pair) (ds : List ℤ) (output : List ℕ) : Type 0 where
+  pub count : Points (length output / 2) ≡ curvedOf 128 (pathOf start ds)
+  pub path : Begins (curvedOn 128 (pathOf start ds) (replicate 256 (f 0))) output
+
+-- a spline whose control points are those of the case, and its path
+pub record CurveAgrees (points output : List ℕ) : Type 0 where
+  pub start : Pair
+  pub deltas : List ℤ
+  pub size : length points / 2 ≡ length deltas / 2 + 1
+  pub controls : PointsAgree 1099511627776 start deltas points
+  pub path : PathAgrees start deltas output
 
 -- ---- the input
 

@@ -1,12 +1,13 @@
 // One spline of the port against stored answers: whether the answer to a case's input words is its output words.
 ghost use mathlib.Core.Path.{_≡_};
 ghost use mathlib.Core.Bool.{true};
-ghost use Prim.Native.Nat.{_≤_};
+ghost use Prim.Native.Nat.{_+_, _/_, _≤_};
 ghost use lib.ListN.{length};
 ghost use Rattle.dequantize.specs.ControlPoints.{validPointPos, startingPoint};
 ghost use Rattle.dequantize.specs.Dequantize.{dequantizeOf};
 ghost use Rattle.stored.specs.Stored.{floatIn};
-ghost use Rattle.replay_splines.specs.Splines.{IsPoint, LeadsTo, PointsAgree, PointsFrom, RowsAgree, TakenAgrees, DequantizeAgrees, givenIn, deltasIn, coefficientsIn};
+ghost use Rattle.replay_splines.specs.Splines.{IsPoint, LeadsTo, PointsAgree, PointsFrom, RowsAgree, TakenAgrees, DequantizeAgrees, Sized, PathAgrees, CurveAgrees, givenIn, deltasIn, coefficientsIn};
+use curve::Curved;
 use dequantize::Given;
 use dequantize::Spline;
 use dequantize::control_points::Pair;
@@ -187,4 +188,90 @@ pub fn dequantize(input: &[u32], output: &[u32]) -> bool
     let mut coefficients = [0i32; 128];
     stored::signeds(&input[deltas_end..], &mut coefficients);
     is_dequantized_from(input, &deltas[..2 * n], &coefficients, output)
+}
+
+// ---- the curve
+
+// Number i of the double deltas that lead from control point to control point. Nothing is said of it: `points_agree` looks where they lead.
+fn double_delta(points: &[f32], i: usize) -> i32 {
+    if points.len() < 2 {
+        return 0;
+    }
+    if points.len() - 2 <= i {
+        return 0;
+    }
+    let delta = points[i + 2] - points[i];
+    if i < 2 {
+        return numbers::saturating_f32_to_i32(delta);
+    }
+    numbers::saturating_f32_to_i32(delta - (points[i] - points[i - 2]))
+}
+
+fn double_deltas(points: &[f32], out: &mut [i32])
+    ensures { λ _. ⌜ Sized (now (out .exit)) (length (now (out .entry))) ⌝ }
+{
+    let mut i = 0;
+    while i < out.len() {
+        out[i] = double_delta(points, i);
+        i += 1;
+    }
+}
+
+// Whether the path is that of the words.
+fn is_path(start: Pair, deltas: &[i32], output: &[u32]) -> bool
+    requires { ⌜ validPointPos start ≡ true ⌝ }
+    ensures { λ r. ⌜ (r ≡ true → PathAgrees start (now (deltas .entry)) (now (output .entry))) ⌝ }
+{
+    match dequantize::control_points::trace(start, deltas, 1099511627776) {
+        Traced::Stop(_) => false,
+        Traced::On(_) => {
+            let mut path = [0.0f32; 256];
+            match curve::curve(start, deltas, &mut path) {
+                Curved::Room => false,
+                Curved::Points(k) => {
+                    if k != output.len() / 2 {
+                        return false;
+                    }
+                    stored::begin_f32(&path, output)
+                }
+            }
+        }
+    }
+}
+
+fn is_curve_from(start: Pair, deltas: &[i32], points: &[u32], output: &[u32]) -> bool
+    requires { ⌜ (validPointPos start ≡ true) × (length (now points) / 2 ≡ length (now deltas) / 2 + 1) ⌝ }
+    ensures { λ r. ⌜ (r ≡ true → CurveAgrees (now (points .entry)) (now (output .entry))) ⌝ }
+{
+    if !points_agree(start, deltas, 1099511627776, points) {
+        return false;
+    }
+    is_path(start, deltas, output)
+}
+
+fn is_curve(x: f32, y: f32, deltas: &[i32], points: &[u32], output: &[u32]) -> bool
+    requires { ⌜ length (now points) / 2 ≡ length (now deltas) / 2 + 1 ⌝ }
+    ensures { λ r. ⌜ (r ≡ true → CurveAgrees (now (points .entry)) (now (output .entry))) ⌝ }
+{
+    match dequantize::control_points::starting_point(x, y) {
+        Start::Out => false,
+        Start::At(start) => is_curve_from(start, deltas, points, output),
+    }
+}
+
+pub fn curve(input: &[u32], output: &[u32]) -> bool
+    ensures { λ r. ⌜ (r ≡ true → CurveAgrees (now (input .entry)) (now (output .entry))) ⌝ }
+{
+    let n = input.len() / 2;
+    if n < 1 {
+        return false;
+    }
+    if 32 < n {
+        return false;
+    }
+    let mut points = [0.0f32; 64];
+    stored::floats(input, &mut points);
+    let mut deltas = [0i32; 64];
+    double_deltas(&points, &mut deltas);
+    is_curve(points[0], points[1], &deltas[..2 * (n - 1)], input, output)
 }

@@ -1,7 +1,6 @@
 -- What was answered decides.
 use Rattle.replay_build.proofs.Building.{answer-agrees}
 use borrow.Author.Needs.{needs}
-use Rattle.stored.proofs.Begun.{no-true}
 use Rattle.replay_build.proofs.is_answer.Statement.{statement}
 use Rattle.replay_build.proofs.is_answer.Tie as tie
 

@@ -5,7 +5,6 @@ use mir.Facts.{toZ-ofZ}
 use Rattle.dequantize.specs.Judge.{descriptionOf}
 use Rattle.replay_build.proofs.Building.{image-is, built-agrees}
 use borrow.Author.Needs.{needs}
-use Rattle.stored.proofs.Begun.{no-true}
 use Rattle.replay_build.proofs.is_built.Statement.{statement}
 use Rattle.replay_build.proofs.is_built.Tie as tie
 

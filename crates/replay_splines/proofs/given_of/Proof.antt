@@ -4,7 +4,6 @@ use mir.Syntax.{w32}
 use mir.Facts.{toZ-ofZ}
 use Rattle.replay_splines.proofs.Agreeing.{given-is}
 use borrow.Author.Needs.{needs}
-use Rattle.stored.proofs.Begun.{no-true}
 use Rattle.replay_splines.proofs.given_of.Statement.{statement}
 use Rattle.replay_splines.proofs.given_of.Tie as tie
 

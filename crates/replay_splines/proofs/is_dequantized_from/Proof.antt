@@ -1,7 +1,6 @@
 -- The numbers are those of the words.
 use Rattle.replay_splines.proofs.Agreeing.{numbers-agree}
 use borrow.Author.Needs.{needs}
-use Rattle.stored.proofs.Begun.{no-true}
 use Rattle.replay_splines.proofs.is_dequantized_from.Statement.{statement}
 use Rattle.replay_splines.proofs.is_dequantized_from.Tie as tie
 
