@@ -61,8 +61,8 @@ pub fn compare_walk(tally: &mut Tally) {
     }
 }
 
-/// A path of any floats: small moves, none, far ones, NaN.
-fn hostile_path(seed: u64) -> Vec<Point> {
+/// A path of any floats: small moves, none, far ones, infinities, NaN.
+pub fn hostile_path(seed: u64) -> Vec<Point> {
     let r = &mut Random::new("path", seed);
     let tame = r.once_in(2);
     let mut at = [r.between(-9.0, 9.0), r.between(-9.0, 9.0)];

@@ -6,6 +6,7 @@ use crate::lent::Lent;
 use crate::tally::Tally;
 use cases::bits;
 use cases::random::Random;
+use compare::curve::hostile_path;
 use oracle::Outcome;
 
 pub const WALKS: u64 = 50_000;
@@ -37,7 +38,7 @@ pub fn compare(tally: &mut Tally) {
                 let control = curve::control("fibres", seed);
                 oracle::curve(&control.points()).done().unwrap_or_default()
             }
-            "hostile" => hostile(seed),
+            "hostile" => hostile_path(seed),
             "near 2^23" => near(kind, seed, 8388608.0),
             _ => near(kind, seed, 16777216.0),
         };
@@ -45,25 +46,6 @@ pub fn compare(tally: &mut Tally) {
         walks(tally, &path);
     }
     greatest(tally);
-}
-
-/// Any floats: small moves, none, far ones, infinities, NaN.
-fn hostile(seed: u64) -> Path {
-    let r = &mut Random::new("path", seed);
-    let tame = r.once_in(2);
-    let mut at = [r.between(-9.0, 9.0), r.between(-9.0, 9.0)];
-    let mut path = vec![at];
-    for _ in 0..r.below(6) {
-        for cell in &mut at {
-            *cell += if tame {
-                r.pick(&[0.0, 0.25, 0.5, 0.75, 1.0, -1.5, 0.3])
-            } else {
-                r.any_f32()
-            };
-        }
-        path.push(at);
-    }
-    path
 }
 
 /// Short moves around a great number of either sign, where a step may round away.
