@@ -19,7 +19,7 @@ use Rattle.numbers.specs.Magnitude.{absOf, signOf, withSign}
 use Rattle.numbers.specs.Erf.{erfCore, fastErff}
 use Rattle.numbers.proofs.Zero.{yes, no, null, under, not-under}
 use Rattle.numbers.proofs.Signs.{abs-minus}
-use Rattle.shade.specs.Shade.{Nulls, Alike}
+use Rattle.shade.specs.Alike.{Nulls, Alike}
 
 -- ---- signs
 sign-odd : (d : ℕ) (s : Bool) (q k l : ℕ) → signOf (odd d s q k l) ≡ s

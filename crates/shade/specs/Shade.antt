@@ -1,11 +1,8 @@
 -- `draw_segment_inner`: what one segment adds at one pixel, operation by operation. Definitions only.
 -- A multiply-add is a rounded product, then a rounded sum. The numbers are f32 patterns: 0.5 and 0.353_553_38.
-use mathlib.Core.Path.{_≡_}
-use mathlib.Core.Bool.{Bool}
-use mathlib.Core.Logic.{_⊎_}
 use Prim.Native.Nat.{ℕ, zero, suc}
 use lib.IntN.{pos}
-use lib.Ieee.{Float, fin, binary32, ofInt, neg}
+use lib.Ieee.{Float, binary32, ofInt, neg}
 use Rattle.numbers.specs.Arith.{f, _⊕_, _⊖_, _⊗_}
 use Rattle.numbers.specs.Root.{sqrtOf}
 use Rattle.numbers.specs.Erf.{fastErff}
@@ -21,17 +18,6 @@ abbrev pub dy2 : Float → ℕ → Float
 dy2 centerY y =
     let dy = ofInt binary32 (pos y) ⊖ centerY in
     dy ⊗ dy
-
--- zeros, of whatever signs
-pub record Nulls (a b : Float) : Type 0 where
-  pub sign : Bool
-  pub other : Bool
-  pub first : a ≡ fin sign 0 (pos 0)
-  pub second : b ≡ fin other 0 (pos 0)
-
--- equal, but that of a zero the sign may differ
-abbrev pub Alike : Float → Float → Type 0
-Alike a b = (a ≡ b) ⊎ Nulls a b
 
 -- the local intensity by the distance from the centre
 unfoldable pub intensityAt : Segment → Float → Float

@@ -8,8 +8,9 @@ ghost use lib.IntN.{pos};
 ghost use lib.Ieee.{nan, neg, binary32, ofInt};
 ghost use Rattle.numbers.specs.Root.{sqrtOf};
 ghost use Rattle.numbers.specs.Erf.{erfCore, fastErff};
+ghost use Rattle.shade.specs.Alike.{Alike};
 ghost use Rattle.shade.specs.Edit.{edit, below};
-ghost use Rattle.shade.specs.Shade.{sqd, Alike, intensityAt, addedAt, added, shaded};
+ghost use Rattle.shade.specs.Shade.{sqd, intensityAt, addedAt, added, shaded};
 use segments::Segment;
 
 // A row or a column as a float, by way of a signed number, for which the machine has a vector instruction.
