@@ -36,6 +36,20 @@ pub struct Given {
     pub level10: bool,
 }
 
+impl Given {
+    /// The usual ones: X gains nothing of Y, B gains all of it; the lesser precision and area limit.
+    pub const fn of(width: u32, height: u32) -> Given {
+        Given {
+            width,
+            height,
+            y_to_x: 0.0,
+            y_to_b: 1.0,
+            high_precision: false,
+            level10: false,
+        }
+    }
+}
+
 /// Centre x and y, distance, 1/sigma, 0.25·sigma·multiplier, three colours.
 pub type Segment = [f32; 8];
 

@@ -2,7 +2,7 @@
 
 use cases::descriptions::push;
 use cases::random::Random;
-use cases::{Description, Given};
+use cases::Description;
 
 pub const WIDTH: u32 = 640;
 pub const HEIGHT: u32 = 400;
@@ -12,16 +12,6 @@ const ADJUSTMENT: i32 = 24;
 /// How far outside the picture a fibre begins and ends.
 const MARGIN: f64 = 24.0;
 const FIBRES: usize = 18;
-
-/// What a build is given for this sample: no colour but that of the fibres, so B goes with Y.
-pub const GIVEN: Given = Given {
-    width: WIDTH,
-    height: HEIGHT,
-    y_to_x: 0.0,
-    y_to_b: 1.0,
-    high_precision: false,
-    level10: false,
-};
 
 type Pair = (f64, f64);
 

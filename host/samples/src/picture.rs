@@ -1,14 +1,15 @@
 //! The sample drawn on black by spline.rs, as the program `gauge` writes pictures.
 
+use crate::judged::Size;
 use cases::Table;
 use oracle::Outcome;
 
 /// Every row's channels X, Y and B, top row first.
-pub fn rows(table: &Table, width: u32, height: u32) -> Result<Vec<[Vec<f32>; 3]>, String> {
+pub fn rows(table: &Table, size: Size) -> Result<Vec<[Vec<f32>; 3]>, String> {
     let loaded = oracle::load(table);
     let mut rows = Vec::new();
-    for y in 0..height {
-        let mut row = [(); 3].map(|()| vec![0.0; width as usize]);
+    for y in 0..size.height {
+        let mut row = [(); 3].map(|()| vec![0.0; size.width as usize]);
         let [r0, r1, r2] = &mut row;
         match loaded.draw(y, 0, [r0, r1, r2]) {
             Outcome::Done(()) => rows.push(row),
@@ -24,9 +25,9 @@ fn tone(v: f32) -> u8 {
 }
 
 /// A preview: red is Y + X, green Y - X, blue B.
-pub fn ppm(table: &Table, width: u32, height: u32) -> Result<Vec<u8>, String> {
-    let mut bytes = format!("P6\n{width} {height}\n255\n").into_bytes();
-    for [xs, ys, bs] in rows(table, width, height)? {
+pub fn ppm(table: &Table, size: Size) -> Result<Vec<u8>, String> {
+    let mut bytes = format!("P6\n{} {}\n255\n", size.width, size.height).into_bytes();
+    for [xs, ys, bs] in rows(table, size)? {
         for ((x, y), b) in xs.into_iter().zip(ys).zip(bs) {
             bytes.extend([tone(y + x), tone(y - x), tone(b)]);
         }
@@ -35,9 +36,9 @@ pub fn ppm(table: &Table, width: u32, height: u32) -> Result<Vec<u8>, String> {
 }
 
 /// The floats as they are, X, Y and B of a pixel together; a PFM's bottom row comes first.
-pub fn pfm(table: &Table, width: u32, height: u32) -> Result<Vec<u8>, String> {
-    let mut bytes = format!("PF\n{width} {height}\n-1.0\n").into_bytes();
-    for [xs, ys, bs] in rows(table, width, height)?.into_iter().rev() {
+pub fn pfm(table: &Table, size: Size) -> Result<Vec<u8>, String> {
+    let mut bytes = format!("PF\n{} {}\n-1.0\n", size.width, size.height).into_bytes();
+    for [xs, ys, bs] in rows(table, size)?.into_iter().rev() {
         for ((x, y), b) in xs.into_iter().zip(ys).zip(bs) {
             bytes.extend([x, y, b].into_iter().flat_map(f32::to_le_bytes));
         }

@@ -1,50 +1,69 @@
 //! What the example programs and `gauge` have to say of the sample, made of what spline.rs and the second reading answer.
 
-use crate::fibres::{HEIGHT, WIDTH};
+use crate::judged::{Judged, Size};
 use crate::picture;
+use crate::FILE;
 use cases::{Description, FlatTable, Table};
 
 /// One update for each segment at each pixel, by the second reading.
-fn updates(table: &Table) -> Result<u64, String> {
+fn updates(table: &Table, size: Size) -> Result<u64, String> {
     let flat = FlatTable::from(table);
-    let mut row = [(); 3].map(|()| vec![0.0; WIDTH as usize]);
+    let mut row = [(); 3].map(|()| vec![0.0; size.width as usize]);
     let mut updates = 0;
-    for y in 0..HEIGHT {
+    for y in 0..size.height {
         let [r0, r1, r2] = &mut row;
-        updates += model::draw(&flat, y, 0, WIDTH, [r0, r1, r2])
+        updates += model::draw(&flat, y, 0, size.width, [r0, r1, r2])
             .map_err(|refusal| format!("row {y} is refused: {refusal:?}"))?;
     }
     Ok(updates)
 }
 
+fn built(table: &Table) -> String {
+    format!(
+        "{} segments, {} entries, estimate {}",
+        table.segments.len(),
+        table.entries.len(),
+        table.estimate
+    )
+}
+
+/// How many splines and points, and the adjustment.
+fn counts(description: &Description) -> String {
+    format!(
+        "{} splines, {} points, adjustment {}",
+        description.counts.len(),
+        description.deltas.len() / 2,
+        description.adjustment
+    )
+}
+
+/// What making and checking the sample tell of it.
+pub fn sample(judged: &Judged) -> String {
+    format!(
+        "{FILE}: {} values, {}; {}\n",
+        judged.list.len(),
+        counts(&judged.description),
+        built(&judged.table)
+    )
+}
+
 /// examples/fibres.c and examples/fibres.rs.
-pub fn examples(description: &Description, table: &Table) -> Result<String, String> {
-    let rows = picture::rows(table, WIDTH, HEIGHT)?;
+pub fn examples(judged: &Judged, size: Size) -> Result<String, String> {
+    let rows = picture::rows(&judged.table, size)?;
     let brightest = rows.iter().flat_map(|[_, y, _]| y);
     let brightest = brightest.fold(0.0f32, |most, &y| most.max(y));
     Ok(format!(
-        "read: {} splines, {} points, adjustment {}\n\
-         build: {} segments, {} entries, estimate {}\n\
-         draw: {} updates, the brightest Y is {brightest:.3}\n",
-        description.counts.len(),
-        description.deltas.len() / 2,
-        description.adjustment,
-        table.segments.len(),
-        table.entries.len(),
-        table.estimate,
-        updates(table)?
+        "read: {}\nbuild: {}\ndraw: {} updates, the brightest Y is {brightest:.3}\n",
+        counts(&judged.description),
+        built(&judged.table),
+        updates(&judged.table, size)?
     ))
 }
 
 /// `gauge read`.
-pub fn read(description: &Description, list: &[u32]) -> String {
-    let mut text = format!(
-        "{} values: {} splines, {} points, adjustment {}\n",
-        list.len(),
-        description.counts.len(),
-        description.deltas.len() / 2,
-        description.adjustment
-    );
+pub fn read(judged: &Judged) -> String {
+    let description = &judged.description;
+    let mut text = format!("{} values: {}\n", judged.list.len(), counts(description));
     let splines = description.starts.chunks(2).zip(&description.counts);
     for (k, (start, points)) in splines.enumerate() {
         text += &format!(
@@ -53,4 +72,31 @@ pub fn read(description: &Description, list: &[u32]) -> String {
         );
     }
     text
+}
+
+/// `gauge rows`: the entries by the table of spline.rs, the reach of them by the second reading, since the Rust has none.
+pub fn rows(judged: &Judged, size: Size) -> Result<String, String> {
+    let flat = FlatTable::from(&judged.table);
+    let mut text = built(&judged.table) + "\n";
+    for (y, entries) in (0..).zip(held(&judged.table)).filter(|&(_, held)| held > 0) {
+        let (first, past) = model::reach(&flat, y, size.width)
+            .map_err(|refusal| format!("the reach of row {y} is refused: {refusal:?}"))?;
+        text += &format!("row {y}: {entries} entries, columns from {first} up to {past}\n");
+    }
+    Ok(text)
+}
+
+/// `gauge draw`.
+pub fn draw(judged: &Judged, size: Size) -> Result<String, String> {
+    let rows = held(&judged.table).filter(|&held| held > 0).count();
+    Ok(format!(
+        "{}\n{} updates, {rows} rows that hold anything\n",
+        built(&judged.table),
+        updates(&judged.table, size)?
+    ))
+}
+
+/// How many entries each row has.
+fn held(table: &Table) -> impl Iterator<Item = u32> + '_ {
+    table.row_starts.windows(2).map(|ends| ends[1] - ends[0])
 }

@@ -1,0 +1,54 @@
+//! The sample as spline.rs takes it, for an image of some size.
+
+use crate::fibres;
+use cases::{Description, Given, Table};
+use oracle::Outcome;
+
+/// The usual configured limit.
+const CONFIGURED: u32 = 1 << 20;
+
+#[derive(Clone, Copy)]
+pub struct Size {
+    pub width: u32,
+    pub height: u32,
+}
+
+/// The size that the sample was made for.
+pub const WHOLE: Size = Size {
+    width: fibres::WIDTH,
+    height: fibres::HEIGHT,
+};
+
+impl Size {
+    fn pixels(self) -> u32 {
+        self.width.saturating_mul(self.height)
+    }
+}
+
+pub struct Judged {
+    pub description: Description,
+    pub list: Vec<u32>,
+    pub table: Table,
+}
+
+/// Writes the fibres as a list, has spline.rs read it back, which must give the same description, and build its table.
+pub fn judged(size: Size) -> Result<Judged, String> {
+    let description = fibres::fibres();
+    let list = model::list::write(&description, CONFIGURED, size.pixels(), u64::MAX)
+        .map_err(|refusal| format!("the fibres cannot be written as a list: {refusal:?}"))?;
+    let read = oracle::read(&list, CONFIGURED, size.pixels());
+    if read.outcome != Outcome::Done(description.clone()) || read.consumed != list.len() {
+        return Err(String::from("spline.rs does not read the fibres back"));
+    }
+    match oracle::build(&description, &Given::of(size.width, size.height)) {
+        Outcome::Done(built) => Ok(Judged {
+            description,
+            list,
+            table: built.table,
+        }),
+        other => Err(format!(
+            "spline.rs does not build the fibres: {:?}",
+            other.map(|_| ())
+        )),
+    }
+}
