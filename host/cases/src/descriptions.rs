@@ -117,6 +117,15 @@ pub fn push(
     description.coefficients.extend(coefficients);
 }
 
+/// One spline, all coefficients 0 but the first of sigma.
+pub fn one_spline(start: [f32; 2], deltas: &[i32], sigma: i32) -> Description {
+    let mut coefficients = [0; 128];
+    coefficients[96] = sigma;
+    let mut description = Description::default();
+    push(&mut description, start.into(), deltas, &coefficients);
+    description
+}
+
 /// A steady colour and a steady, positive sigma, with little change along the spline.
 fn ordinary_coefficients(r: &mut Random) -> Vec<i32> {
     let mut values = vec![0; 128];

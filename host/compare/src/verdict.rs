@@ -1,8 +1,10 @@
 //! How an answer of the model and an outcome of spline.rs are held against each other.
 
 use cases::{bits, Code};
-use oracle::{Outcome, Why};
+use oracle::Outcome;
 use std::fmt::Debug;
+
+pub use oracle::code_of;
 
 /// What one case came to.
 pub enum Verdict {
@@ -56,20 +58,6 @@ pub fn no_equality(code: Code) -> bool {
         code,
         Short | Trail | Room | Size | Shape | Table | Row | Span
     )
-}
-
-/// The code that an error of spline.rs stands for.
-pub fn code_of(why: Why) -> Code {
-    match why {
-        Why::SplinesTooMany => Code::Splines,
-        Why::SplinesCoordinatesLimit => Code::Coord,
-        Why::SplinesTooManyControlPoints => Code::Points,
-        Why::SplinesDeltaLimit => Code::Delta,
-        Why::SplinesPointOutOfRange => Code::Position,
-        Why::SplinesDistanceTooLarge => Code::Distance,
-        Why::SplinesAreaTooLarge => Code::Area,
-        Why::SplineAdjacentCoincidingControlPoints => Code::Coincide,
-    }
 }
 
 /// The same numbers, any NaN counting as NaN.

@@ -12,7 +12,7 @@ mod stubs;
 use stubs::{api, bit_reader, entropy_coding, error, frame, util};
 
 pub use cases::{Description, FlatTable, Given, Segment, Table};
-pub use outcome::{Outcome, Why};
+pub use outcome::{code_of, Outcome, Why};
 pub use stubs::logarithm::set_ln;
 pub use stubs::memory::{set_memory, DEFAULT_MEMORY};
 

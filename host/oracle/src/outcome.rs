@@ -2,6 +2,7 @@
 
 use crate::error::Error;
 use crate::stubs::memory::{self, OutOfMemory};
+use cases::Code;
 use std::any::Any;
 use std::cell::Cell;
 use std::panic::{self, AssertUnwindSafe};
@@ -29,6 +30,20 @@ pub enum Why {
     SplinesDistanceTooLarge,
     SplinesAreaTooLarge,
     SplineAdjacentCoincidingControlPoints,
+}
+
+/// The code of document 01 that an error of spline.rs stands for.
+pub fn code_of(why: Why) -> Code {
+    match why {
+        Why::SplinesTooMany => Code::Splines,
+        Why::SplinesCoordinatesLimit => Code::Coord,
+        Why::SplinesTooManyControlPoints => Code::Points,
+        Why::SplinesDeltaLimit => Code::Delta,
+        Why::SplinesPointOutOfRange => Code::Position,
+        Why::SplinesDistanceTooLarge => Code::Distance,
+        Why::SplinesAreaTooLarge => Code::Area,
+        Why::SplineAdjacentCoincidingControlPoints => Code::Coincide,
+    }
 }
 
 impl<T> Outcome<T> {

@@ -16,7 +16,7 @@ fn answer(case: &ListCase, read: &Read) -> Vec<u32> {
         _ if read.ran_short => refused(Code::Short, length),
         Outcome::Done(_) if taken < length => refused(Code::Trail, taken),
         Outcome::Done(description) => [vec![0, 0], words::description(description)].concat(),
-        Outcome::Refused(why) => match words::code_of(*why) {
+        Outcome::Refused(why) => match oracle::code_of(*why) {
             code @ (Code::Splines | Code::Points) => refused(code, taken - 1),
             code => refused(code, taken - 2),
         },

@@ -95,7 +95,7 @@ pub fn cases(seeds: u64) -> Vec<Case> {
         let output = match &outcome {
             Outcome::Done(spline) if spline.points.len() > MOST_POINTS => continue,
             Outcome::Done(spline) => dequantized(spline),
-            Outcome::Refused(why) => vec![words::code_of(*why) as u32],
+            Outcome::Refused(why) => vec![oracle::code_of(*why) as u32],
             Outcome::Panicked(_) | Outcome::NoMemory => continue,
         };
         dequantizes.push(Case {

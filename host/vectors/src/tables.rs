@@ -30,7 +30,7 @@ fn build(case: &BuildCase) -> Option<Case> {
         }
         Outcome::Refused(why) => {
             let place = oracle::refused_spline(description, given).expect("a refused spline");
-            vec![words::code_of(why) as u32, place as u32]
+            vec![oracle::code_of(why) as u32, place as u32]
         }
         Outcome::Panicked(_) | Outcome::NoMemory => return None,
     };

@@ -1,7 +1,6 @@
 //! Numbers as words of a case.
 
-use cases::{bits, Code, Description, Given};
-use oracle::Why;
+use cases::{bits, Description, Given};
 
 pub fn floats(numbers: &[f32]) -> Vec<u32> {
     numbers.iter().map(|&x| bits(x)).collect()
@@ -41,17 +40,4 @@ pub fn given(given: &Given) -> Vec<u32> {
         given.high_precision.into(),
         given.level10.into(),
     ]
-}
-
-pub fn code_of(why: Why) -> Code {
-    match why {
-        Why::SplinesTooMany => Code::Splines,
-        Why::SplinesCoordinatesLimit => Code::Coord,
-        Why::SplinesTooManyControlPoints => Code::Points,
-        Why::SplinesDeltaLimit => Code::Delta,
-        Why::SplinesPointOutOfRange => Code::Position,
-        Why::SplinesDistanceTooLarge => Code::Distance,
-        Why::SplinesAreaTooLarge => Code::Area,
-        Why::SplineAdjacentCoincidingControlPoints => Code::Coincide,
-    }
 }

@@ -2,6 +2,7 @@
 //! inputs and counts. Seeds are fixed; every line is a finding. Exits 1 if a finding is not what the page says.
 
 use cases::bits;
+use cases::descriptions::one_spline;
 use cases::random::Random;
 use oracle::{Built, Description, Given, Outcome, Table, Why};
 use std::process::ExitCode;
@@ -36,33 +37,10 @@ fn finding(text: String, known: bool) -> bool {
     known
 }
 
-/// One spline, all coefficients 0 but the first of sigma.
-fn one_spline(start: [f32; 2], deltas: &[i32], sigma: i32) -> Description {
-    let mut coefficients = vec![0; 128];
-    coefficients[96] = sigma;
-    Description {
-        counts: vec![deltas.len() as u32 / 2],
-        starts: start.to_vec(),
-        deltas: deltas.to_vec(),
-        coefficients,
-        adjustment: 0,
-    }
-}
-
-fn image(width: u32, height: u32) -> Given {
-    Given {
-        width,
-        height,
-        y_to_x: 0.0,
-        y_to_b: 1.0,
-        high_precision: false,
-        level10: false,
-    }
-}
-
 /// A start that is no i32 after rounding is an unwrapped None.
 fn panics() -> bool {
-    let outcome = |x: f32| oracle::build(&one_spline([x, 0.0], &[], 0), &image(1, 1)).map(|_| ());
+    let outcome =
+        |x: f32| oracle::build(&one_spline([x, 0.0], &[], 0), &Given::of(1, 1)).map(|_| ());
     let panicked = |x: f32| matches!(outcome(x), Outcome::Panicked(_));
     let mut known = true;
     for (x, expected) in [
@@ -115,7 +93,7 @@ fn is_i32(x: f32) -> bool {
 
 /// The entries of an image one row high, and those that are stored for rows below it.
 fn rows_below() -> bool {
-    let built = oracle::build(&one_spline([0.0, 0.0], &[1, 0], 1), &image(1, 1)).done();
+    let built = oracle::build(&one_spline([0.0, 0.0], &[1, 0], 1), &Given::of(1, 1)).done();
     let (segments, entries, below) = built.map_or((0, 0, 0), |b| {
         (b.table.segments.len(), b.table.entries.len(), b.below)
     });
@@ -141,11 +119,11 @@ fn same_table(a: &Table, b: &Table) -> bool {
 /// What stands after a second, failing `initialize_draw_cache` on the same `Splines`.
 fn old_table() -> bool {
     let first = one_spline([0.0, 0.0], &[1, 0], 1);
-    let Outcome::Done(Built { table: old, .. }) = oracle::build(&first, &image(1, 1)) else {
+    let Outcome::Done(Built { table: old, .. }) = oracle::build(&first, &Given::of(1, 1)) else {
         return finding(String::from("the first build fails"), false);
     };
     let kept = |what: &str, second: Description, why: Why| {
-        let Ok((outcome, stands)) = oracle::rebuild(&first, &second, &image(1, 1)) else {
+        let Ok((outcome, stands)) = oracle::rebuild(&first, &second, &Given::of(1, 1)) else {
             return finding(format!("{what}: the first build fails"), false);
         };
         let kept = same_table(&stands.table, &old);
@@ -190,7 +168,11 @@ fn to_and_fro(stride: i32, steps: usize) -> Vec<i32> {
 /// A table half made: the segments are the new ones, the rest is the old.
 fn without_memory(first: &Description, old: &Table) -> bool {
     oracle::set_memory(1 << 16);
-    let rebuilt = oracle::rebuild(first, &one_spline([0.0; 2], &[10, 0], 1000), &image(1, 1));
+    let rebuilt = oracle::rebuild(
+        first,
+        &one_spline([0.0; 2], &[10, 0], 1000),
+        &Given::of(1, 1),
+    );
     oracle::set_memory(oracle::DEFAULT_MEMORY);
     let Ok((outcome, Built { table, .. })) = rebuilt else {
         return finding(String::from("without memory: the first build fails"), false);

@@ -1,5 +1,6 @@
 //! The judge judged: document 01's readings that concern spline.rs, one line each; exits 1 if one does not hold.
 
+use cases::descriptions::one_spline;
 use oracle::{Description, Given, Outcome, Rows, Segment, Table, Why};
 use std::fmt::Debug;
 use std::hint::black_box;
@@ -214,32 +215,8 @@ fn refused_lists(readings: &mut Readings) {
     }
 }
 
-/// One spline, all coefficients 0 but the first of sigma.
-fn one_spline(start: [f32; 2], deltas: &[i32], sigma: i32) -> Description {
-    let mut coefficients = vec![0; 128];
-    coefficients[96] = sigma;
-    Description {
-        counts: vec![deltas.len() as u32 / 2],
-        starts: start.to_vec(),
-        deltas: deltas.to_vec(),
-        coefficients,
-        adjustment: 0,
-    }
-}
-
-fn image(width: u32, height: u32) -> Given {
-    Given {
-        width,
-        height,
-        y_to_x: 0.0,
-        y_to_b: 1.0,
-        high_precision: false,
-        level10: false,
-    }
-}
-
 fn build(start: [f32; 2], deltas: &[i32], sigma: i32) -> Outcome<()> {
-    oracle::build(&one_spline(start, deltas, sigma), &image(64, 64)).map(|_| ())
+    oracle::build(&one_spline(start, deltas, sigma), &Given::of(64, 64)).map(|_| ())
 }
 
 fn positions(readings: &mut Readings) {
@@ -288,7 +265,7 @@ fn coinciding(readings: &mut Readings) {
     second.starts.extend([0.0, 0.0]);
     second.deltas.extend([1, 0, -1, 0]);
     second.coefficients.extend([0; 128]);
-    let number = oracle::refused_spline(&second, &image(64, 64));
+    let number = oracle::refused_spline(&second, &Given::of(64, 64));
     readings.check("the refused spline is found again", number, Some(1));
 }
 
@@ -440,7 +417,7 @@ fn columns(readings: &mut Readings) {
 }
 
 fn tables(readings: &mut Readings) {
-    let built = oracle::build(&one_spline([3.0, 3.0], &[1, 0], 10), &image(64, 64));
+    let built = oracle::build(&one_spline([3.0, 3.0], &[1, 0], 10), &Given::of(64, 64));
     let table = built.done().map(|built| built.table).unwrap_or_default();
     readings.check(
         "a spline of length 1 has 3 segments",
@@ -468,7 +445,7 @@ fn without_memory(readings: &mut Readings) {
     let broad = one_spline([0.0, 0.0], &[1000, 0], 60_000);
     let given = Given {
         level10: true,
-        ..image(1 << 23, 1 << 23)
+        ..Given::of(1 << 23, 1 << 23)
     };
     let built = oracle::build(&broad, &given).map(|_| ());
     readings.check(
