@@ -1,12 +1,15 @@
 -- What the exported layers return and leave: a layer's outcome as numbers and slices. Definitions only.
+use mathlib.Core.Path.{_≡_}
 use mathlib.Core.Bool.{Bool, true, false}
 use mathlib.Core.List.{List, [], _∷_}
-use Prim.Native.Nat.{ℕ}
+use Prim.Native.Nat.{ℕ, _/_}
+use lib.Dec.{leb}
 use lib.IntN.{ℤ, pos}
-use lib.ListN.{replicate}
+use lib.ListN.{length, replicate}
 use lib.Ieee.{Float, binary32, ofBits}
 use Rattle.codes.specs.Codes.{numberOf}
-use Rattle.codes.specs.declared.Code.the-variants.{Done, Position}
+use Rattle.codes.specs.declared.Code.{Code}
+use Rattle.codes.specs.declared.Code.the-variants.{Done, Room, Shape, Position}
 use Rattle.dequantize.specs.declared.Given.{Given}
 use Rattle.dequantize.specs.declared.Spline.{Spline}
 use Rattle.dequantize.specs.declared.control_points.Pair.{Pair}
@@ -15,19 +18,25 @@ use Rattle.dequantize.specs.declared.control_points.Start.{Start}
 use Rattle.dequantize.specs.declared.control_points.Start.the-variants.{At, Out}
 use Rattle.dequantize.specs.declared.control_points.Traced.{Traced}
 use Rattle.dequantize.specs.declared.control_points.Traced.the-variants.{On, Stop}
+use Rattle.dequantize.specs.Judge.{Description, judgeOf}
 use Rattle.dequantize.specs.declared.judge.Judged.{Judged}
 use Rattle.dequantize.specs.declared.judge.Judged.the-variants.{Fine, Refused}
+use Rattle.curve.specs.Curve.{pathOf, pathRoom, curvedOf, curvedOn}
 use Rattle.curve.specs.declared.Curved.{Curved}
 use Rattle.curve.specs.declared.Curved.the-variants as path
+use Rattle.walk.specs.Walk.{Walk, walkedOf, WalkedOn, lengthOf}
 use Rattle.walk.specs.declared.Walked.{Walked}
 use Rattle.walk.specs.declared.Walked.the-variants as walk
 use Rattle.transform.specs.declared.Sums.{Sums}
+use Rattle.points.specs.Points.{pick, filledOf}
 use Rattle.points.specs.declared.Filled.{Filled}
 use Rattle.points.specs.declared.Filled.the-variants as filled
 use Rattle.segments.specs.Segment.{eightOf}
 use Rattle.segments.specs.declared.Added.{Added}
 use Rattle.segments.specs.declared.Added.the-variants.{Made, Nothing}
 use Rattle.segments.specs.declared.Range.{Range}
+use Rattle.segments.specs.declared.Segment.{Segment}
+use Rattle.table.specs.Table.{shaped, orRefused}
 use Rattle.layers.specs.declared.Ran.{Ran}
 use Rattle.layers.specs.declared.Told.{Told}
 use Rattle.layers.specs.declared.Eight.{Eight}
@@ -68,6 +77,10 @@ dequantizedLeaves r x y b sigma estimate coincide =
 abbrev pub dequantizedExport : Spline → DequantizedExport
 dequantizedExport s = dequantizedLeaves (numberOf (s .code)) (s .x) (s .y) (s .b) (s .sigma) (s .estimate) (s .coincide)
 
+-- SHAPE, then all splines
+abbrev pub judgedOf : Description → Given → Judged
+judgedOf d g = orRefused (shaped d) Shape (judgeOf d g)
+
 -- a judging's number, place and summed estimate
 abbrev pub judgedLeaves : ℕ → ℕ → ℕ → Told
 judgedLeaves number place estimate = record { number = number; place = place; estimate = estimate }
@@ -78,17 +91,67 @@ toldJudged (Refused code k) = judgedLeaves (numberOf code) k 0
 
 -- ---- the curve and the walk
 
-abbrev pub pairOf : ℤ → ℤ → Pair
-pairOf x y = record { x = x; y = y }
+-- the code's number, and how many records a buffer holds
+abbrev pub countedLeaves : ℕ → ℕ → Counted
+countedLeaves number count = record { number = number; count = count }
 
--- how many points, or 0 where there is no room
-abbrev pub pathCount : Curved → ℕ
-pathCount (path.Points n) = n
-pathCount path.Room = 0
+abbrev pub refusedWith : Code → Counted
+refusedWith code = countedLeaves (numberOf code) 0
 
-abbrev pub walkCount : Walked → ℕ
-walkCount (walk.Points n) = n
-walkCount walk.Room = 0
+abbrev pub countedPath : Curved → Counted
+countedPath (path.Points n) = countedLeaves 0 n
+countedPath path.Room = refusedWith Room
+
+-- the answer and the path's buffer
+pub record PathExport : Type 0 where
+  pub counted : Counted
+  pub path : List Float
+
+abbrev pub pathLeaves : Counted → List Float → PathExport
+pathLeaves counted path = record { counted = counted; path = path }
+
+-- o is the buffer before, which a refusal keeps
+abbrev pub tracedPath : Traced → Pair → List ℤ → List Float → PathExport
+tracedPath (Stop code) start ds o = pathLeaves (refusedWith code) o
+tracedPath (On run) start ds o = pathLeaves (countedPath (curvedOf (pathRoom (length o)) (pathOf start ds))) (curvedOn (pathRoom (length o)) (pathOf start ds) o)
+
+-- the greatest 64-bit number stands for no limit: it takes 2^40 double deltas to pass it
+unfoldable pub pathFrom : Pair → List ℤ → List Float → PathExport
+pathFrom start ds o = tracedPath (traceOf 18446744073709551615 start ds) start ds o
+
+abbrev pub curvedFrom : Start → List ℤ → List Float → PathExport
+curvedFrom Out ds o = pathLeaves (refusedWith Position) o
+curvedFrom (At start) ds o = pathFrom start ds o
+
+abbrev pub countedWalk : Walked → Counted
+countedWalk (walk.Points n) = countedLeaves 0 n
+countedWalk walk.Room = refusedWith Room
+
+-- whether the path has a point, and what is walked of it
+abbrev pub walkedAlong : Bool → Walk → Counted
+walkedAlong false w = refusedWith Shape
+walkedAlong true w = countedWalk (walkedOf w)
+
+-- o is the buffer before, e after
+abbrev pub WalkLeft : Bool → Walk → List Float → List Float → Type 0
+WalkLeft false w o e = e ≡ o
+WalkLeft true w o e = WalkedOn w o e
+
+-- the code's number and the length
+pub record LengthExport : Type 0 where
+  pub number : ℕ
+  pub length : Float
+
+abbrev pub lengthLeaves : ℕ → Float → LengthExport
+lengthLeaves number length = record { number = number; length = length }
+
+abbrev pub pickLength : Bool → LengthExport → LengthExport → LengthExport
+pickLength true a b = a
+pickLength false a b = b
+
+-- o is the number before, which a refusal keeps
+unfoldable pub lengthFrom : ℕ → Float → Float → LengthExport
+lengthFrom n last o = pickLength (leb 2 n) (pickLength (leb n 8388608) (lengthLeaves 0 (lengthOf n last)) (lengthLeaves (numberOf Shape) o)) (lengthLeaves (numberOf Shape) o)
 
 -- ---- the transform
 
@@ -114,9 +177,10 @@ twoOf r = r .first ∷ r .past ∷ []
 
 -- ---- the segments of a walk
 
-abbrev pub countedLeaves : Bool → ℕ → Counted
-countedLeaves room count = record { room = room; count = count }
+abbrev pub countedSegments : Filled → Counted
+countedSegments (filled.Count n) = countedLeaves 0 n
+countedSegments filled.Room = refusedWith Room
 
-abbrev pub countedOf : Filled → Counted
-countedOf (filled.Count n) = countedLeaves true n
-countedOf filled.Room = countedLeaves false 0
+-- ROOM for a walk of more than 2^23 points, else as there is room for the segments
+abbrev pub filledAlong : List Float → ℕ → List Segment → Filled
+filledAlong walk room segs = pick (leb (length walk / 3) 8388608) (filledOf room 0 segs) filled.Room

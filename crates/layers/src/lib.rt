@@ -1,20 +1,22 @@
 // The inner layers of a build, each on numbers and slices, exported for the host's comparisons only: the third static library.
-// Where a layer asks something of its caller, the export asks it too, and the host sees to it.
+// What a layer asks of its caller the export checks, or has in the type of an array; where it does not hold the answer is a code of the scope.
+ghost use mathlib.Core.Bool.{true};
 ghost use mathlib.Core.Path.{_≡_};
-ghost use Prim.Native.Nat.{_/_, _≤_};
+ghost use Prim.Native.Nat.{_/_};
+ghost use lib.Dec.{leb, eqb};
 ghost use lib.ListN.{length};
 ghost use Rattle.dequantize.specs.Coefficients.{invAdjustedQuant};
-ghost use Rattle.dequantize.specs.ControlPoints.{startingPoint, placeAt, Walk};
+ghost use Rattle.dequantize.specs.ControlPoints.{startingPoint, validPointPos};
 ghost use Rattle.dequantize.specs.Dequantize.{dequantizeOf};
-ghost use Rattle.dequantize.specs.Judge.{descriptionOf, Shaped, judgeOf};
+ghost use Rattle.dequantize.specs.Judge.{descriptionOf, sum};
 ghost use Rattle.dequantize.specs.Limits.{splineAreaLimit};
-ghost use Rattle.curve.specs.Curve.{pathOf, pathRoom, curvedOf, curvedOn};
-ghost use Rattle.walk.specs.Walk.{walkIn, walkRoom, walkedOf, WalkedOn, lengthOf};
+ghost use Rattle.walk.specs.Walk.{walkIn, walkRoom, lengthOf};
 ghost use Rattle.transform.specs.Transform.{sumsOf};
-ghost use Rattle.points.specs.Points.{segmentRoom, addSegmentsFromPoints, filledOf, FilledOn};
+ghost use Rattle.points.specs.Points.{segmentRoom, addSegmentsFromPoints, FilledOn};
 ghost use Rattle.segments.specs.Segment.{addSegment, segmentAt};
 ghost use Rattle.segments.specs.Ranges.{rowsOf, columnsOf};
-ghost use Rattle.layers.specs.Exported.{ranOf, ranLeaves, tracedFrom, givenOf, dequantizedLeaves, dequantizedExport, toldJudged, judgedLeaves, pairOf, pathCount, walkCount, coefficientsOf, fourOf, eightIn, eightLeaves, twoOf, countedOf, countedLeaves};
+ghost use Rattle.table.specs.Table.{shaped};
+ghost use Rattle.layers.specs.Exported.{ranOf, ranLeaves, tracedFrom, givenOf, dequantizedLeaves, dequantizedExport, judgedOf, toldJudged, judgedLeaves, refusedWith, countedLeaves, countedPath, pathLeaves, pathFrom, curvedFrom, countedWalk, walkedAlong, WalkLeft, lengthLeaves, lengthFrom, coefficientsOf, fourOf, eightIn, eightLeaves, twoOf, countedSegments, filledAlong};
 use codes::Code;
 use curve::Curved;
 use dequantize::Given;
@@ -111,7 +113,7 @@ pub extern "C" fn layers_dequantize(
     start_x: f32,
     start_y: f32,
     deltas: &[i32],
-    coefficients: &[i32],
+    coefficients: &[i32; 128],
     adjustment: i32,
     y_to_x: f32,
     y_to_b: f32,
@@ -123,7 +125,6 @@ pub extern "C" fn layers_dequantize(
     estimate: &mut u64,
     coincide: &mut bool,
 ) -> u32
-    requires { ⌜ 128 ≤ length (now coefficients) ⌝ }
     ensures { λ r. ⌜ dequantizedLeaves r (now (x .exit)) (now (y .exit)) (now (b .exit)) (now (sigma .exit)) (now (estimate .exit)) (now (coincide .exit))
         ≡ dequantizedExport (dequantizeOf «start_x» «start_y» (now (deltas .entry)) (now (coefficients .entry)) (givenOf adjustment «y_to_x» «y_to_b» limit)) ⌝ }
 {
@@ -172,6 +173,59 @@ fn told_judged(judged: Judged) -> Told
     }
 }
 
+// Whether the counts sum to just so many points: the sum itself may be too large to hold, so points are taken away instead.
+fn sum_is(counts: &[u32], points: usize) -> bool
+    ensures { λ r. ⌜ r ≡ eqb (sum (now (counts .entry))) points ⌝ }
+{
+    let mut left = points;
+    let mut i = 0;
+    while i < counts.len() {
+        let n = counts[i] as usize;
+        if left < n {
+            return false;
+        }
+        left -= n;
+        i += 1;
+    }
+    left == 0
+}
+
+// Whether the lengths agree, as a build tests it.
+fn shape_good(counts: &[u32], starts: &[f32], deltas: &[i32], coefficients: &[i32]) -> bool
+    ensures { λ r. ⌜ r ≡ shaped (descriptionOf (now (counts .entry)) (now (starts .entry)) (now (deltas .entry)) (now (coefficients .entry))) ⌝ }
+{
+    let splines = counts.len();
+    if starts.len() != 2 * splines {
+        return false;
+    }
+    if deltas.len() % 2 != 0 {
+        return false;
+    }
+    if coefficients.len() % 128 != 0 {
+        return false;
+    }
+    if coefficients.len() / 128 != splines {
+        return false;
+    }
+    sum_is(counts, deltas.len() / 2)
+}
+
+// SHAPE comes before any judging.
+fn judged_of(
+    counts: &[u32],
+    starts: &[f32],
+    deltas: &[i32],
+    coefficients: &[i32],
+    given: Given,
+) -> Judged
+    ensures { λ r. ⌜ r ≡ judgedOf (descriptionOf (now (counts .entry)) (now (starts .entry)) (now (deltas .entry)) (now (coefficients .entry))) given ⌝ }
+{
+    if !shape_good(counts, starts, deltas, coefficients) {
+        return Judged::Refused(Code::Shape, 0);
+    }
+    dequantize::judge::judge(counts, starts, deltas, coefficients, given)
+}
+
 // All splines of a description.
 #[no_mangle]
 pub extern "C" fn layers_judge(
@@ -186,9 +240,8 @@ pub extern "C" fn layers_judge(
     place: &mut usize,
     estimate: &mut u64,
 ) -> u32
-    requires { ⌜ Shaped (descriptionOf (now counts) (now starts) (now deltas) (now coefficients)) ⌝ }
     ensures { λ r. ⌜ judgedLeaves r (now (place .exit)) (now (estimate .exit))
-        ≡ toldJudged (judgeOf (descriptionOf (now (counts .entry)) (now (starts .entry)) (now (deltas .entry)) (now (coefficients .entry))) (givenOf adjustment «y_to_x» «y_to_b» limit)) ⌝ }
+        ≡ toldJudged (judgedOf (descriptionOf (now (counts .entry)) (now (starts .entry)) (now (deltas .entry)) (now (coefficients .entry))) (givenOf adjustment «y_to_x» «y_to_b» limit)) ⌝ }
 {
     let given = Given {
         adjustment,
@@ -196,7 +249,7 @@ pub extern "C" fn layers_judge(
         y_to_b,
         limit,
     };
-    let answer = told_judged(dequantize::judge::judge(counts, starts, deltas, coefficients, given));
+    let answer = told_judged(judged_of(counts, starts, deltas, coefficients, given));
     *place = answer.place;
     *estimate = answer.estimate;
     answer.number
@@ -204,61 +257,110 @@ pub extern "C" fn layers_judge(
 
 // ---- the curve and the walk
 
-// A path has one point or more, so that 0 is free to say that there is no room.
-fn path_count(curved: Curved) -> usize
-    ensures { λ r. ⌜ r ≡ pathCount curved ⌝ }
+// The answer of a layer that fills a lent buffer, as numbers: the code's, and how many records there are.
+struct Counted {
+    number: u32,
+    count: usize,
+}
+
+fn refused_with(code: Code) -> Counted
+    ensures { λ r. ⌜ r ≡ refusedWith code ⌝ }
+{
+    Counted {
+        number: codes::number_of(code),
+        count: 0,
+    }
+}
+
+fn counted_path(curved: Curved) -> Counted
+    ensures { λ r. ⌜ r ≡ countedPath curved ⌝ }
 {
     match curved {
-        Curved::Points(n) => n,
-        Curved::Room => 0,
+        Curved::Points(count) => Counted { number: 0, count },
+        Curved::Room => refused_with(Code::Room),
     }
 }
 
-// The path of a spline that is judged to be fine: how many points, or 0 where there is no room.
+// The path from a start that is in range: the trace of its control points comes first, at no limit to their distance.
+fn path_from(start: Pair, deltas: &[i32], path: &mut [f32]) -> Counted
+    requires { ⌜ validPointPos start ≡ true ⌝ }
+    ensures { λ r. ⌜ pathLeaves r (now (path .exit)) ≡ pathFrom start (now (deltas .entry)) (now (path .entry)) ⌝ }
+{
+    match dequantize::control_points::trace(start, deltas, 18446744073709551615) {
+        Traced::Stop(code) => refused_with(code),
+        Traced::On(_) => counted_path(curve::curve(start, deltas, path)),
+    }
+}
+
+fn curved_from(start_x: f32, start_y: f32, deltas: &[i32], path: &mut [f32]) -> Counted
+    ensures { λ r. ⌜ pathLeaves r (now (path .exit)) ≡ curvedFrom (startingPoint «start_x» «start_y») (now (deltas .entry)) (now (path .entry)) ⌝ }
+{
+    match dequantize::control_points::starting_point(start_x, start_y) {
+        Start::Out => refused_with(Code::Position),
+        Start::At(start) => path_from(start, deltas, path),
+    }
+}
+
+// The path of a spline: its code's number, and how many points there are.
 #[no_mangle]
 pub extern "C" fn layers_curve(
-    start_x: i32,
-    start_y: i32,
+    start_x: f32,
+    start_y: f32,
     deltas: &[i32],
     path: &mut [f32],
-) -> usize
-    requires { ⌜ Walk (placeAt (pairOf «start_x» «start_y»)) (now deltas) ⌝ }
-    ensures { λ r. ⌜ (r ≡ pathCount (curvedOf (pathRoom (length (now (path .entry)))) (pathOf (pairOf «start_x» «start_y») (now (deltas .entry)))))
-        × (now (path .exit) ≡ curvedOn (pathRoom (length (now (path .entry)))) (pathOf (pairOf «start_x» «start_y») (now (deltas .entry))) (now (path .entry))) ⌝ }
+    count: &mut usize,
+) -> u32
+    ensures { λ r. ⌜ pathLeaves (countedLeaves r (now (count .exit))) (now (path .exit)) ≡ curvedFrom (startingPoint «start_x» «start_y») (now (deltas .entry)) (now (path .entry)) ⌝ }
 {
-    let start = Pair {
-        x: start_x,
-        y: start_y,
-    };
-    path_count(curve::curve(start, deltas, path))
+    let counted = curved_from(start_x, start_y, deltas, path);
+    *count = counted.count;
+    counted.number
 }
 
-fn walk_count(walked: Walked) -> usize
-    ensures { λ r. ⌜ r ≡ walkCount walked ⌝ }
+fn counted_walk(walked: Walked) -> Counted
+    ensures { λ r. ⌜ r ≡ countedWalk walked ⌝ }
 {
     match walked {
-        Walked::Points(n) => n,
-        Walked::Room => 0,
+        Walked::Points(count) => Counted { number: 0, count },
+        Walked::Room => refused_with(Code::Room),
     }
 }
 
-// The walk along a path: how many points, or 0 where there is no room.
-#[no_mangle]
-pub extern "C" fn layers_walk(path: &[f32], walk: &mut [f32]) -> usize
-    requires { ⌜ 2 ≤ length (now path) ⌝ }
-    ensures { λ r. ⌜ (r ≡ walkCount (walkedOf (walkIn (walkRoom (length (now (walk .entry)))) (now (path .entry)))))
-        × WalkedOn (walkIn (walkRoom (length (now (walk .entry)))) (now (path .entry))) (now (walk .entry)) (now (walk .exit)) ⌝ }
+// A path has one point or more.
+fn walked_along(path: &[f32], walk: &mut [f32]) -> Counted
+    ensures { λ r. ⌜ (r ≡ walkedAlong (leb 2 (length (now (path .entry)))) (walkIn (walkRoom (length (now (walk .entry)))) (now (path .entry))))
+        × WalkLeft (leb 2 (length (now (path .entry)))) (walkIn (walkRoom (length (now (walk .entry)))) (now (path .entry))) (now (walk .entry)) (now (walk .exit)) ⌝ }
 {
-    walk_count(walk::walk(path, walk))
+    if path.len() < 2 {
+        return refused_with(Code::Shape);
+    }
+    counted_walk(walk::walk(path, walk))
 }
 
-// The length of a walk of n points, by the last one's multiplier.
+// The walk along a path: its code's number, and how many points there are.
 #[no_mangle]
-pub extern "C" fn layers_length_of(n: usize, last: f32) -> f32
-    requires { ⌜ (2 ≤ n) × (n ≤ 8388608) ⌝ }
-    ensures { λ r. ⌜ r ≡ lengthOf n last ⌝ }
+pub extern "C" fn layers_walk(path: &[f32], walk: &mut [f32], count: &mut usize) -> u32
+    ensures { λ r. ⌜ (countedLeaves r (now (count .exit)) ≡ walkedAlong (leb 2 (length (now (path .entry)))) (walkIn (walkRoom (length (now (walk .entry)))) (now (path .entry))))
+        × WalkLeft (leb 2 (length (now (path .entry)))) (walkIn (walkRoom (length (now (walk .entry)))) (now (path .entry))) (now (walk .entry)) (now (walk .exit)) ⌝ }
 {
-    walk::length_of(n, last)
+    let counted = walked_along(path, walk);
+    *count = counted.count;
+    counted.number
+}
+
+// The length of a walk of n points, by the last one's multiplier, and its code's number: a walk has two points or more, and 2^23 at most.
+#[no_mangle]
+pub extern "C" fn layers_length_of(n: usize, last: f32, length: &mut f32) -> u32
+    ensures { λ r. ⌜ lengthLeaves r (now (length .exit)) ≡ lengthFrom n last (now (length .entry)) ⌝ }
+{
+    if n < 2 {
+        return codes::number_of(Code::Shape);
+    }
+    if n > 8388608 {
+        return codes::number_of(Code::Shape);
+    }
+    *length = walk::length_of(n, last);
+    0
 }
 
 // ---- the transform
@@ -371,8 +473,7 @@ fn two(range: Range) -> [u32; 2]
 
 // The rows of a segment of eight floats: the first, and one past the last.
 #[no_mangle]
-pub extern "C" fn layers_rows(segment: &[f32], ends: &mut [u32; 2])
-    requires { ⌜ 8 ≤ length (now segment) ⌝ }
+pub extern "C" fn layers_rows(segment: &[f32; 8], ends: &mut [u32; 2])
     ensures { λ _. ⌜ now (ends .exit) ≡ twoOf (rowsOf (segmentAt (now (segment .entry)) 0)) ⌝ }
 {
     let numbers = two(Segment::at(segment, 0).rows());
@@ -381,8 +482,7 @@ pub extern "C" fn layers_rows(segment: &[f32], ends: &mut [u32; 2])
 
 // The columns of a segment of eight floats: the first, and one past the last.
 #[no_mangle]
-pub extern "C" fn layers_columns(segment: &[f32], ends: &mut [u32; 2])
-    requires { ⌜ 8 ≤ length (now segment) ⌝ }
+pub extern "C" fn layers_columns(segment: &[f32; 8], ends: &mut [u32; 2])
     ensures { λ _. ⌜ now (ends .exit) ≡ twoOf (columnsOf (segmentAt (now (segment .entry)) 0)) ⌝ }
 {
     let numbers = two(Segment::at(segment, 0).columns());
@@ -391,25 +491,33 @@ pub extern "C" fn layers_columns(segment: &[f32], ends: &mut [u32; 2])
 
 // ---- the segments of a walk
 
-// Whether there was room for the segments, and how many there are.
-struct Counted {
-    room: bool,
-    count: usize,
-}
-
-fn counted_of(filled: Filled) -> Counted
-    ensures { λ r. ⌜ r ≡ countedOf filled ⌝ }
+fn counted_segments(filled: Filled) -> Counted
+    ensures { λ r. ⌜ r ≡ countedSegments filled ⌝ }
 {
     match filled {
-        Filled::Count(count) => Counted { room: true, count },
-        Filled::Room => Counted {
-            room: false,
-            count: 0,
-        },
+        Filled::Count(count) => Counted { number: 0, count },
+        Filled::Room => refused_with(Code::Room),
     }
 }
 
-// The segments of a walk of three numbers a point, for any four rows of coefficients and any length.
+// No walk has more than 2^23 points.
+fn filled_along(
+    spline: Spline,
+    walk: &[f32],
+    walk_length: f32,
+    high_precision: bool,
+    segments: &mut [f32],
+) -> Filled
+    ensures { λ r. ⌜ (r ≡ filledAlong (now (walk .entry)) (segmentRoom (length (now (segments .entry)))) (addSegmentsFromPoints spline (now (walk .entry)) «walk_length» «high_precision»))
+        × FilledOn r 0 (addSegmentsFromPoints spline (now (walk .entry)) «walk_length» «high_precision») (now (segments .entry)) (now (segments .exit)) ⌝ }
+{
+    if walk.len() / 3 > 8388608 {
+        return Filled::Room;
+    }
+    points::add_segments_from_points(spline, walk, walk_length, high_precision, segments, 0)
+}
+
+// The segments of a walk of three numbers a point, for any four rows of coefficients and any length: the code's number, and how many there are.
 #[no_mangle]
 pub extern "C" fn layers_add_segments_from_points(
     x: &[f32; 32],
@@ -421,20 +529,18 @@ pub extern "C" fn layers_add_segments_from_points(
     high_precision: bool,
     segments: &mut [f32],
     count: &mut usize,
-) -> bool
-    requires { ⌜ length (now walk) / 3 ≤ 8388608 ⌝ }
-    ensures { λ r. ⌜ (countedLeaves r (now (count .exit)) ≡ countedOf (filledOf (segmentRoom (length (now (segments .entry)))) 0 (addSegmentsFromPoints (coefficientsOf (now (x .entry)) (now (y .entry)) (now (b .entry)) (now (sigma .entry))) (now (walk .entry)) «walk_length» «high_precision»)))
-        × FilledOn (filledOf (segmentRoom (length (now (segments .entry)))) 0 (addSegmentsFromPoints (coefficientsOf (now (x .entry)) (now (y .entry)) (now (b .entry)) (now (sigma .entry))) (now (walk .entry)) «walk_length» «high_precision»)) 0 (addSegmentsFromPoints (coefficientsOf (now (x .entry)) (now (y .entry)) (now (b .entry)) (now (sigma .entry))) (now (walk .entry)) «walk_length» «high_precision») (now (segments .entry)) (now (segments .exit)) ⌝ }
+) -> u32
+    ensures { λ r. ⌜ (countedLeaves r (now (count .exit)) ≡ countedSegments (filledAlong (now (walk .entry)) (segmentRoom (length (now (segments .entry)))) (addSegmentsFromPoints (coefficientsOf (now (x .entry)) (now (y .entry)) (now (b .entry)) (now (sigma .entry))) (now (walk .entry)) «walk_length» «high_precision»)))
+        × FilledOn (filledAlong (now (walk .entry)) (segmentRoom (length (now (segments .entry)))) (addSegmentsFromPoints (coefficientsOf (now (x .entry)) (now (y .entry)) (now (b .entry)) (now (sigma .entry))) (now (walk .entry)) «walk_length» «high_precision»)) 0 (addSegmentsFromPoints (coefficientsOf (now (x .entry)) (now (y .entry)) (now (b .entry)) (now (sigma .entry))) (now (walk .entry)) «walk_length» «high_precision») (now (segments .entry)) (now (segments .exit)) ⌝ }
 {
     let spline = spline_of(*x, *y, *b, *sigma);
-    let counted = counted_of(points::add_segments_from_points(
+    let counted = counted_segments(filled_along(
         spline,
         walk,
         walk_length,
         high_precision,
         segments,
-        0,
     ));
     *count = counted.count;
-    counted.room
+    counted.number
 }

@@ -1,6 +1,6 @@
 //! The curve: paths in buffers with exact room, with more, and without.
 
-use crate::exported;
+use crate::exported::{self, ROOM};
 use crate::lent::Lent;
 use crate::tally::Tally;
 use cases::random::Random;
@@ -26,6 +26,11 @@ pub struct Control {
 }
 
 impl Control {
+    /// The path in the lent buffer.
+    fn curve(&self, path: &mut [f32]) -> exported::Counted {
+        exported::curve(self.start.map(|cell| cell as f32), &self.deltas, path)
+    }
+
     /// The control points, which f32 holds exactly.
     pub fn points(&self) -> Vec<[f32; 2]> {
         let (mut point, mut delta) = (self.start, [0; 2]);
@@ -97,12 +102,12 @@ pub fn compare(tally: &mut Tally) {
 fn fits(tally: &mut Tally, control: &Control, path: &[[f32; 2]], room: usize) {
     tally.also("done");
     let mut lent = Lent::new(room);
-    let count = exported::curve(control.start, &control.deltas, lent.lend());
-    let same = count == Some(path.len()) && lent.holds(path.concat().into_iter());
+    let count = control.curve(lent.lend());
+    let same = count == (0, path.len()) && lent.holds(path.concat().into_iter());
     tally.hold(
         control,
         (count, &lent.lend()[..]),
-        (Some(path.len()), &path.concat()),
+        ((0, path.len()), &path.concat()),
         same,
     );
 }
@@ -111,12 +116,12 @@ fn fits(tally: &mut Tally, control: &Control, path: &[[f32; 2]], room: usize) {
 fn short(tally: &mut Tally, control: &Control, room: usize) {
     tally.also("ROOM (one cell short)");
     let mut lent = Lent::new(room);
-    let count = exported::curve(control.start, &control.deltas, lent.lend());
-    let same = count.is_none() && lent.holds([].into_iter());
+    let count = control.curve(lent.lend());
+    let same = count == ROOM && lent.holds([].into_iter());
     tally.hold(
         &(control, room),
         (count, "written"),
-        (None, "as it was"),
+        (ROOM, "as it was"),
         same,
     );
 }
@@ -133,13 +138,13 @@ fn greatest(tally: &mut Tally) {
     let path = oracle::curve(&control.points()).done().unwrap_or_default();
     tally.case("done");
     let mut lent = Lent::new(room);
-    let count = exported::curve(control.start, &control.deltas, lent.lend());
-    let same = count == Some(path.len()) && lent.holds(path.concat().into_iter());
-    tally.hold(&("points along x", most), count, Some(path.len()), same);
+    let count = control.curve(lent.lend());
+    let same = count == (0, path.len()) && lent.holds(path.concat().into_iter());
+    tally.hold(&("points along x", most), count, (0, path.len()), same);
     let control = along(most + 1);
     tally.case("ROOM (2^23 points)");
     let mut lent = Lent::new(room);
-    let count = exported::curve(control.start, &control.deltas, lent.lend());
-    let same = count.is_none() && lent.holds([].into_iter());
-    tally.hold(&("points along x", most + 1), count, None, same);
+    let count = control.curve(lent.lend());
+    let same = count == ROOM && lent.holds([].into_iter());
+    tally.hold(&("points along x", most + 1), count, ROOM, same);
 }

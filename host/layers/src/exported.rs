@@ -1,13 +1,23 @@
-//! The port's layers as safe calls on slices: each tests what its layer asks of a caller.
+//! The port's layers as safe calls on slices. What a layer asks of its caller the port checks for itself.
 
 use crate::symbols;
 use cases::segments::{AlongCase, SegmentCase};
-use cases::{Description, Segment};
+use cases::{Code, Description, Segment};
 use model::dequantize::Quantized;
 use std::ops::Range;
 
 /// What stands in a number or row before a call, so that one that is not filled shows.
-const UNFILLED: f32 = 1234.5;
+pub const UNFILLED: f32 = 1234.5;
+
+/// What a layer that fills a buffer answers: the code's number, and how many records there are.
+pub type Counted = (u32, usize);
+
+/// A refusal counts nothing.
+pub const fn refused(code: Code) -> Counted {
+    (code as u32, 0)
+}
+
+pub const ROOM: Counted = refused(Code::Room);
 
 pub fn spline_area_limit(level10: bool, area: u64) -> u64 {
     // SAFETY: plain numbers.
@@ -57,18 +67,17 @@ pub struct Dequantized {
 }
 
 pub fn dequantize(spline: &Quantized, shared: &Shared) -> Dequantized {
-    assert!(spline.coefficients.len() >= 128, "128 coefficients");
+    let coefficients: &[i32; 128] = spline.coefficients.try_into().expect("128 coefficients");
     let [mut x, mut y, mut b, mut sigma] = [[UNFILLED; 32]; 4];
     let (mut estimate, mut coincide) = (u64::MAX, true);
-    // SAFETY: each pointer comes with its slice's length; the rows and numbers are our own and do not overlap.
+    // SAFETY: each pointer comes with its slice's length or has it in its type; the rows and numbers are our own and do not overlap.
     let number = unsafe {
         symbols::layers_dequantize(
             spline.start.0,
             spline.start.1,
             spline.deltas.as_ptr(),
             spline.deltas.len(),
-            spline.coefficients.as_ptr(),
-            spline.coefficients.len(),
+            coefficients,
             shared.adjustment,
             shared.y_to_x,
             shared.y_to_b,
@@ -91,7 +100,6 @@ pub fn dequantize(spline: &Quantized, shared: &Shared) -> Dequantized {
 
 /// The code's number, the place and the summed estimate.
 pub fn judge(description: &Description, shared: &Shared) -> (u32, usize, u64) {
-    assert!(model::list::well_shaped(description), "the lengths agree");
     let (mut place, mut estimate) = (usize::MAX, u64::MAX);
     // SAFETY: each pointer comes with its slice's length, and the numbers are our own.
     let number = unsafe {
@@ -115,11 +123,11 @@ pub fn judge(description: &Description, shared: &Shared) -> (u32, usize, u64) {
     (number, place, estimate)
 }
 
-/// How many points the path has, or `None` where there is no room.
-pub fn curve(start: [i32; 2], deltas: &[i32], path: &mut [f32]) -> Option<usize> {
-    assert!(walkable(start, deltas), "every delta and point is in range");
-    // SAFETY: each pointer comes with its slice's length, and the slices do not overlap.
-    let count = unsafe {
+/// The path of the spline that starts there.
+pub fn curve(start: [f32; 2], deltas: &[i32], path: &mut [f32]) -> Counted {
+    let mut count = usize::MAX;
+    // SAFETY: each pointer comes with its slice's length; the count is our own, and nothing overlaps.
+    let number = unsafe {
         symbols::layers_curve(
             start[0],
             start[1],
@@ -127,39 +135,34 @@ pub fn curve(start: [i32; 2], deltas: &[i32], path: &mut [f32]) -> Option<usize>
             deltas.len(),
             path.as_mut_ptr(),
             path.len(),
+            &mut count,
         )
     };
-    (count > 0).then_some(count)
+    (number, count)
 }
 
-/// Whether every delta and every point lies from -2^23 up to but not including 2^23, and no double delta reaches 2^30.
-fn walkable(start: [i32; 2], deltas: &[i32]) -> bool {
-    let inside = |v: &i64| (-(1 << 23)..1 << 23).contains(v);
-    (0..2).all(|axis| {
-        let (mut point, mut delta) = (i64::from(start[axis]), 0);
-        let doubles = deltas.chunks_exact(2).map(|pair| i64::from(pair[axis]));
-        inside(&point)
-            && doubles.into_iter().all(|double| {
-                delta += double;
-                point += delta;
-                double.abs() < 1 << 30 && inside(&delta) && inside(&point)
-            })
-    })
+/// The walk along a path of two numbers a point.
+pub fn walk(path: &[f32], walk: &mut [f32]) -> Counted {
+    let mut count = usize::MAX;
+    // SAFETY: each pointer comes with its slice's length; the count is our own, and nothing overlaps.
+    let number = unsafe {
+        symbols::layers_walk(
+            path.as_ptr(),
+            path.len(),
+            walk.as_mut_ptr(),
+            walk.len(),
+            &mut count,
+        )
+    };
+    (number, count)
 }
 
-/// How many points the walk has, or `None` where there is no room.
-pub fn walk(path: &[f32], walk: &mut [f32]) -> Option<usize> {
-    assert!(path.len() >= 2, "a path has a point");
-    // SAFETY: each pointer comes with its slice's length, and the slices do not overlap.
-    let count =
-        unsafe { symbols::layers_walk(path.as_ptr(), path.len(), walk.as_mut_ptr(), walk.len()) };
-    (count > 0).then_some(count)
-}
-
-pub fn length_of(n: usize, last: f32) -> f32 {
-    assert!((2..=1 << 23).contains(&n), "a walk has two points or more");
-    // SAFETY: plain numbers.
-    unsafe { symbols::layers_length_of(n, last) }
+/// The code's number and the length.
+pub fn length_of(n: usize, last: f32) -> (u32, f32) {
+    let mut length = UNFILLED;
+    // SAFETY: plain numbers, and a length of our own.
+    let number = unsafe { symbols::layers_length_of(n, last, &mut length) };
+    (number, length)
 }
 
 /// The sums of X, Y, B and sigma at t.
@@ -190,14 +193,13 @@ pub fn add_segment(case: &SegmentCase) -> (bool, Segment) {
     (made, segment)
 }
 
-/// How many segments the walk makes, or `None` where there is no room.
-pub fn add_segments(case: &AlongCase, segments: &mut [f32]) -> Option<usize> {
+/// The segments that the walk makes.
+pub fn add_segments(case: &AlongCase, segments: &mut [f32]) -> Counted {
     let [x, y, b, sigma] = &case.coefficients;
     let walk = case.walk.concat();
-    assert!(case.walk.len() <= 1 << 23, "a walk has 2^23 points at most");
     let mut count = usize::MAX;
     // SAFETY: each pointer comes with its slice's length or has it in its type; the count is our own, and nothing overlaps.
-    let room = unsafe {
+    let number = unsafe {
         symbols::layers_add_segments_from_points(
             x,
             y,
@@ -212,19 +214,19 @@ pub fn add_segments(case: &AlongCase, segments: &mut [f32]) -> Option<usize> {
             &mut count,
         )
     };
-    room.then_some(count)
+    (number, count)
 }
 
 pub fn rows(segment: &Segment) -> Range<u32> {
     let mut ends = [u32::MAX; 2];
-    // SAFETY: the pointer comes with its slice's length, and the ends are our own.
-    unsafe { symbols::layers_rows(segment.as_ptr(), segment.len(), &mut ends) };
+    // SAFETY: the segment has the length that its type says, and the ends are our own.
+    unsafe { symbols::layers_rows(segment, &mut ends) };
     ends[0]..ends[1]
 }
 
 pub fn columns(segment: &Segment) -> Range<u32> {
     let mut ends = [u32::MAX; 2];
-    // SAFETY: the pointer comes with its slice's length, and the ends are our own.
-    unsafe { symbols::layers_columns(segment.as_ptr(), segment.len(), &mut ends) };
+    // SAFETY: the segment has the length that its type says, and the ends are our own.
+    unsafe { symbols::layers_columns(segment, &mut ends) };
     ends[0]..ends[1]
 }

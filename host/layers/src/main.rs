@@ -9,6 +9,7 @@ mod exported;
 mod lent;
 mod limits;
 mod readings;
+mod refused;
 mod segments;
 mod symbols;
 mod tally;
@@ -26,7 +27,7 @@ struct Layer {
     outcomes: &'static [&'static str],
 }
 
-const LAYERS: [Layer; 10] = [
+const LAYERS: [Layer; 11] = [
     Layer {
         name: "readings",
         compare: readings::compare,
@@ -86,6 +87,12 @@ const LAYERS: [Layer; 10] = [
         compare: segments::compare_records,
         least: segments::RECORDS,
         outcomes: &segments::RECORD_OUTCOMES,
+    },
+    Layer {
+        name: "refused",
+        compare: refused::compare,
+        least: refused::REFUSED,
+        outcomes: &refused::OUTCOMES,
     },
 ];
 

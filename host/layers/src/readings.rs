@@ -48,9 +48,9 @@ fn starred(tally: &mut Tally) {
 /// The multipliers of a walk, and its length.
 fn walked(path: &[f32]) -> (Vec<f32>, f32) {
     let mut walk = [9.0; 30];
-    let count = exported::walk(path, &mut walk).unwrap_or(0);
+    let (_, count) = exported::walk(path, &mut walk);
     let multipliers: Vec<f32> = walk.chunks(3).take(count).map(|point| point[2]).collect();
-    let length = exported::length_of(count.max(2), multipliers.last().copied().unwrap_or(-1.0));
+    let (_, length) = exported::length_of(count, multipliers.last().copied().unwrap_or(-1.0));
     (multipliers, length)
 }
 

@@ -1,6 +1,6 @@
 //! Segments: the eight floats of a point, and the rows and columns of a segment.
 
-use crate::exported;
+use crate::exported::{self, ROOM};
 use crate::lent::Lent;
 use crate::tally::Tally;
 use cases::segments::{along_case, record, segment_case, AlongCase, SegmentCase};
@@ -201,12 +201,12 @@ fn along(tally: &mut Tally, case: &AlongCase, made: &[f32]) {
     });
     let mut lent = Lent::new(made.len() + case.walk.len());
     let ours = exported::add_segments(case, lent.lend());
-    let same = ours == Some(count) && lent.holds(made.iter().copied());
-    tally.hold(case, (ours, &lent.lend()[..]), (Some(count), made), same);
+    let same = ours == (0, count) && lent.holds(made.iter().copied());
+    tally.hold(case, (ours, &lent.lend()[..]), ((0, count), made), same);
     if count > 0 {
         tally.also("ROOM (one cell short)");
         let mut lent = Lent::new(made.len() - 1);
         let ours = exported::add_segments(case, lent.lend());
-        tally.hold(case, ours, None, ours.is_none() && lent.inside());
+        tally.hold(case, ours, ROOM, ours == ROOM && lent.inside());
     }
 }

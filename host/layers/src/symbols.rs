@@ -21,8 +21,7 @@ extern "C" {
         start_y: f32,
         deltas: *const i32,
         deltas_len: usize,
-        coefficients: *const i32,
-        coefficients_len: usize,
+        coefficients: *const [i32; 128],
         adjustment: i32,
         y_to_x: f32,
         y_to_b: f32,
@@ -53,18 +52,24 @@ extern "C" {
     ) -> u32;
 
     pub fn layers_curve(
-        start_x: i32,
-        start_y: i32,
+        start_x: f32,
+        start_y: f32,
         deltas: *const i32,
         deltas_len: usize,
         path: *mut f32,
         path_len: usize,
-    ) -> usize;
+        count: *mut usize,
+    ) -> u32;
 
-    pub fn layers_walk(path: *const f32, path_len: usize, walk: *mut f32, walk_len: usize)
-        -> usize;
+    pub fn layers_walk(
+        path: *const f32,
+        path_len: usize,
+        walk: *mut f32,
+        walk_len: usize,
+        count: *mut usize,
+    ) -> u32;
 
-    pub fn layers_length_of(n: usize, last: f32) -> f32;
+    pub fn layers_length_of(n: usize, last: f32, length: *mut f32) -> u32;
 
     pub fn layers_sums_at(
         x: *const [f32; 32],
@@ -99,9 +104,9 @@ extern "C" {
         segments: *mut f32,
         segments_len: usize,
         count: *mut usize,
-    ) -> bool;
+    ) -> u32;
 
-    pub fn layers_rows(segment: *const f32, segment_len: usize, ends: *mut [u32; 2]);
+    pub fn layers_rows(segment: *const [f32; 8], ends: *mut [u32; 2]);
 
-    pub fn layers_columns(segment: *const f32, segment_len: usize, ends: *mut [u32; 2]);
+    pub fn layers_columns(segment: *const [f32; 8], ends: *mut [u32; 2]);
 }

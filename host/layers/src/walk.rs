@@ -1,7 +1,7 @@
 //! The walk: along curves, hostile paths, paths near 2^23 and beyond; in buffers with exact room, with more, and without.
 
 use crate::curve;
-use crate::exported;
+use crate::exported::{self, ROOM};
 use crate::lent::Lent;
 use crate::tally::Tally;
 use cases::bits;
@@ -67,9 +67,10 @@ fn walks(tally: &mut Tally, path: &Path) {
             fits(tally, path, &walk, 3 * walk.len() + path.len() % 5);
             short(tally, path, 3 * walk.len() - 1);
             let last = walk[walk.len() - 1][2];
-            let ours = exported::length_of(walk.len(), last);
+            let (number, ours) = exported::length_of(walk.len(), last);
             let expected = oracle::length_of_walk(&walk);
-            tally.hold(path, ours, expected, bits(ours) == bits(expected));
+            let same = number == 0 && bits(ours) == bits(expected);
+            tally.hold(path, (number, ours), (0, expected), same);
         }
         Outcome::NoMemory => {
             tally.also("ROOM (no end in sight)");
@@ -84,11 +85,11 @@ fn fits(tally: &mut Tally, path: &Path, walk: &[[f32; 3]], room: usize) {
     tally.also("done");
     let mut lent = Lent::new(room);
     let count = exported::walk(&path.concat(), lent.lend());
-    let same = count == Some(walk.len()) && lent.holds(walk.concat().into_iter());
+    let same = count == (0, walk.len()) && lent.holds(walk.concat().into_iter());
     tally.hold(
         path,
         (count, &lent.lend()[..]),
-        (Some(walk.len()), &walk.concat()),
+        ((0, walk.len()), &walk.concat()),
         same,
     );
 }
@@ -102,7 +103,7 @@ fn short(tally: &mut Tally, path: &Path, room: usize) {
 fn no_room(tally: &mut Tally, path: &Path, room: usize) {
     let mut lent = Lent::new(room);
     let count = exported::walk(&path.concat(), lent.lend());
-    tally.hold(&(path, room), count, None, count.is_none() && lent.inside());
+    tally.hold(&(path, room), count, ROOM, count == ROOM && lent.inside());
 }
 
 /// In a buffer with room for more than 2^23 points: the longest walk, one that is a point longer, and one that never ends.
@@ -114,8 +115,8 @@ fn greatest(tally: &mut Tally) {
     tally.case("done");
     let mut lent = Lent::new(room);
     let count = exported::walk(&longest.concat(), lent.lend());
-    let same = count == Some(MOST) && lent.holds(walk.concat().into_iter());
-    tally.hold(&longest, count, Some(MOST), same);
+    let same = count == (0, MOST) && lent.holds(walk.concat().into_iter());
+    tally.hold(&longest, count, (0, MOST), same);
     for path in [
         vec![[0.0, 0.0], [(MOST - 1) as f32, 0.0]],
         vec![[16777216.0, 0.0], [16777218.0, 0.0]],

@@ -15,7 +15,7 @@ number-of-requires c κs = search needs
 
 returns : tie.Need-returns
 returns c =
-    let a = c .before .before .before .before .before .before in
+    let a = c .before .before .before .before .before .before .before in
     let z = toZ-ofZ {w = w32} {z = a .args .adjustment} (a .fits .adjustment) in
     let e = rw z at (c .before .before .before .before .before .dequantize .ensures) in
     rw (c .number-of .ensures) (ap dequantizedExport e)
