@@ -78,7 +78,7 @@ static struct description read_all(const uint32_t *list, size_t len, uint32_t pi
     return d;
 }
 
-/* Nobody knows beforehand how many segments there will be: the rooms double until they are enough. */
+/* Nobody knows beforehand how many segments there will be: the rooms double until they are enough, up to 116 MiB. */
 static struct table build_all(const struct description *d, uint32_t width, uint32_t height) {
     struct table t = {0};
     int64_t answer[5];
@@ -102,7 +102,7 @@ static struct table build_all(const struct description *d, uint32_t width, uint3
         free(path);
         free(walk);
         points *= 2;
-    } while (code == AKTYRBUZ_ROOM && points <= 1 << 24);
+    } while (code == AKTYRBUZ_ROOM && points <= 1 << 20);
     check("build", code, answer);
     t.segment_count = (uint32_t)answer[1];
     t.entry_count = (uint32_t)answer[2];

@@ -2,6 +2,8 @@
 
 use std::fmt;
 
+// The judge has an enum of its own in host/cases, so that this crate needs nothing of it and it nothing of this crate: a test holds both together.
+
 /// Why a call was refused.
 #[derive(Clone, Copy, Debug, PartialEq, Eq, Hash)]
 #[repr(u32)]
@@ -18,7 +20,7 @@ pub enum Code {
     Delta = 5,
     /// Values are left over.
     Trail = 6,
-    /// A buffer is too short.
+    /// It needs more memory than it may take, or than there is.
     Room = 7,
     /// A width or height above 2^23.
     Size = 8,
@@ -56,7 +58,11 @@ const CODES: [(Code, &str, &str); 16] = [
         "a double delta of magnitude 2^30 or more",
     ),
     (Code::Trail, "TRAIL", "values are left over"),
-    (Code::Room, "ROOM", "a buffer is too short"),
+    (
+        Code::Room,
+        "ROOM",
+        "it needs more memory than it may take, or than there is",
+    ),
     (Code::Size, "SIZE", "a width or height above 2^23"),
     (Code::Shape, "SHAPE", "lengths that disagree"),
     (
@@ -142,6 +148,24 @@ mod tests {
             assert_eq!(Code::of(code.number()), Some(code));
         }
         assert_eq!((Code::of(0), Code::of(17)), (None, None));
+    }
+
+    #[test]
+    fn the_header_and_the_judge_have_the_same_codes() {
+        let header = include_str!("../../../include/aktyrbuz.h");
+        assert_eq!(header.matches("    AKTYRBUZ_").count(), CODES.len() + 1);
+        for ((code, name, _), judge) in CODES.into_iter().zip(cases::CODES) {
+            let number = code.number();
+            assert!(
+                header.contains(&format!("AKTYRBUZ_{name} = {number}")),
+                "{name}"
+            );
+            assert_eq!(
+                (judge as u32, format!("{judge:?}")),
+                (number, format!("{code:?}"))
+            );
+            assert_eq!(format!("{code:?}").to_uppercase(), name);
+        }
     }
 
     #[test]

@@ -1,5 +1,6 @@
 //! Descriptions, and the lists that hold them.
 
+use crate::cells::{first, zeros};
 use crate::code::{judged, Code, Refusal};
 use port::Parts;
 
@@ -41,39 +42,38 @@ impl Description {
     /// Reads a list of decoded values.
     ///
     /// Each cell of a description is a value of its list, so buffers as long as the list do for every good one. One that claims more than it
-    /// has gets 128 times that before it is refused with [`Code::Room`]: so a list that was cut short is told from one that asks for the moon.
+    /// has gets 128 times that, but no more than 256 MiB for it, before it is refused with [`Code::Room`]: so a list that was cut short is told
+    /// from one that asks for the moon.
     pub fn read(list: &[u32], limit: Limit) -> Result<Description, Refusal> {
-        match Description::read_within(list, limit, list.len()) {
+        let len = list.len();
+        match Description::read_within(list, limit, len) {
             Err(Refusal {
                 code: Code::Room, ..
-            }) => Description::read_within(list, limit, 128 * list.len()),
+            }) => Description::read_within(list, limit, len.max((128 * len).min(1 << 24))),
             other => other,
         }
     }
 
+    /// The same with so many cells for each of the four parts.
     fn read_within(list: &[u32], limit: Limit, room: usize) -> Result<Description, Refusal> {
-        let mut read = Description {
-            counts: vec![0; room],
-            starts: vec![0.0; room],
-            deltas: vec![0; room],
-            coefficients: vec![0; room],
-            adjustment: 0,
-        };
+        let (mut counts, mut starts) = (zeros(room)?, zeros(room)?);
+        let (mut deltas, mut coefficients) = (zeros(room)?, zeros(room)?);
         let [splines, points, adjustment] = judged(port::read(
             list,
             limit.configured,
             limit.pixels,
-            &mut read.counts,
-            &mut read.starts,
-            &mut read.deltas,
-            &mut read.coefficients,
+            &mut counts,
+            &mut starts,
+            &mut deltas,
+            &mut coefficients,
         ))?;
-        read.counts.truncate(splines as usize);
-        read.starts.truncate(2 * splines as usize);
-        read.deltas.truncate(2 * points as usize);
-        read.coefficients.truncate(128 * splines as usize);
-        read.adjustment = adjustment as i32;
-        Ok(read)
+        Ok(Description {
+            counts: first(counts, splines as usize),
+            starts: first(starts, 2 * splines as usize),
+            deltas: first(deltas, 2 * points as usize),
+            coefficients: first(coefficients, 128 * splines as usize),
+            adjustment: adjustment as i32,
+        })
     }
 
     /// The list that is read back as this description under the same limit.
@@ -81,15 +81,21 @@ impl Description {
         // The count, the adjustment, and each cell of the four parts.
         let room =
             2 + self.counts.len() + self.starts.len() + self.deltas.len() + self.coefficients.len();
-        let mut list = vec![0; room];
+        let mut list = zeros(room)?;
         let [values, _, _] = judged(port::write(
             &self.parts(),
             limit.configured,
             limit.pixels,
             &mut list,
         ))?;
-        list.truncate(values as usize);
-        Ok(list)
+        Ok(first(list, values as usize))
+    }
+
+    /// The points of the longest path: 16 for each point of its spline, and the start.
+    pub(crate) fn longest_path(&self) -> usize {
+        let points = self.counts.iter().max().map_or(0, |&most| most as usize);
+        // Where the counts go beyond the deltas the lengths disagree, and no path is drawn.
+        16 * points.min(self.deltas.len() / 2) + 1
     }
 
     pub(crate) fn parts(&self) -> Parts<'_> {

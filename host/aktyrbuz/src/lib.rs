@@ -1,7 +1,8 @@
 //! JPEG XL splines, from a list of decoded values to pixel rows: the proved library behind owned types.
 //!
 //! A [`Description`] is read from a list or written as one; a [`Table`] is built from it for an image; rows of the image are then drawn,
-//! whole or in parts, in any order. No input makes a call panic: what cannot be done is a [`Refusal`] with its code and place.
+//! whole or in parts, in any order. No input makes a call panic or take more memory than it may: what cannot be done is a [`Refusal`] with its
+//! code and place.
 //!
 //! ```
 //! use aktyrbuz::{Description, Image, Limit, Table};
@@ -20,13 +21,16 @@
 //! # Ok::<(), aktyrbuz::Refusal>(())
 //! ```
 
+mod cells;
 mod code;
 mod description;
+mod rooms;
 mod table;
 
 pub use code::{Code, Refusal};
 pub use description::{Description, Limit};
-pub use table::{Counts, Image, Rooms, Table};
+pub use rooms::Rooms;
+pub use table::{Counts, Image, Table};
 
 /// The natural logarithm that building uses, the same on every machine.
 pub fn ln(x: f32) -> f32 {

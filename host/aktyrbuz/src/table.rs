@@ -1,7 +1,8 @@
 //! Tables: what a build makes, and drawing from it.
 
+use crate::cells::{first, zeros};
 use crate::code::{judged, Code, Refusal};
-use crate::Description;
+use crate::{Description, Rooms};
 use std::ops::Range;
 
 /// The image that a table is built for.
@@ -33,39 +34,59 @@ impl Image {
     }
 }
 
-/// How much a build may take: points of the longest path and of the longest walk, segments and entries in all.
-#[derive(Clone, Copy, Debug, PartialEq, Eq)]
-pub struct Rooms {
-    pub path: usize,
-    pub walk: usize,
-    pub segments: usize,
-    pub entries: usize,
+/// What a build is lent.
+struct Buffers {
+    path: Vec<f32>,
+    walk: Vec<f32>,
+    segments: Vec<f32>,
+    row_starts: Vec<u32>,
+    entries: Vec<u32>,
 }
 
-impl Rooms {
-    /// As much as any build makes use of: with every room full, some 5 GB.
-    pub const MOST: Rooms = Rooms {
-        path: 1 << 23,
-        walk: 1 << 23,
-        segments: 1 << 24,
-        entries: 1 << 30,
-    };
+impl Buffers {
+    /// Rooms within [`Rooms::MOST`], and the row starts of an image of this height.
+    fn new(rooms: Rooms, height: u32) -> Result<Buffers, Refusal> {
+        // Above 2^23 the call refuses the height, and needs no room for it.
+        let rows = height.min(1 << 23) as usize + 1;
+        Ok(Buffers {
+            path: zeros(2 * rooms.path)?,
+            walk: zeros(3 * rooms.walk)?,
+            segments: zeros(8 * rooms.segments)?,
+            row_starts: zeros(rows)?,
+            entries: zeros(rooms.entries)?,
+        })
+    }
 
-    /// Where a build begins.
-    const FIRST: Rooms = Rooms {
-        path: 1 << 10,
-        walk: 1 << 12,
-        segments: 1 << 12,
-        entries: 1 << 16,
-    };
-
-    fn each(self, other: Rooms, f: impl Fn(usize, usize) -> usize) -> Rooms {
-        Rooms {
-            path: f(self.path, other.path),
-            walk: f(self.walk, other.walk),
-            segments: f(self.segments, other.segments),
-            entries: f(self.entries, other.entries),
-        }
+    fn build(mut self, description: &Description, image: &Image) -> Result<Table, Refusal> {
+        let [made, listed, estimate] = judged(port::build(
+            &description.parts(),
+            &port::Image {
+                width: image.width,
+                height: image.height,
+                y_to_x: image.y_to_x,
+                y_to_b: image.y_to_b,
+                high_precision: image.high_precision,
+                level10: image.level10,
+            },
+            port::Buffers {
+                path: &mut self.path,
+                walk: &mut self.walk,
+                segments: &mut self.segments,
+                row_starts: &mut self.row_starts,
+                entries: &mut self.entries,
+            },
+        ))?;
+        Ok(Table {
+            segments: first(self.segments, 8 * made as usize),
+            row_starts: self.row_starts,
+            entries: first(self.entries, listed as usize),
+            image: *image,
+            counts: Counts {
+                segments: made as u32,
+                entries: listed as u32,
+                estimate: estimate as u64,
+            },
+        })
     }
 }
 
@@ -89,72 +110,32 @@ pub struct Table {
 }
 
 impl Table {
-    /// Builds the table of an image. Its buffers grow as they are needed, at most to [`Rooms::MOST`]. Where descriptions come from strangers,
-    /// [`build_within`](Table::build_within) keeps the memory small: a spline may wind through an image as often as its area limit lets it.
+    /// Builds the table of an image within [`Rooms::USUAL`]: a description that needs more memory, as one from a stranger may, is refused with
+    /// [`Code::Room`].
     pub fn build(description: &Description, image: &Image) -> Result<Table, Refusal> {
-        Table::build_within(description, image, Rooms::MOST)
+        Table::build_within(description, image, Rooms::USUAL)
     }
 
-    /// The same within rooms of the caller's: where they are too small the refusal is [`Code::Room`].
+    /// The same within rooms of the caller's: a build that does not fit in them is refused with [`Code::Room`], and so is one for which the
+    /// machine has no memory. The buffers begin small and grow to the rooms as they are needed; the table keeps what it uses.
     pub fn build_within(
         description: &Description,
         image: &Image,
         most: Rooms,
     ) -> Result<Table, Refusal> {
-        let mut rooms = Rooms::FIRST.each(most, usize::min);
+        let most = most.within(Rooms::MOST);
+        let mut rooms = Rooms::first(description.longest_path()).within(most);
         loop {
-            match Table::build_once(description, image, rooms) {
-                Err(Refusal {
-                    code: Code::Room, ..
-                }) if rooms != most => {
-                    rooms = rooms.each(most, |room, most| most.min(4 * room));
-                }
+            let refusal = match Buffers::new(rooms, image.height)?.build(description, image) {
+                Err(refusal) if refusal.code == Code::Room => refusal,
                 other => return other,
+            };
+            let grown = rooms.grown(refusal.place, most);
+            if grown == rooms {
+                return Err(refusal);
             }
+            rooms = grown;
         }
-    }
-
-    fn build_once(
-        description: &Description,
-        image: &Image,
-        rooms: Rooms,
-    ) -> Result<Table, Refusal> {
-        // Above 2^23 the call refuses the height, and needs no room for it.
-        let rows = image.height.min(1 << 23) as usize + 1;
-        let (mut path, mut walk) = (vec![0.0; 2 * rooms.path], vec![0.0; 3 * rooms.walk]);
-        let mut segments = vec![0.0; 8 * rooms.segments];
-        let (mut row_starts, mut entries) = (vec![0; rows], vec![0; rooms.entries]);
-        let [made, listed, estimate] = judged(port::build(
-            &description.parts(),
-            &port::Image {
-                width: image.width,
-                height: image.height,
-                y_to_x: image.y_to_x,
-                y_to_b: image.y_to_b,
-                high_precision: image.high_precision,
-                level10: image.level10,
-            },
-            port::Buffers {
-                path: &mut path,
-                walk: &mut walk,
-                segments: &mut segments,
-                row_starts: &mut row_starts,
-                entries: &mut entries,
-            },
-        ))?;
-        segments.truncate(8 * made as usize);
-        entries.truncate(listed as usize);
-        Ok(Table {
-            segments,
-            row_starts,
-            entries,
-            image: *image,
-            counts: Counts {
-                segments: made as u32,
-                entries: listed as u32,
-                estimate: estimate as u64,
-            },
-        })
     }
 
     pub fn counts(&self) -> Counts {
@@ -296,6 +277,37 @@ mod tests {
                 place: 0
             }
         );
+    }
+
+    /// A faint light over 350,000 rows of a great image: 43 million entries.
+    fn glow() -> (Description, Image) {
+        let mut glow = fibre();
+        glow.starts[1] = 4_000_000.0;
+        glow.coefficients[32] = 1;
+        glow.coefficients[96] = 180_000;
+        glow.deltas[0] = 120;
+        let image = Image {
+            level10: true,
+            ..Image::new(1 << 13, 1 << 23)
+        };
+        (glow, image)
+    }
+
+    #[test]
+    fn a_build_takes_no_more_memory_than_it_may() {
+        let (glow, image) = glow();
+        let room = Refusal {
+            code: Code::Room,
+            place: 0,
+        };
+        assert_eq!(Table::build(&glow, &image).err(), Some(room));
+        let more = Rooms {
+            entries: 1 << 26,
+            ..Rooms::USUAL
+        };
+        let table = Table::build_within(&glow, &image, more).expect("it fits");
+        assert!(table.counts().entries > 1 << 25, "{:?}", table.counts());
+        assert_eq!(table.entries.capacity(), table.counts().entries as usize);
     }
 
     #[test]

@@ -62,7 +62,7 @@ pub struct Table {
     pub estimate: u64,
 }
 
-/// The codes of document 01.
+/// The codes of document 01. `host/aktyrbuz` has its own for its users, and a test that holds them together.
 #[derive(Clone, Copy, Debug, PartialEq, Eq)]
 #[repr(u32)]
 pub enum Code {
