@@ -63,7 +63,7 @@ impl Work for Building {
         assert_eq!(built, Outcome::Done(()), "spline.rs builds the pictures");
     }
 
-    fn by_port(&mut self) {
+    fn by_port(&mut self) -> i64 {
         let parts = Parts {
             counts: &self.description.counts,
             starts: &self.description.starts,
@@ -87,7 +87,8 @@ impl Work for Building {
             row_starts: &mut self.row_starts,
             entries: &mut self.entries,
         };
-        let (code, _) = port::build(&parts, &image, lent);
+        let (code, answer) = port::build(&parts, &image, lent);
         assert_eq!(code, 0, "the port builds the pictures");
+        answer[1]
     }
 }

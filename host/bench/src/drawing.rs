@@ -29,7 +29,7 @@ impl Drawing {
         self.by_rust();
         let theirs = self.cells.clone();
         self.clear();
-        let updates = self.port();
+        let updates = self.by_port();
         assert!(theirs == self.cells, "both sides draw the same picture");
         let entries = self.flat.entries.len();
         format!(
@@ -38,9 +38,22 @@ impl Drawing {
             updates as f64 / entries as f64
         )
     }
+}
 
-    /// The updates.
-    fn port(&mut self) -> i64 {
+impl Work for Drawing {
+    fn clear(&mut self) {
+        for channel in &mut self.cells {
+            channel.fill(0.0);
+        }
+    }
+
+    fn by_rust(&mut self) {
+        let [r0, r1, r2] = &mut self.cells;
+        let drawn = self.loaded.draw_image(SIDE, SIDE, [r0, r1, r2]);
+        assert_eq!(drawn, Outcome::Done(()), "spline.rs draws the pictures");
+    }
+
+    fn by_port(&mut self) -> i64 {
         let table = port::Table {
             segments: &self.flat.segments,
             segment_count: self.flat.segment_count,
@@ -60,23 +73,5 @@ impl Drawing {
             updates += answer[1];
         }
         updates
-    }
-}
-
-impl Work for Drawing {
-    fn clear(&mut self) {
-        for channel in &mut self.cells {
-            channel.fill(0.0);
-        }
-    }
-
-    fn by_rust(&mut self) {
-        let [r0, r1, r2] = &mut self.cells;
-        let drawn = self.loaded.draw_image(SIDE, SIDE, [r0, r1, r2]);
-        assert_eq!(drawn, Outcome::Done(()), "spline.rs draws the pictures");
-    }
-
-    fn by_port(&mut self) {
-        self.port();
     }
 }

@@ -1,13 +1,17 @@
-//! What drawing and building cost, against spline.rs on the same prepared input: processor time of the thread, runs by turns.
+//! What drawing and building cost, against spline.rs on the same prepared input: processor time of the thread, runs by turns; or
+//! under an emulator, where times say nothing, instructions.
 //!
-//! `bench` prints a table. `bench CALL SIDE WIDTH` makes one run, for a counter of instructions.
+//! `bench` prints the table of times, `bench counts` that of instructions (started by tools/counts). `bench CALL SIDE WIDTH`
+//! makes one run, for another counter of instructions, which finds it as the function `counted_run`; the port's says its first count.
 
 mod building;
 mod clock;
+mod counter;
 mod drawing;
 mod picture;
 
 use building::Building;
+use counter::Counter;
 use drawing::Drawing;
 use picture::{SIDE, WIDTHS};
 use std::process::ExitCode;
@@ -19,7 +23,14 @@ const RUNS: usize = 15;
 pub trait Work {
     fn clear(&mut self);
     fn by_rust(&mut self);
-    fn by_port(&mut self);
+    /// The first count that the port answers: updates, or segments.
+    fn by_port(&mut self) -> i64;
+}
+
+#[derive(Clone, Copy)]
+enum Side {
+    Rust,
+    Port,
 }
 
 fn main() -> ExitCode {
@@ -27,28 +38,57 @@ fn main() -> ExitCode {
     oracle::set_ln(port::ln);
     let words: Vec<String> = std::env::args().skip(1).collect();
     match words.iter().map(String::as_str).collect::<Vec<_>>()[..] {
-        [] => table(),
-        [call, side, width] => {
-            let picture = WIDTHS.iter().find(|named| named.0.to_string() == width);
-            let (Some((_, sigmas)), "draw" | "build", "rust" | "port") = (picture, call, side)
-            else {
-                return usage();
-            };
-            let mut work = work_of(call, sigmas);
-            work.clear();
-            match side {
-                "rust" => work.by_rust(),
-                _ => work.by_port(),
-            }
+        [] if counter::emulated() => {
+            refuse("times under an emulator say nothing: tools/counts counts instructions")
         }
+        [] => times(),
+        ["counts"] => match Counter::find() {
+            Some(counter) => counts(&counter),
+            None => refuse("nobody counts the instructions here: start this by tools/counts"),
+        },
+        [call, side, width] => one_run(call, side, width),
+        _ => usage(),
+    }
+}
+
+fn usage() -> ExitCode {
+    refuse("usage: bench [counts | CALL SIDE WIDTH]: draw or build, rust or port, 5 or 17 or 48")
+}
+
+fn refuse(why: &str) -> ExitCode {
+    eprintln!("bench: {why}");
+    ExitCode::from(2)
+}
+
+fn one_run(call: &str, side: &str, width: &str) -> ExitCode {
+    let picture = WIDTHS.iter().find(|named| named.0.to_string() == width);
+    let side = match side {
+        "rust" => Side::Rust,
+        "port" => Side::Port,
         _ => return usage(),
+    };
+    let (Some((_, sigmas)), "draw" | "build") = (picture, call) else {
+        return usage();
+    };
+    let mut work = work_of(call, sigmas);
+    work.clear();
+    if let Some(count) = counted_run(&mut *work, side) {
+        println!("{count}");
     }
     ExitCode::SUCCESS
 }
 
-fn usage() -> ExitCode {
-    eprintln!("usage: bench [CALL SIDE WIDTH]: draw or build, rust or port, 5 or 17 or 48");
-    ExitCode::from(2)
+/// By this name callgrind tells a run from its preparation.
+#[no_mangle]
+#[inline(never)]
+fn counted_run(work: &mut dyn Work, side: Side) -> Option<i64> {
+    match side {
+        Side::Rust => {
+            work.by_rust();
+            None
+        }
+        Side::Port => Some(work.by_port()),
+    }
 }
 
 fn work_of(call: &str, sigmas: &[i32]) -> Box<dyn Work> {
@@ -58,37 +98,71 @@ fn work_of(call: &str, sigmas: &[i32]) -> Box<dyn Work> {
     }
 }
 
-fn table() {
-    println!("{SIDE} by {SIDE} pixels, milliseconds of processor time, {RUNS} runs of each side by turns");
+/// What the pictures hold.
+fn pictures() {
     for (_, sigmas) in WIDTHS {
         println!("{}", Drawing::of(sigmas).words());
     }
-    println!("call   width  Rust least  median  port least  median  port / Rust, least  medians");
+}
+
+/// Each call on each picture, with its line's first words.
+fn each(mut measure: impl FnMut(&str, &mut dyn Work)) {
     for call in ["draw", "build"] {
         for (width, sigmas) in WIDTHS {
-            let mut work = work_of(call, sigmas);
-            let (mut rust, mut port) = (Vec::new(), Vec::new());
-            for _ in 0..RUNS {
-                work.clear();
-                rust.push(clock::taken(|| work.by_rust()));
-                work.clear();
-                port.push(clock::taken(|| work.by_port()));
-            }
-            let [rust, port] = [rust, port].map(least_and_median);
-            println!(
-                "{call:<6} {width:>5} {:>11.1} {:>7.1} {:>11.1} {:>7.1} {:>19.2} {:>8.2}",
-                rust[0],
-                rust[1],
-                port[0],
-                port[1],
-                port[0] / rust[0],
-                port[1] / rust[1],
+            measure(
+                &format!("{call:<6} {width:>5}"),
+                &mut *work_of(call, sigmas),
             );
         }
     }
 }
 
+fn times() -> ExitCode {
+    println!("{SIDE} by {SIDE} pixels, milliseconds of processor time, {RUNS} runs of each side by turns");
+    pictures();
+    println!("call   width  Rust least  median  port least  median  port / Rust, least  medians");
+    each(|line, work| {
+        let (mut rust, mut port) = (Vec::new(), Vec::new());
+        for _ in 0..RUNS {
+            work.clear();
+            rust.push(clock::taken(|| work.by_rust()));
+            work.clear();
+            port.push(clock::taken(|| work.by_port()));
+        }
+        let [rust, port] = [rust, port].map(least_and_median);
+        println!(
+            "{line} {:>11.1} {:>7.1} {:>11.1} {:>7.1} {:>19.2} {:>8.2}",
+            rust[0],
+            rust[1],
+            port[0],
+            port[1],
+            port[0] / rust[0],
+            port[1] / rust[1],
+        );
+    });
+    ExitCode::SUCCESS
+}
+
 fn least_and_median(mut times: Vec<f64>) -> [f64; 2] {
     times.sort_by(f64::total_cmp);
     [times[0], times[times.len() / 2]]
+}
+
+fn counts(counter: &Counter) -> ExitCode {
+    println!("{SIDE} by {SIDE} pixels, instructions, not times: counted by the emulator, one run of each side");
+    pictures();
+    println!("call   width           Rust           port  port / Rust");
+    each(|line, work| {
+        let [rust, port] = [Side::Rust, Side::Port].map(|side| {
+            work.clear();
+            counter.taken(|| {
+                counted_run(work, side);
+            })
+        });
+        println!(
+            "{line} {rust:>14} {port:>14} {:>12.2}",
+            port as f64 / rust as f64
+        );
+    });
+    ExitCode::SUCCESS
 }
