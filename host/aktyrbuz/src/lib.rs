@@ -29,8 +29,9 @@ mod table;
 
 pub use code::{Code, Refusal};
 pub use description::{Description, Limit};
+pub use port::Image;
 pub use rooms::Rooms;
-pub use table::{Counts, Image, Table};
+pub use table::{Counts, Table};
 
 /// The natural logarithm that building uses, the same on every machine.
 pub fn ln(x: f32) -> f32 {

@@ -3,36 +3,8 @@
 use crate::cells::{first, zeros};
 use crate::code::{judged, Code, Refusal};
 use crate::{Description, Rooms};
+use port::Image;
 use std::ops::Range;
-
-/// The image that a table is built for.
-#[derive(Clone, Copy, Debug, PartialEq)]
-pub struct Image {
-    pub width: u32,
-    pub height: u32,
-    /// What X gains of Y.
-    pub y_to_x: f32,
-    /// What B gains of Y.
-    pub y_to_b: f32,
-    /// Whether segments reach until they add less than 10^-5, and not 10^-3.
-    pub high_precision: bool,
-    /// Whether the greater area limit holds.
-    pub level10: bool,
-}
-
-impl Image {
-    /// The usual ones: X gains nothing, B gains all of Y, the lesser precision and limit.
-    pub fn new(width: u32, height: u32) -> Image {
-        Image {
-            width,
-            height,
-            y_to_x: 0.0,
-            y_to_b: 1.0,
-            high_precision: false,
-            level10: false,
-        }
-    }
-}
 
 /// What a build is lent.
 struct Buffers {
@@ -60,14 +32,7 @@ impl Buffers {
     fn build(mut self, description: &Description, image: &Image) -> Result<Table, Refusal> {
         let [made, listed, estimate] = judged(port::build(
             &description.parts(),
-            &port::Image {
-                width: image.width,
-                height: image.height,
-                y_to_x: image.y_to_x,
-                y_to_b: image.y_to_b,
-                high_precision: image.high_precision,
-                level10: image.level10,
-            },
+            image,
             port::Buffers {
                 path: &mut self.path,
                 walk: &mut self.walk,

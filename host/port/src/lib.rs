@@ -120,15 +120,33 @@ pub fn write_into(
     }
 }
 
-/// What a build takes beside the description; false is Level5.
-#[derive(Clone, Copy, Debug)]
+/// The image that a table is built for.
+#[derive(Clone, Copy, Debug, PartialEq)]
 pub struct Image {
     pub width: u32,
     pub height: u32,
+    /// What X gains of Y.
     pub y_to_x: f32,
+    /// What B gains of Y.
     pub y_to_b: f32,
+    /// Whether segments reach until they add less than 10^-5, and not 10^-3.
     pub high_precision: bool,
+    /// Whether the greater area limit holds.
     pub level10: bool,
+}
+
+impl Image {
+    /// The usual ones: X gains nothing, B gains all of Y, the lesser precision and limit.
+    pub fn new(width: u32, height: u32) -> Image {
+        Image {
+            width,
+            height,
+            y_to_x: 0.0,
+            y_to_b: 1.0,
+            high_precision: false,
+            level10: false,
+        }
+    }
 }
 
 /// The buffers that a build is lent.

@@ -178,12 +178,8 @@ impl Picture {
             adjustment: 0,
         };
         let image = port::Image {
-            width: SIDE,
-            height: SIDE,
-            y_to_x: 0.0,
-            y_to_b: 1.0,
-            high_precision: false,
             level10: true,
+            ..port::Image::new(SIDE, SIDE)
         };
         let lent = port::Buffers {
             path: &mut self.path,
