@@ -122,7 +122,12 @@ pub fn one_spline(start: [f32; 2], deltas: &[i32], sigma: i32) -> Description {
     let mut coefficients = [0; 128];
     coefficients[96] = sigma;
     let mut description = Description::default();
-    push(&mut description, start.into(), deltas, &coefficients);
+    push(
+        &mut description,
+        (start[0], start[1]),
+        deltas,
+        &coefficients,
+    );
     description
 }
 
