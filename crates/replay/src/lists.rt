@@ -14,21 +14,7 @@ const COEFFICIENTS: usize = 2048;
 
 const VALUES: usize = 4096;
 
-// Whether the values begin with these words.
-fn begin_u32(values: &[u32], words: &[u32]) -> bool {
-    let mut i = 0;
-    while i < words.len() {
-        if values.len() <= i {
-            return false;
-        }
-        if values[i] != words[i] {
-            return false;
-        }
-        i += 1;
-    }
-    true
-}
-
+// Whether the values begin with the signed numbers of these words.
 fn begin_i32(values: &[i32], words: &[u32]) -> bool {
     let mut i = 0;
     while i < words.len() {
@@ -73,7 +59,7 @@ fn are_buffers(
     if words.len() != third + 128 * first {
         return false;
     }
-    if !begin_u32(counts, &words[0..first]) {
+    if !stored::begin_u32(counts, &words[0..first]) {
         return false;
     }
     if !stored::begin_f32(starts, &words[first..second]) {
@@ -205,7 +191,7 @@ fn is_written(
             if values != list.len() {
                 return false;
             }
-            begin_u32(&written, list)
+            stored::begin_u32(&written, list)
         }
     }
 }

@@ -1,9 +1,7 @@
 -- What each comparison has found, in the terms of the definitions.
 use mathlib.Core.Path.{_≡_, sym, subst, ap, _∙_}
-use mathlib.Core.Logic.{⊎-elim}
 use mathlib.Core.List.{List}
 use Prim.Native.Nat.{ℕ, _+_, _*_, _<_, _≤_}
-use native.Mathlib.Nat.{eq-or-lt-of-le}
 use native.Mathlib.Omega.{arith}
 use lib.IntN.{ℤ}
 use lib.ListN.{length, getD, take}
@@ -15,27 +13,7 @@ use Rattle.dequantize.proofs.Tables.{length-table}
 use Rattle.table.specs.declared.BuildAnswer.{BuildAnswer}
 use Rattle.table.specs.Table.{Rooms, Image, imageOf, Table, buildOf}
 use Rattle.stored.specs.Stored.{floatIn, signedIn}
-use Rattle.replay_build.specs.Built.{part, BeginsWith, AnswerAgrees, BuildAgrees, lent, imageIn, floatsIn, signedsIn, descriptionIn}
-
--- the first i values are their words
-pub record Begun (values words : List ℕ) (i : ℕ) : Type 0 where
-  pub words-left : i ≤ length words
-  pub values-left : i ≤ length values
-  pub same : (k : ℕ) → k < i → getD values k 0 ≡ getD words k 0
-
-pub begun-none : (values words : List ℕ) → Begun values words 0
-begun-none values words = record { words-left = omega arith; values-left = omega arith; same = λ k h. absurd (omega arith) }
-
-module _ {values words : List ℕ} (i : ℕ) (b : Begun values words i) where
-  pub begun-more : i < length words → i < length values → getD values i 0 ≡ getD words i 0 → Begun values words (i + 1)
-  begun-more h l e = record {
-    words-left = omega arith;
-    values-left = omega arith;
-    same = λ k m. ⊎-elim (λ (p : k ≡ i). subst (λ (j : ℕ). getD values j 0 ≡ getD words j 0) (sym p) e) (λ n. b .same k n) (eq-or-lt-of-le {n = k} {m = i} (omega arith));
-  }
-
-  pub begun-all : length words ≤ i → BeginsWith values words
-  begun-all h = record { long = omega (arith, b .values-left, b .words-left); same = λ k m. b .same k (omega arith) }
+use Rattle.replay_build.specs.Built.{part, AnswerAgrees, BuildAgrees, lent, imageIn, floatsIn, signedsIn, descriptionIn}
 
 pub answer-agrees : (height : ℕ) (segments : List Float) (starts entries output : List ℕ) {a b : BuildAnswer} → a ≡ b → AnswerAgrees b height segments starts entries output → AnswerAgrees a height segments starts entries output
 answer-agrees height segments starts entries output p m = subst (λ (v : BuildAnswer). AnswerAgrees v height segments starts entries output) (sym p) m

@@ -13,18 +13,13 @@ use Rattle.dequantize.specs.Judge.{Description, descriptionOf}
 use Rattle.table.specs.declared.BuildAnswer.{BuildAnswer}
 use Rattle.table.specs.declared.BuildAnswer.the-variants.{Done, Refused}
 use Rattle.table.specs.Table.{Rooms, Image, imageOf, Table}
-use Rattle.stored.specs.Stored.{floatIn, signedIn, longIn, refusalWord, Begins}
+use Rattle.stored.specs.Stored.{floatIn, signedIn, longIn, refusalWord, Begins, BeginsWith}
 
 -- the words from a up to b
 abbrev pub part : ℕ → ℕ → List ℕ → List ℕ
 part a b words = take (b - a) (drop a words)
 
 -- ---- the output
-
--- the values begin with the words
-pub record BeginsWith (values words : List ℕ) : Type 0 where
-  pub long : length words ≤ length values
-  pub same : (k : ℕ) → k < length words → getD values k 0 ≡ getD words k 0
 
 -- code and place of a success, then the counts and the estimate
 pub record Headed (count listed estimate : ℕ) (output : List ℕ) : Type 0 where

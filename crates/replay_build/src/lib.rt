@@ -6,28 +6,11 @@ ghost use Prim.Native.Nat.{_≤_};
 ghost use lib.ListN.{length, getD};
 ghost use Rattle.dequantize.specs.Judge.{descriptionOf};
 ghost use Rattle.table.specs.Table.{buildOf};
-ghost use Rattle.replay_build.specs.Built.{BeginsWith, Headed, TableAgrees, RefusalAgrees, AnswerAgrees, BuildAgrees, lent, imageIn, floatsIn, signedsIn, descriptionIn};
+ghost use Rattle.replay_build.specs.Built.{Headed, TableAgrees, RefusalAgrees, AnswerAgrees, BuildAgrees, lent, imageIn, floatsIn, signedsIn, descriptionIn};
 use codes::Code;
 use table::BuildAnswer;
 
 // ---- the answer against the output words
-
-// Whether the values begin with these words.
-fn begin_u32(values: &[u32], words: &[u32]) -> bool
-    ensures { λ r. ⌜ (r ≡ true → BeginsWith (now (values .entry)) (now (words .entry))) ⌝ }
-{
-    let mut i = 0;
-    while i < words.len() {
-        if values.len() <= i {
-            return false;
-        }
-        if values[i] != words[i] {
-            return false;
-        }
-        i += 1;
-    }
-    true
-}
 
 // The code and the place of a success, and the three counts.
 fn is_head(count: u32, listed: u32, estimate: u64, output: &[u32]) -> bool
@@ -75,10 +58,10 @@ fn is_table(
     if !stored::begin_f32(segments, &output[6..numbers_end]) {
         return false;
     }
-    if !begin_u32(row_starts, &output[numbers_end..starts_end]) {
+    if !stored::begin_u32(row_starts, &output[numbers_end..starts_end]) {
         return false;
     }
-    begin_u32(entries, &output[starts_end..])
+    stored::begin_u32(entries, &output[starts_end..])
 }
 
 fn is_refusal(code: Code, place: usize, output: &[u32]) -> bool

@@ -28,3 +28,8 @@ refusalWord number = cond (eqb number 5) 10 number
 pub record Begins (values : List Float) (words : List ℕ) : Type 0 where
   pub long : length words ≤ length values
   pub same : (k : ℕ) → k < length words → getD values k nan ≡ floatIn words k
+
+-- the values begin with the words themselves
+pub record BeginsWith (values words : List ℕ) : Type 0 where
+  pub long : length words ≤ length values
+  pub same : (k : ℕ) → k < length words → getD values k 0 ≡ getD words k 0

@@ -7,7 +7,7 @@ ghost use mir.Syntax.{w32, w64};
 ghost use mir.Val.{toZ};
 ghost use lib.Ieee.{binary32, binary64, ofBits};
 ghost use Rattle.dequantize.specs.Coefficients.{table};
-ghost use Rattle.stored.specs.Stored.{floatIn, signedIn, longIn, refusalWord, Begins};
+ghost use Rattle.stored.specs.Stored.{floatIn, signedIn, longIn, refusalWord, Begins, BeginsWith};
 
 // The f32 of a bit pattern.
 pub fn float(bits: u32) -> f32
@@ -170,6 +170,23 @@ pub fn begin_f32(values: &[f32], words: &[u32]) -> bool
             return false;
         }
         if !is_float(values[i], words[i]) {
+            return false;
+        }
+        i += 1;
+    }
+    true
+}
+
+// Whether the values begin with these words.
+pub fn begin_u32(values: &[u32], words: &[u32]) -> bool
+    ensures { λ r. ⌜ (r ≡ true → BeginsWith (now (values .entry)) (now (words .entry))) ⌝ }
+{
+    let mut i = 0;
+    while i < words.len() {
+        if values.len() <= i {
+            return false;
+        }
+        if values[i] != words[i] {
             return false;
         }
         i += 1;

@@ -1,21 +1,23 @@
 -- The first i values are those of their words.
 use Prim.Native.Nat.{_-_}
 use native.Mathlib.Omega.{arith}
+use lib.Ieee.{nan}
 use lib.ListN.{length}
 use borrow.Author.Needs.{needs}
 use borrow.Author.Tests.{not-false}
-use Rattle.stored.proofs.Begun.{no-true, Begun, begun-none, begun-more, begun-all}
+use Rattle.stored.specs.Stored.{floatIn}
+use Rattle.stored.proofs.Begun.{no-true, Begun, begun-none, begun-more, begun-long}
 use Rattle.stored.proofs.begin_f32.Statement.{statement}
 use Rattle.stored.proofs.begin_f32.Tie as tie
 
 abbrev Inv-loop : tie.InvT-loop
-Inv-loop values words i₀ i = Begun values words i
+Inv-loop values words i₀ i = Begun nan (floatIn words) values words i
 
 abbrev μ-loop : tie.MeasureT-loop
 μ-loop values words i₀ i = length words - i
 
 loop-holds : tie.Need-loop-holds Inv-loop μ-loop
-loop-holds c = begun-none _ _
+loop-holds c = begun-none _ _ _ _
 
 returns : tie.Need-returns Inv-loop μ-loop
 returns c = λ e. absurd (no-true e)
@@ -47,10 +49,12 @@ loop-less c = omega arith
 loop-again : tie.Need-loop-again Inv-loop μ-loop
 loop-again c =
     let l = c .before .before .before .before .before .before .loop in
-    begun-more (l .i) (l .inv) (omega arith) (omega arith) (c .before .is-float .ensures (not-false _ (c .if2 .left)))
+    begun-more _ _ _ _ (l .i) (l .inv) (omega arith) (omega arith) (c .before .is-float .ensures (not-false _ (c .if2 .left)))
 
 returns-3 : tie.Need-returns-3 Inv-loop μ-loop
-returns-3 c = λ e. begun-all (c .before .loop .i) (c .before .loop .inv) (omega arith)
+returns-3 c =
+    let l = c .before .loop in
+    λ e. record { long = begun-long _ _ _ _ (l .i) (l .inv) (omega arith); same = λ k h. l .inv .same k (omega arith) }
 
 pub begin-f32-spec : {M : Type 1} → statement M
 begin-f32-spec =
