@@ -112,9 +112,10 @@ fn clip(x: f32) -> u32
 {
     if x > 0.0 {
         if x < 8388608.0 {
-            let whole = std::num::truncating_f32_to_u64(x);
-            let up = unless(x < ((whole + whole + 1) as f32) * 0.5);
-            return (whole as u32) + up;
+            // 2^23 and more leaves a float no fraction: the sum is rounded, and a half may have gone down to the even number
+            let near = (x + 8388608.0) - 8388608.0;
+            let up = unless(x < near + 0.5);
+            return near as u32 + up;
         }
         if x < 16777216.0 {
             return std::num::truncating_f32_to_u64(x) as u32;

@@ -1,18 +1,15 @@
--- `clip` meets its contract: each branch is one case of the float's size, and `Ranges` has the law of each.
+-- `clip` meets its contract: each branch is one case of the float's size; `Rounds` has the law of the first, `Ranges` of the others.
 use mathlib.Core.Path.{_≡_, refl, sym, subst, _∙_}
-use mathlib.Core.Bool.{Bool, true, false, cond}
-use Prim.Native.Nat.{ℕ, _+_}
-use native.Mathlib.Nat.{add-zero}
+use Prim.Native.Nat.{_+_}
 use native.Mathlib.Omega.{arith}
 use lib.Dec.{T}
-use lib.IntN.{pos, negsuc}
-use lib.Ieee.{Float, fin, binary32, ofBits, fits, lt, mul, ofInt}
+use lib.Ieee.{binary32, ofBits, fits, add, sub, toUnsigned}
 use borrow.Author.Needs.{needs}
 use Rattle.segments.specs.Ranges.{clip, rounded}
-use Rattle.numbers.specs.Whole.{cut, half}
+use Rattle.numbers.specs.Whole.{half}
 use Rattle.numbers.specs.Inner.{Small, Made}
 use Rattle.numbers.proofs.Zero.{yes, no}
-use Rattle.numbers.proofs.Wholes.{asked, made-cut, castable-twice, half-yes, half-no}
+use Rattle.segments.proofs.Rounds.{near-cast, rounded-by}
 use Rattle.segments.proofs.Ranges.{asked-large, clip-small, clip-large, clip-huge, clip-none, clip-most}
 use Rattle.segments.proofs.clip.Statement.{statement}
 use Rattle.segments.proofs.clip.Tie as tie
@@ -24,61 +21,41 @@ small : (c : tie.Then2) → Small (c .before .before .args .x)
 unfolding ofBits
 small c = record { over = yes (c .before .if1 .taken); under = yes (c .if2 .taken) }
 
-whole : (c : tie.After-truncating-f32-to-u64) → Made cut (c .before .before .before .args .x) (c .truncating-f32-to-u64 .result)
-whole c = made-cut (c .before .before .before .args .x) (c .truncating-f32-to-u64 .result) (small (c .before)) (c .truncating-f32-to-u64 .ensures)
-
-truncating-f32-to-u64-requires : tie.Need-truncating-f32-to-u64-requires
-truncating-f32-to-u64-requires c κs = asked (c .before .before .args .x) (small c)
-
-add-unless : tie.Need-add-unless
-add-unless c = omega (arith, whole c .most)
-
-add-unless-2 : tie.Need-add-unless-2
-add-unless-2 c = omega (arith, whole c .most)
-
-int-to-float-unless : tie.Need-int-to-float-unless
-int-to-float-unless c =
-    let s = c .before in
-    castable-twice (s .before .before .before .args .x) (s .truncating-f32-to-u64 .result) (small (s .before)) (whole s)
-
 unless-requires : tie.Need-unless-requires
 unless-requires c κs = search needs
 
--- the whole part, and one more from the half on, is the number rounded
-half-by : (x : Float) (t u : ℕ) → Small x → Made cut x t → (b : Bool) → lt x (mul binary32 (ofInt binary32 (pos (t + t + 1))) (fin false 1 (negsuc 0))) ≡ b → u ≡ cond b 0 1 → Made half x (t + u)
-half-by x t u S M true h e = subst (λ (z : ℕ). Made half x (t + z)) (sym e) (subst (λ (z : ℕ). Made half x z) (sym (add-zero t)) (half-yes x t S M (yes h)))
-half-by x t u S M false h e = subst (λ (z : ℕ). Made half x (t + z)) (sym e) (half-no x t S M (no h))
+float-to-int-result : tie.Need-float-to-int-result
+unfolding ofBits
+float-to-int-result c = near-cast (c .before .before .before .before .args .x) (small (c .before .before)) .0
 
-nearest : (c : tie.After-unless) → Made half (c .before .before .before .before .before .args .x) (c .before .before .truncating-f32-to-u64 .result + c .unless .result)
+-- the closest whole number, with a tie that went down made good
+nearest : (c : tie.After-unless) → Made half (c .before .before .before .args .x) (toUnsigned 32 (sub binary32 (add binary32 (c .before .before .before .args .x) (ofBits binary32 1258291200)) (ofBits binary32 1258291200)) + c .unless .result)
 unfolding ofBits
 nearest c =
-    let s = c .before .before in
-    half-by (s .before .before .before .args .x) (s .truncating-f32-to-u64 .result) (c .unless .result) (small (s .before)) (whole s) _ refl (c .unless .ensures)
-
-cast-result : tie.Need-cast-result
-cast-result c = omega (arith, whole (c .before .before) .most)
+    let x = c .before .before .before .args .x in
+    rounded-by x (small (c .before)) _ (c .unless .result) (near-cast x (small (c .before)) .1) _ refl (c .unless .ensures)
 
 add-result : tie.Need-add-result
-add-result c = omega (arith, nearest c .most)
+add-result c = omega (arith, nearest (c .before) .most)
 
 returns : tie.Need-returns
 returns c =
-    let s = c .before .before .before in
-    clip-small (s .before .before .args .x) _ (small s .over) (small s .under) (nearest c .is) (nearest c .most)
+    let s = c .before .before in
+    clip-small (s .before .before .args .x) _ (small s .over) (small s .under) (nearest (c .before) .is) (nearest (c .before) .most)
 
-truncating-f32-to-u64-requires-2 : tie.Need-truncating-f32-to-u64-requires-2
+truncating-f32-to-u64-requires : tie.Need-truncating-f32-to-u64-requires
 unfolding ofBits
-truncating-f32-to-u64-requires-2 c κs = asked-large (c .before .before .before .args .x) (yes (c .before .before .if1 .taken)) (yes (c .if3 .taken))
+truncating-f32-to-u64-requires c κs = asked-large (c .before .before .before .args .x) (yes (c .before .before .if1 .taken)) (yes (c .if3 .taken))
 
-cut-large : (c : tie.After-truncating-f32-to-u642) → c .truncating-f32-to-u642 .result ≡ clip (rounded (c .before .before .before .before .args .x))
+cut-large : (c : tie.After-truncating-f32-to-u64) → c .truncating-f32-to-u64 .result ≡ clip (rounded (c .before .before .before .before .args .x))
 unfolding ofBits
 cut-large c =
     let s = c .before .before in
     let x = s .before .before .args .x in
-    c .truncating-f32-to-u642 .ensures ∙ clip-large x (held (s .before .before)) (no (s .if2 .left)) (yes (c .before .if3 .taken))
+    c .truncating-f32-to-u64 .ensures ∙ clip-large x (held (s .before .before)) (no (s .if2 .left)) (yes (c .before .if3 .taken))
 
-cast-result-2 : tie.Need-cast-result-2
-cast-result-2 c = omega (arith, cut-large c, clip-most (rounded (c .before .before .before .before .args .x)))
+cast-result : tie.Need-cast-result
+cast-result c = omega (arith, cut-large c, clip-most (rounded (c .before .before .before .before .args .x)))
 
 returns-2 : tie.Need-returns-2
 returns-2 c = cut-large c
@@ -95,16 +72,12 @@ pub clip-spec : {M : Type 1} → statement M
 clip-spec =
     tie.close
     (tie.spec
-    truncating-f32-to-u64-requires
-    add-unless
-    add-unless-2
-    int-to-float-unless
     unless-requires
-    cast-result
+    float-to-int-result
     add-result
     returns
-    truncating-f32-to-u64-requires-2
-    cast-result-2
+    truncating-f32-to-u64-requires
+    cast-result
     returns-2
     returns-3
     returns-4)
