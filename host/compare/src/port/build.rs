@@ -12,6 +12,7 @@ use model::list::well_shaped;
 use model::BuildRooms;
 use oracle::Outcome;
 use port::{Answer, Buffers, Image};
+use std::thread;
 
 const CASES_A_KIND: u64 = 1_200;
 const SLOW_CASES_A_KIND: u64 = 12;
@@ -23,13 +24,31 @@ const MOST_ROW_STARTS: u64 = (1 << 23) + 1;
 /// A table with more numbers than this is left out: the buffers would not fit into memory.
 const MOST_NUMBERS: u64 = 1 << 28;
 
+/// Building takes longer than all other calls together, so threads share its cases by turns, the same in every run.
+const THREADS: usize = 2;
+
 pub fn compare(tally: &mut Tally) {
-    for (kind, seed) in each(&KINDS, CASES_A_KIND) {
-        compare_case(tally, kind, seed);
-    }
+    thread::scope(|threads| {
+        let share = |first| {
+            let share = tally.none_yet();
+            threads.spawn(move || compare_share(share, first))
+        };
+        let running: Vec<_> = (0..THREADS).map(share).collect();
+        for share in running {
+            tally.join(&share.join().expect("a share of the cases ends"));
+        }
+    });
+    // These need much memory and go one by one.
     for (kind, seed) in few(&SLOW_KINDS, SLOW_CASES_A_KIND) {
         compare_case(tally, kind, seed);
     }
+}
+
+fn compare_share(mut share: Tally, first: usize) -> Tally {
+    for (kind, seed) in each(&KINDS, CASES_A_KIND).skip(first).step_by(THREADS) {
+        compare_case(&mut share, kind, seed);
+    }
+    share
 }
 
 fn compare_case(tally: &mut Tally, kind: &str, seed: u64) {

@@ -61,13 +61,22 @@ impl Tally {
     /// Counts a difference, and keeps the shortest in words.
     pub fn differs(&mut self, words: String) {
         self.differences += 1;
+        self.keep(words);
+    }
+
+    fn keep(&mut self, words: String) {
         let shorter = |kept: &String| words.len() < kept.len();
         if self.smallest.as_ref().map_or(true, shorter) {
             self.smallest = Some(words);
         }
     }
 
-    /// Adds the counts of another call.
+    /// A tally of the same call that has counted nothing yet.
+    pub fn none_yet(&self) -> Tally {
+        Tally::new(self.call, self.progress)
+    }
+
+    /// Adds the counts of another call, or of other cases of this one, and keeps the shorter difference.
     pub fn join(&mut self, other: &Tally) {
         self.cases += other.cases;
         self.calls += other.calls;
@@ -76,6 +85,9 @@ impl Tally {
         self.accepted += other.accepted;
         self.round_trips += other.round_trips;
         self.differences += other.differences;
+        if let Some(words) = &other.smallest {
+            self.keep(words.clone());
+        }
         for (code, count) in &other.refused {
             *self.refused.entry(code.clone()).or_default() += count;
         }
