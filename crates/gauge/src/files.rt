@@ -1,5 +1,5 @@
 // The values of a file.
-use crate::say;
+ghost use Rattle.io.specs.Counts.{Counts};
 use text::Parsed;
 
 // More than a file may have, so that one that fills it is known to be too long.
@@ -11,34 +11,36 @@ pub enum Loaded {
     Status(u8),
 }
 
-fn say_line(path: &[u8], text: &[u8], at: usize, what: &[u8]) {
-    say::wrong(path);
-    say::wrong(b": line ");
-    io::print_decimal(2, text::line_of(text, at) as u64);
-    say::wrong(what);
+// A line that begins with the file's name and the line in it.
+fn at_line(path: &[u8], line: usize, what: &[u8]) {
+    io::write_all(2, path);
+    words::wrong(2, b": line #", &[line as u64]);
+    words::wrong(2, what, &[]);
 }
 
 fn parse(path: &[u8], text: &[u8], values: &mut [u32]) -> Loaded {
     match text::values_of(text, values) {
         Parsed::Values(n) => Loaded::Values(n),
         Parsed::Stranger(at) => {
-            say_line(
+            at_line(
                 path,
-                text,
-                at,
+                text::line_of(text, at),
                 b": a byte that is neither a digit nor white space\n",
             );
             Loaded::Status(2)
         }
         Parsed::Great(at) => {
-            say_line(path, text, at, b": a number above 4294967295\n");
+            at_line(
+                path,
+                text::line_of(text, at),
+                b": a number above 4294967295\n",
+            );
             Loaded::Status(2)
         }
         Parsed::Full(at) => {
-            say_line(
+            at_line(
                 path,
-                text,
-                at,
+                text::line_of(text, at),
                 b": more values than this program has room for, 65536\n",
             );
             Loaded::Status(1)
@@ -53,6 +55,21 @@ fn can_read(fd: i32) -> bool {
     0 <= got
 }
 
+// The first n bytes of the file, which fill the buffer only if there are too many.
+fn parse_read(path: &[u8], bytes: &[u8], n: usize, values: &mut [u32]) -> Loaded
+    requires { ⌜ Counts n (now bytes) ⌝ }
+{
+    if n == bytes.len() {
+        io::write_all(2, path);
+        return Loaded::Status(words::wrong(
+            1,
+            b": longer than this program has room for, 524287 bytes\n",
+            &[],
+        ));
+    }
+    parse(path, &bytes[..n], values)
+}
+
 fn fill(path: &[u8], fd: i32, values: &mut [u32]) -> Loaded {
     let mut bytes = [0u8; BYTES];
     let n = io::read_full(fd, &mut bytes);
@@ -62,12 +79,7 @@ fn fill(path: &[u8], fd: i32, values: &mut [u32]) -> Loaded {
             return Loaded::Status(2);
         }
     }
-    if n == BYTES {
-        say::wrong(path);
-        say::wrong(b": longer than this program has room for, 524287 bytes\n");
-        return Loaded::Status(1);
-    }
-    parse(path, &bytes[..n], values)
+    parse_read(path, &bytes, n, values)
 }
 
 // The values of the file that argument i names.

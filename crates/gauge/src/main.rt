@@ -1,16 +1,14 @@
 // What a list of decoded values holds, what it draws, and which rows: `gauge read`, `gauge draw`, `gauge rows`.
 // A program has no exit status: with `--status` it is written as a digit to descriptor 3 (0: done, 1: refused, 2: wrong use).
-mod building;
-mod drawing;
+mod arguments;
 mod files;
-mod pixels;
-mod reading;
-mod refusals;
-mod say;
 
 ghost use Prim.Native.Nat.{_≤_};
-use drawing::Task;
-use say::Number;
+use arguments::Number;
+use canvas::Task;
+use files::Loaded;
+
+const VALUES: usize = 65536;
 
 // The size of an image, by two arguments.
 enum Size {
@@ -26,17 +24,52 @@ enum Kind {
 }
 
 fn usage() -> u8 {
-    say::wrong(
+    words::wrong(
+        2,
         b"usage: gauge read VALUES, gauge rows VALUES WIDTH HEIGHT, or gauge draw VALUES WIDTH HEIGHT PICTURE.ppm or .pfm\n",
-    );
-    2
+        &[],
+    )
 }
 
 fn say_size() -> u8 {
-    say::wrong(
+    words::wrong(
+        2,
         b"a width and a height from 1 through 8388608 are due, and this program has room for 16384 rows\n",
-    );
-    2
+        &[],
+    )
+}
+
+// The list is the first n of the values.
+fn read_first(values: &[u32], n: usize) -> u8 {
+    if values.len() < n {
+        return 2;
+    }
+    rooms::read_list(&values[..n])
+}
+
+// Reads the file that argument i names.
+fn read(i: usize) -> u8 {
+    let mut values = [0u32; VALUES];
+    match files::load(i, &mut values) {
+        Loaded::Status(status) => status,
+        Loaded::Values(n) => read_first(&values, n),
+    }
+}
+
+fn build_values(values: &[u32], n: usize, task: Task) -> u8 {
+    if values.len() < n {
+        return 2;
+    }
+    rooms::build_list(&values[..n], task)
+}
+
+// Builds the file that argument i names, and does what is asked of the table.
+fn build(i: usize, task: Task) -> u8 {
+    let mut values = [0u32; VALUES];
+    match files::load(i, &mut values) {
+        Loaded::Status(status) => status,
+        Loaded::Values(n) => build_values(&values, n, task),
+    }
 }
 
 fn is_within(n: u32, most: u32) -> bool {
@@ -50,10 +83,10 @@ fn is_within(n: u32, most: u32) -> bool {
 fn size_at(i: u8) -> Size
     requires { ⌜ i ≤ 5 ⌝ }
 {
-    let Number::Is(width) = say::argument(i as usize) else {
+    let Number::Is(width) = arguments::argument(i as usize) else {
         return Size::Not;
     };
-    let Number::Is(height) = say::argument(i as usize + 1) else {
+    let Number::Is(height) = arguments::argument(i as usize + 1) else {
         return Size::Not;
     };
     if !is_within(width, 8388608) {
@@ -70,7 +103,7 @@ fn rows(i: u8) -> u8
 {
     match size_at(i + 1) {
         Size::Not => say_size(),
-        Size::Of(width, height) => building::run(
+        Size::Of(width, height) => build(
             i as usize,
             Task {
                 width: width,
@@ -105,7 +138,10 @@ fn draw_to(i: u8, width: u32, height: u32, path: &[u8], floats: bool, progress: 
         os::fail(path);
         return 2;
     }
-    let status = building::run(
+    if fd == 1 {
+        return words::wrong(1, b"standard output is closed\n", &[]);
+    }
+    let status = build(
         i as usize,
         Task {
             width: width,
@@ -147,19 +183,19 @@ fn run(at: u8, progress: bool) -> u8
 {
     let first = at as usize;
     let words = os::arg_count();
-    if say::is_argument(first, b"read") {
+    if arguments::is_argument(first, b"read") {
         if words != first + 2 {
             return usage();
         }
-        return reading::read(first + 1);
+        return read(first + 1);
     }
-    if say::is_argument(first, b"rows") {
+    if arguments::is_argument(first, b"rows") {
         if words != first + 4 {
             return usage();
         }
         return rows(at + 1);
     }
-    if say::is_argument(first, b"draw") {
+    if arguments::is_argument(first, b"draw") {
         if words != first + 5 {
             return usage();
         }
@@ -172,25 +208,21 @@ fn run(at: u8, progress: bool) -> u8
 fn run_from(at: u8) -> u8
     requires { ⌜ at ≤ 2 ⌝ }
 {
-    if say::is_argument(at as usize, b"--progress") {
+    if arguments::is_argument(at as usize, b"--progress") {
         return run(at + 1, true);
     }
     run(at, libc::isatty(2) == 1)
 }
 
-// A status, as one digit.
+// A status, as one digit; none after an end that is to be quiet.
 fn tell(status: u8) {
-    if status == 0 {
-        io::write_all(3, b"0");
-    } else if status == 1 {
-        io::write_all(3, b"1");
-    } else {
-        io::write_all(3, b"2");
+    if status < 3 {
+        io::print_decimal(3, status as u64);
     }
 }
 
 fn main() {
-    if say::is_argument(1, b"--status") {
+    if arguments::is_argument(1, b"--status") {
         tell(run_from(2));
     } else {
         run_from(1);

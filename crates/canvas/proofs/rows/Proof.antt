@@ -1,0 +1,48 @@
+-- `canvas::rows` ends: it goes through the rows in order.
+use Prim.Native.Nat.{_-_, _≤_}
+use borrow.Author.Needs.{needs}
+use Rattle.canvas.proofs.rows.Statement.{statement}
+use Rattle.canvas.proofs.rows.Tie as tie
+
+abbrev Inv-loop : tie.InvT-loop
+Inv-loop segments segment-count entries entry-count row-starts task height y₀ y = y ≤ height
+
+abbrev μ-loop : tie.MeasureT-loop
+μ-loop segments segment-count entries entry-count row-starts task height y₀ y = height - y
+
+loop-holds : tie.Need-loop-holds Inv-loop μ-loop
+loop-holds c = search needs
+
+reach-row-requires : tie.Need-reach-row-requires Inv-loop μ-loop
+reach-row-requires c κs = search needs
+
+returns : tie.Need-returns Inv-loop μ-loop
+returns c = search needs
+
+add-y : tie.Need-add-y Inv-loop μ-loop
+add-y c = search needs
+
+loop-less : tie.Need-loop-less Inv-loop μ-loop
+loop-less c = search needs
+
+loop-again : tie.Need-loop-again Inv-loop μ-loop
+loop-again c = search needs
+
+returns-2 : tie.Need-returns-2 Inv-loop μ-loop
+returns-2 c = search needs
+
+pub rows-spec : {M : Type 1} → statement M
+rows-spec =
+    tie.close
+    (tie.spec
+    Inv-loop
+    μ-loop
+    loop-holds
+    reach-row-requires
+    returns
+    add-y
+    loop-less
+    loop-again
+    returns-2)
+
+-- Assumes nothing.

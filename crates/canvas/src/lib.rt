@@ -1,0 +1,345 @@
+// What is asked of a built table: a picture of it in an open file, or its rows in words.
+ghost use Prim.Native.Nat.{_≤_, _<_};
+ghost use lib.ListN.{length};
+use draw::DrawAnswer;
+use draw::ReachAnswer;
+
+// The pixels that are drawn at a time, and the bytes that they take at most.
+const STRIP: u32 = 2048;
+
+const CELLS: usize = 2048;
+
+const BYTES: usize = 24576;
+
+// The bytes of the longest head, and more.
+const HEAD: usize = 64;
+
+// What is asked of a table: rows, or a picture of either kind in an open file.
+pub struct Task {
+    pub width: u32,
+    pub height: u32,
+    pub fd: i32,
+    pub picture: bool,
+    pub floats: bool,
+    pub progress: bool,
+}
+
+// How many updates a part took; or it was not drawn, or not written.
+enum Part {
+    Updates(u64),
+    Failed,
+}
+
+// The pixels of the next strip, of so many that are left.
+fn strip_of(left: u32) -> u32
+    requires { ⌜ 0 < left ⌝ }
+    ensures { λ r. ⌜ (0 < r) × (r ≤ left) × (r ≤ 2048) ⌝ }
+{
+    if left < STRIP { left } else { STRIP }
+}
+
+// The first n bytes.
+fn write_front(fd: i32, bytes: &[u8], n: usize) -> bool {
+    if bytes.len() < n {
+        return false;
+    }
+    io::write_all(fd, &bytes[..n])
+}
+
+// Writes n pixels.
+fn write_part(task: Task, n: usize, x: &[f32], y: &[f32], b: &[f32]) -> bool
+    requires { ⌜ (n ≤ 2048) × (n ≤ length (now x)) × (n ≤ length (now y)) × (n ≤ length (now b)) ⌝ }
+{
+    let mut bytes = [0u8; BYTES];
+    let fd = task.fd;
+    if task.floats {
+        pixels::floats(n, x, y, b, &mut bytes);
+        return write_front(fd, &bytes, 12 * n);
+    }
+    pixels::tones(n, x, y, b, &mut bytes);
+    write_front(fd, &bytes, 3 * n)
+}
+
+// Draws n pixels of row y from x0 on, on black, and writes them.
+fn draw_part(
+    segments: &[f32],
+    segment_count: u32,
+    entries: &[u32],
+    entry_count: u32,
+    row_starts: &[u32],
+    task: Task,
+    y: u32,
+    x0: u32,
+    n: u32,
+) -> Part
+    requires { ⌜ n ≤ 2048 ⌝ }
+{
+    let mut r0 = [0.0f32; CELLS];
+    let mut r1 = [0.0f32; CELLS];
+    let mut r2 = [0.0f32; CELLS];
+    let height = task.height;
+    match draw::draw(
+        segments,
+        segment_count,
+        entries,
+        entry_count,
+        row_starts,
+        height,
+        y,
+        x0,
+        n,
+        &mut r0,
+        &mut r1,
+        &mut r2,
+    ) {
+        DrawAnswer::Refused(_, _) => Part::Failed,
+        DrawAnswer::Done(updates) => {
+            if write_part(task, n as usize, &r0, &r1, &r2) {
+                Part::Updates(updates)
+            } else {
+                Part::Failed
+            }
+        }
+    }
+}
+
+// A whole row, strip by strip.
+fn draw_row(
+    segments: &[f32],
+    segment_count: u32,
+    entries: &[u32],
+    entry_count: u32,
+    row_starts: &[u32],
+    task: Task,
+    y: u32,
+) -> Part {
+    let width = task.width;
+    let mut sum: u64 = 0;
+    let mut x0: u32 = 0;
+    while x0 < width {
+        let n = strip_of(width - x0);
+        let Part::Updates(updates) = draw_part(
+            segments,
+            segment_count,
+            entries,
+            entry_count,
+            row_starts,
+            task,
+            y,
+            x0,
+            n,
+        ) else {
+            return Part::Failed;
+        };
+        sum = numbers::saturating_add(sum, updates);
+        x0 += n;
+    }
+    Part::Updates(sum)
+}
+
+// The row that is written after k others: a file of floats begins with the bottom row.
+fn row_after(task: Task, k: u32) -> u32 {
+    let height = task.height;
+    if task.floats {
+        if k < height { height - 1 - k } else { 0 }
+    } else {
+        k
+    }
+}
+
+// Every 256 rows, where progress is asked for.
+fn say_progress(task: Task, k: u32) {
+    if task.progress {
+        if k % 256 == 0 {
+            let height = task.height;
+            words::wrong(0, b"row # of #\n", &[k as u64, height as u64]);
+        }
+    }
+}
+
+// All rows.
+fn draw_rows(
+    segments: &[f32],
+    segment_count: u32,
+    entries: &[u32],
+    entry_count: u32,
+    row_starts: &[u32],
+    task: Task,
+) -> Part {
+    let height = task.height;
+    let mut sum: u64 = 0;
+    let mut k: u32 = 0;
+    while k < height {
+        say_progress(task, k);
+        let y = row_after(task, k);
+        let Part::Updates(updates) = draw_row(
+            segments,
+            segment_count,
+            entries,
+            entry_count,
+            row_starts,
+            task,
+            y,
+        ) else {
+            return Part::Failed;
+        };
+        sum = numbers::saturating_add(sum, updates);
+        k += 1;
+    }
+    Part::Updates(sum)
+}
+
+// The head of a picture: its kind, its size, and the greatest tone or the order of bytes.
+fn write_head(task: Task) -> bool {
+    let fd = task.fd;
+    let width = task.width;
+    let height = task.height;
+    let size = [width as u64, height as u64];
+    let mut head = [0u8; HEAD];
+    if task.floats {
+        let n = words::write(b"PF\n# #\n-1.0\n", &size, &mut head);
+        return io::write_all(fd, &head[..n]);
+    }
+    let n = words::write(b"P6\n# #\n255\n", &size, &mut head);
+    io::write_all(fd, &head[..n])
+}
+
+// How many entries a row has.
+fn entries_of(row_starts: &[u32], y: u32) -> u32 {
+    let at = y as usize;
+    if row_starts.len() <= at + 1 {
+        return 0;
+    }
+    let first = row_starts[at];
+    let past = row_starts[at + 1];
+    if past < first { 0 } else { past - first }
+}
+
+// How many rows have any.
+fn rows_held(row_starts: &[u32], height: u32) -> u32 {
+    let mut held: u32 = 0;
+    let mut y: u32 = 0;
+    while y < height {
+        held += has_some(row_starts, y);
+        y += 1;
+    }
+    held
+}
+
+fn has_some(row_starts: &[u32], y: u32) -> u32
+    ensures { λ r. ⌜ r ≤ 1 ⌝ }
+{
+    if entries_of(row_starts, y) == 0 { 0 } else { 1 }
+}
+
+// The status, after a line that says why the picture could not be written.
+fn no_picture() -> u8
+    ensures { λ r. ⌜ r ≤ 3 ⌝ }
+{
+    os::fail(b"the picture");
+    1
+}
+
+// `gauge draw`: the picture, and how many updates it took.
+pub fn draw(
+    segments: &[f32],
+    segment_count: u32,
+    entries: &[u32],
+    entry_count: u32,
+    row_starts: &[u32],
+    task: Task,
+) -> u8
+    ensures { λ r. ⌜ r ≤ 3 ⌝ }
+{
+    let height = task.height;
+    if !write_head(task) {
+        return no_picture();
+    }
+    match draw_rows(
+        segments,
+        segment_count,
+        entries,
+        entry_count,
+        row_starts,
+        task,
+    ) {
+        Part::Failed => no_picture(),
+        Part::Updates(updates) => words::out(
+            b"# updates, # rows that hold anything\n",
+            &[updates, rows_held(row_starts, height) as u64],
+        ),
+    }
+}
+
+fn say_row(y: u32, entries: u32, first: u32, past: u32) -> u8
+    ensures { λ r. ⌜ r ≤ 3 ⌝ }
+{
+    words::out(
+        b"row #: # entries, columns from # up to #\n",
+        &[y as u64, entries as u64, first as u64, past as u64],
+    )
+}
+
+// One row, where it has entries; the status so far.
+fn reach_row(
+    segments: &[f32],
+    segment_count: u32,
+    entries: &[u32],
+    entry_count: u32,
+    row_starts: &[u32],
+    task: Task,
+    y: u32,
+) -> u8
+    ensures { λ r. ⌜ r ≤ 3 ⌝ }
+{
+    let held = entries_of(row_starts, y);
+    if held == 0 {
+        return 0;
+    }
+    let height = task.height;
+    let width = task.width;
+    match draw::reach(
+        segments,
+        segment_count,
+        entries,
+        entry_count,
+        row_starts,
+        height,
+        y,
+        width,
+    ) {
+        ReachAnswer::Refused(_, _) => 0,
+        ReachAnswer::Done(first, past) => say_row(y, held, first, past),
+    }
+}
+
+// `gauge rows`: each row with entries, and its reach.
+pub fn rows(
+    segments: &[f32],
+    segment_count: u32,
+    entries: &[u32],
+    entry_count: u32,
+    row_starts: &[u32],
+    task: Task,
+) -> u8
+    ensures { λ r. ⌜ r ≤ 3 ⌝ }
+{
+    let height = task.height;
+    let mut y: u32 = 0;
+    while y < height {
+        let status = reach_row(
+            segments,
+            segment_count,
+            entries,
+            entry_count,
+            row_starts,
+            task,
+            y,
+        );
+        if status != 0 {
+            return status;
+        }
+        y += 1;
+    }
+    0
+}
