@@ -2,20 +2,18 @@
 // What a layer asks of its caller the export checks, or has in the type of an array; where it does not hold the answer is a code of the scope.
 ghost use mathlib.Core.Bool.{true};
 ghost use mathlib.Core.Path.{_≡_};
-ghost use Prim.Native.Nat.{_/_};
-ghost use lib.Dec.{leb, eqb};
+ghost use lib.Dec.{leb};
 ghost use lib.ListN.{length};
 ghost use Rattle.dequantize.specs.Coefficients.{invAdjustedQuant};
 ghost use Rattle.dequantize.specs.ControlPoints.{startingPoint, validPointPos};
 ghost use Rattle.dequantize.specs.Dequantize.{dequantizeOf};
-ghost use Rattle.dequantize.specs.Judge.{descriptionOf, sum};
+ghost use Rattle.dequantize.specs.Judge.{descriptionOf};
 ghost use Rattle.dequantize.specs.Limits.{splineAreaLimit};
 ghost use Rattle.walk.specs.Walk.{walkIn, walkRoom, lengthOf};
 ghost use Rattle.transform.specs.Transform.{sumsOf};
 ghost use Rattle.points.specs.Points.{segmentRoom, addSegmentsFromPoints, FilledOn};
 ghost use Rattle.segments.specs.Segment.{addSegment, segmentAt};
 ghost use Rattle.segments.specs.Ranges.{rowsOf, columnsOf};
-ghost use Rattle.table.specs.Table.{shaped};
 ghost use Rattle.layers.specs.Exported.{ranOf, ranLeaves, tracedFrom, givenOf, dequantizedLeaves, dequantizedExport, judgedOf, toldJudged, judgedLeaves, refusedWith, countedLeaves, countedPath, pathLeaves, pathFrom, curvedFrom, countedWalk, walkedAlong, WalkLeft, lengthLeaves, lengthFrom, coefficientsOf, fourOf, eightIn, eightLeaves, twoOf, countedSegments, filledAlong};
 use codes::Code;
 use curve::Curved;
@@ -173,43 +171,6 @@ fn told_judged(judged: Judged) -> Told
     }
 }
 
-// Whether the counts sum to just so many points: the sum itself may be too large to hold, so points are taken away instead.
-fn sum_is(counts: &[u32], points: usize) -> bool
-    ensures { λ r. ⌜ r ≡ eqb (sum (now (counts .entry))) points ⌝ }
-{
-    let mut left = points;
-    let mut i = 0;
-    while i < counts.len() {
-        let n = counts[i] as usize;
-        if left < n {
-            return false;
-        }
-        left -= n;
-        i += 1;
-    }
-    left == 0
-}
-
-// Whether the lengths agree, as a build tests it.
-fn shape_good(counts: &[u32], starts: &[f32], deltas: &[i32], coefficients: &[i32]) -> bool
-    ensures { λ r. ⌜ r ≡ shaped (descriptionOf (now (counts .entry)) (now (starts .entry)) (now (deltas .entry)) (now (coefficients .entry))) ⌝ }
-{
-    let splines = counts.len();
-    if starts.len() != 2 * splines {
-        return false;
-    }
-    if deltas.len() % 2 != 0 {
-        return false;
-    }
-    if coefficients.len() % 128 != 0 {
-        return false;
-    }
-    if coefficients.len() / 128 != splines {
-        return false;
-    }
-    sum_is(counts, deltas.len() / 2)
-}
-
 // SHAPE comes before any judging.
 fn judged_of(
     counts: &[u32],
@@ -220,7 +181,7 @@ fn judged_of(
 ) -> Judged
     ensures { λ r. ⌜ r ≡ judgedOf (descriptionOf (now (counts .entry)) (now (starts .entry)) (now (deltas .entry)) (now (coefficients .entry))) given ⌝ }
 {
-    if !shape_good(counts, starts, deltas, coefficients) {
+    if !table::shape_good(counts, starts, deltas, coefficients) {
         return Judged::Refused(Code::Shape, 0);
     }
     dequantize::judge::judge(counts, starts, deltas, coefficients, given)

@@ -71,7 +71,7 @@ fn sum_is(counts: &[u32], points: usize) -> bool
 }
 
 // Whether the lengths agree: 128 times a count may be too large to hold, so the coefficients are divided instead.
-fn shape_good(counts: &[u32], starts: &[f32], deltas: &[i32], coefficients: &[i32]) -> bool
+pub fn shape_good(counts: &[u32], starts: &[f32], deltas: &[i32], coefficients: &[i32]) -> bool
     ensures { λ r. ⌜ r ≡ shaped (descriptionOf (now (counts .entry)) (now (starts .entry)) (now (deltas .entry)) (now (coefficients .entry))) ⌝ }
 {
     let splines = counts.len();
