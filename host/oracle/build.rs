@@ -1,4 +1,4 @@
-//! Fetches spline.rs, and the parts of other files that document 01 names, from SPLINE_SRC into the build directory.
+//! Fetches spline.rs, and the parts of other files that the scope names, from SPLINE_SRC into the build directory.
 //!
 //! Whole files and whole items are taken as they stand. The only changed text are the two calls of `ln` in spline.rs.
 

@@ -1,4 +1,4 @@
--- Readings of document 01 that are about numbers, and the logarithm at its ends: each holds by computing.
+-- Readings of the scope that are about numbers, and the logarithm at its ends: each holds by computing.
 use mathlib.Core.Path.{_≡_, refl}
 use mathlib.Core.Bool.{Bool, true, false}
 use Prim.Native.Nat.{ℕ, suc}

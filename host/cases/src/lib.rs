@@ -11,7 +11,7 @@ pub mod tables;
 use std::ops::Range;
 use std::sync::atomic::{AtomicU64, Ordering};
 
-/// A description as the calls take it: flat, lengths as document 01's SHAPE asks.
+/// A description as the calls take it: flat, lengths as the scope's SHAPE asks.
 #[derive(Clone, Debug, Default, PartialEq)]
 pub struct Description {
     /// Double deltas of each spline, in pairs.
@@ -62,7 +62,7 @@ pub struct Table {
     pub estimate: u64,
 }
 
-/// The codes of document 01. `host/aktyrbuz` has its own for its users, and a test that holds them together.
+/// The codes of the scope. `host/aktyrbuz` has its own for its users, and a test that holds them together.
 #[derive(Clone, Copy, Debug, PartialEq, Eq)]
 #[repr(u32)]
 pub enum Code {

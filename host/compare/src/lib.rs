@@ -1,4 +1,4 @@
-//! Comparisons on fixed cases: spline.rs against the second reading of document 01, and the port against both.
+//! Comparisons on fixed cases: spline.rs against the second reading of the scope, and the port against both.
 
 pub mod build;
 pub mod curve;

@@ -57,7 +57,7 @@ fn main() -> ExitCode {
 
 /// Runs these layers, printing a line or more for each and for all.
 fn compare(layers: &[&Layer]) -> Tally {
-    println!("spline.rs against the second reading of document 01");
+    println!("spline.rs against the second reading of the scope");
     println!("{}", Tally::HEAD);
     let mut all = Tally::new("all");
     for (name, run) in layers {

@@ -70,7 +70,7 @@ impl Tally {
         }
     }
 
-    /// The codes of document 01 that no case gave.
+    /// The codes of the scope that no case gave.
     pub fn never_given(&self) -> Vec<String> {
         let given =
             |name: &String| self.refused.contains_key(name) || self.outside.contains_key(name);
@@ -102,7 +102,7 @@ fn add_all<K: Ord + Clone>(sums: &mut BTreeMap<K, u64>, more: &BTreeMap<K, u64>)
     }
 }
 
-/// A code as document 01 writes it.
+/// A code as the scope writes it.
 fn name(code: Code) -> String {
     format!("{code:?}").to_uppercase()
 }

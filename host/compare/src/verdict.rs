@@ -12,7 +12,7 @@ pub enum Verdict {
     Same,
     /// Both refuse for the same reason.
     Refused(Code),
-    /// The model gives a code for which document 01 promises no equality.
+    /// The model gives a code for which the scope promises no equality.
     Outside(Code),
     /// spline.rs panics on a position out of 32 bits, which the model refuses.
     Panicked,
@@ -51,7 +51,7 @@ pub fn hold<M: Debug, O: Debug>(
     }
 }
 
-/// Codes of document 01 for which the Rust has no counterpart.
+/// Codes of the scope for which the Rust has no counterpart.
 pub fn no_equality(code: Code) -> bool {
     use Code::*;
     matches!(

@@ -1,4 +1,4 @@
-//! The port's layers, each by itself, against spline.rs, and against the second reading of document 01 where that does not decide: bit for bit, any NaN counting as NaN.
+//! The port's layers, each by itself, against spline.rs, and against the second reading of the scope where that does not decide: bit for bit, any NaN counting as NaN.
 //!
 //! `layers` runs all, `layers LAYER..` only some. Prints how many cases came to what; ends with 1 where an answer differs, an outcome never came up, or cases are missing.
 

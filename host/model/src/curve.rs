@@ -1,4 +1,4 @@
-//! The curve (document 01, "Curve and walk"): from control points to the path.
+//! The curve (the scope, "Curve and walk"): from control points to the path.
 
 use crate::left_open::between;
 use crate::numbers::length;

@@ -1,4 +1,4 @@
-//! Dequantizing (document 01, "Dequantizing"): control points, coefficients and estimate of each spline, and the
+//! Dequantizing (the scope, "Dequantizing"): control points, coefficients and estimate of each spline, and the
 //! judgement of all of them.
 
 use crate::left_open::estimate;

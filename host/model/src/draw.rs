@@ -1,4 +1,4 @@
-//! Drawing a part of a row, and the reach of a row (document 01, "Segments and rows", last two paragraphs).
+//! Drawing a part of a row, and the reach of a row (the scope, "Segments and rows", last two paragraphs).
 
 use crate::numbers::round;
 use crate::segments::{columns, filled, MOST_SEGMENTS};

@@ -1,5 +1,5 @@
-//! What document 01 leaves to the Rust: it names a function there and gives no steps. Only what stands here was taken
-//! from outside document 01; each part says which sentence leaves it open.
+//! What the scope leaves to the Rust: it names a function there and gives no steps. Only what stands here was taken
+//! from outside the scope; each part says which sentence leaves it open.
 
 use crate::curve::{minus, plus, times, Point};
 use crate::numbers::lesser;

@@ -1,9 +1,9 @@
-//! A second reading of document 01, written from its words alone and without a look at spline.rs: the whole of reading,
+//! A second reading of the scope, written from its words alone and without a look at spline.rs: the whole of reading,
 //! writing, building, drawing and reach on plain slices. It is slow and plain on purpose, and shares no code with the oracle.
 //! What the words leave to the Rust stands in one file, `left_open`.
 //!
 //! Lent buffers appear as rooms, their lengths in floats or u32s; what would be stored in them is returned.
-//! A refusal returns document 01's code and place. A comment in quotes is document 01's sentence, its heading in brackets
+//! A refusal returns the scope's code and place. A comment in quotes is the scope's sentence, its heading in brackets
 //! where it is not the file's.
 
 pub mod curve;

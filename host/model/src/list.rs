@@ -1,4 +1,4 @@
-//! The list (document 01, "The list"): reading it into a description, and writing a description as a list.
+//! The list (the scope, "The list"): reading it into a description, and writing a description as a list.
 
 use cases::{Code, Description, Refusal};
 

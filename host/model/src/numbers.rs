@@ -94,7 +94,7 @@ pub fn set_ln(ln: fn(f32) -> f32) {
     *LN.write().unwrap_or_else(|held| held.into_inner()) = ln;
 }
 
-/// The logarithm that is in place. "The port's logarithm is a fixed sequence of f64 steps" that document 01 does not give,
+/// The logarithm that is in place. "The port's logarithm is a fixed sequence of f64 steps" that the scope does not give,
 /// so it comes from the host, or is lent.
 pub fn ln(x: f32) -> f32 {
     let ln = *LN.read().unwrap_or_else(|held| held.into_inner());

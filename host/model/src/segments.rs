@@ -1,4 +1,4 @@
-//! Segments (document 01, "Segments and rows"): what a step of the walk becomes, and the rows and columns it touches.
+//! Segments (the scope, "Segments and rows"): what a step of the walk becomes, and the rows and columns it touches.
 
 use crate::curve::Point;
 use crate::numbers::{greatest, lesser, ln, round, round_from_zero};

@@ -1,4 +1,4 @@
-//! The transform (document 01, "Segments and rows", first paragraph): a number of a spline at a place along it, from 32
+//! The transform (the scope, "Segments and rows", first paragraph): a number of a spline at a place along it, from 32
 //! coefficients.
 
 use std::f32::consts::{PI, SQRT_2};

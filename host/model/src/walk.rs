@@ -1,4 +1,4 @@
-//! The walk (document 01, "Curve and walk"): the path at steps of one unit of length.
+//! The walk (the scope, "Curve and walk"): the path at steps of one unit of length.
 
 use crate::curve::{Point, MOST_POINTS};
 use crate::left_open::{further, stretch};

@@ -24,11 +24,11 @@ pub struct Read {
     pub outcome: Outcome<Description>,
     /// How many values of the list were taken, whatever the outcome.
     pub consumed: usize,
-    /// The original asked for a value past the end and was handed a 0 (document 01's SHORT, whatever the outcome says).
+    /// The original asked for a value past the end and was handed a 0 (the scope's SHORT, whatever the outcome says).
     pub ran_short: bool,
 }
 
-/// `Splines::read`. `Done` with `consumed` below the list's length is document 01's TRAIL.
+/// `Splines::read`. `Done` with `consumed` below the list's length is the scope's TRAIL.
 pub fn read(list: &[u32], configured: u32, pixels: u32) -> Read {
     layers::read(list, configured, pixels)
 }
@@ -177,7 +177,7 @@ pub struct Built {
     pub below: u64,
 }
 
-/// `Splines::initialize_draw_cache`. The description's lengths must agree (document 01's SHAPE): that is the caller's part.
+/// `Splines::initialize_draw_cache`. The description's lengths must agree (the scope's SHAPE): that is the caller's part.
 pub fn build(description: &Description, given: &Given) -> Outcome<Built> {
     layers::build(description, given)
 }

@@ -32,7 +32,7 @@ pub enum Why {
     SplineAdjacentCoincidingControlPoints,
 }
 
-/// The code of document 01 that an error of spline.rs stands for.
+/// The code of the scope that an error of spline.rs stands for.
 pub fn code_of(why: Why) -> Code {
     match why {
         Why::SplinesTooMany => Code::Splines,

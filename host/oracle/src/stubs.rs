@@ -1,4 +1,4 @@
-//! What spline.rs leans on, at the paths where it looks for it: parts of the original where document 01 names them
+//! What spline.rs leans on, at the paths where it looks for it: parts of the original where the scope names them
 //! (fetched by build.rs), plain stand-ins for the rest.
 
 pub(crate) mod jxl_simd;

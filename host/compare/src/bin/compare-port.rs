@@ -43,7 +43,7 @@ fn main() -> ExitCode {
 
 /// Runs every call, printing lines for each and for all.
 fn compare(long: bool) -> ExitCode {
-    println!("the port against spline.rs where that decides, and against the second reading of document 01");
+    println!("the port against spline.rs where that decides, and against the second reading of the scope");
     println!("{}", Tally::HEAD);
     let mut code = ExitCode::SUCCESS;
     let mut all = Tally::new("all", false);

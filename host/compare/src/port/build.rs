@@ -136,7 +136,7 @@ fn rust_decides(expected: &Result<Table, Refusal>) -> bool {
     !matches!(expected, Err(refusal) if no_equality(refusal.code) || refusal.code == Code::Delta)
 }
 
-/// What spline.rs makes of a description in document 01's words; `None` if its lengths disagree, or if it lacks memory or panics.
+/// What spline.rs makes of a description in the scope's words; `None` if its lengths disagree, or if it lacks memory or panics.
 fn original(case: &BuildCase) -> Option<Result<Table, Refusal>> {
     let BuildCase { description, given } = case;
     if !well_shaped(description) {

@@ -122,7 +122,7 @@ fn exact_rooms(case: &ListCase) -> ListRooms {
     }
 }
 
-/// What spline.rs makes of the list in document 01's words; `None` if it lacks memory or panics.
+/// What spline.rs makes of the list in the scope's words; `None` if it lacks memory or panics.
 pub fn original(case: &ListCase) -> Option<Result<Description, Refusal>> {
     let read = oracle::read(&case.list, case.configured, case.pixels);
     let length = case.list.len();

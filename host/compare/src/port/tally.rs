@@ -98,7 +98,7 @@ impl Tally {
     }
 }
 
-/// A code as document 01 writes it.
+/// A code as the scope writes it.
 fn name(code: Code) -> String {
     format!("{code:?}").to_uppercase()
 }

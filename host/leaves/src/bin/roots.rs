@@ -26,7 +26,10 @@ fn word(i: u64) -> u64 {
 
 /// The numbers of the port's table, read from its source.
 fn stored() -> Option<Vec<u64>> {
-    let path = concat!(env!("CARGO_MANIFEST_DIR"), "/../../crates/numbers/src/by_table.rt");
+    let path = concat!(
+        env!("CARGO_MANIFEST_DIR"),
+        "/../../crates/numbers/src/by_table.rt"
+    );
     let text = std::fs::read_to_string(path).ok()?;
     let from = text.find("pub const ROOTS")?;
     let list = &text[from + text[from..].find("= [")? + 3..];
@@ -65,7 +68,11 @@ fn main() -> ExitCode {
     let turned_down = (0..1u64 << 24)
         .filter(|t| !accepted(&table, (126 << 23) + t))
         .count();
-    println!("root_by: the table is the rule's: {}; turned down: {turned_down} of {}", rule == table, 1 << 24);
+    println!(
+        "root_by: the table is the rule's: {}; turned down: {turned_down} of {}",
+        rule == table,
+        1 << 24
+    );
     if rule == table && turned_down == 0 {
         ExitCode::SUCCESS
     } else {

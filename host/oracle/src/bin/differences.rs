@@ -1,4 +1,4 @@
-//! Figures for docs/DIFFERENCES.md: where spline.rs on this host does something else than document 01 asks, with smallest
+//! Figures for docs/DIFFERENCES.md: where spline.rs on this host does something else than the scope asks, with smallest
 //! inputs and counts. Seeds are fixed; every line is a finding. Exits 1 if a finding is not what the page says.
 
 use cases::bits;

@@ -1,4 +1,4 @@
-//! The judge judged: document 01's readings that concern spline.rs, one line each; exits 1 if one does not hold.
+//! The judge judged: the scope's readings that concern spline.rs, one line each; exits 1 if one does not hold.
 
 use cases::descriptions::one_spline;
 use oracle::{Description, Given, Outcome, Rows, Segment, Table, Why};
@@ -63,7 +63,7 @@ fn main() -> ExitCode {
     readings.verdict()
 }
 
-/// What document 01's "The oracle" asks of the build.
+/// What the scope's "The oracle" asks of the build.
 fn machine(readings: &mut Readings) {
     readings.check("release build", cfg!(debug_assertions), false);
     let wrapped = std::panic::catch_unwind(|| black_box(i32::MAX) + black_box(1)).ok();
