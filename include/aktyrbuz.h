@@ -32,12 +32,12 @@ enum aktyrbuz_code {
     AKTYRBUZ_TRAIL = 6,     /* values left over */
     AKTYRBUZ_ROOM = 7,      /* a lent buffer is too short for what is due */
     AKTYRBUZ_SIZE = 8,      /* a width or height above 2^23 */
-    AKTYRBUZ_SHAPE = 9,     /* lengths that disagree: S counts go with 2S starts, two double deltas a point and 128S coefficients */
+    AKTYRBUZ_SHAPE = 9,     /* lengths that disagree: S counts go with 2S starts, a double delta (x, y) a point and 128S coefficients */
     AKTYRBUZ_POSITION = 10, /* a start, delta or point outside -2^23 up to but not including 2^23, or a NaN start */
     AKTYRBUZ_DISTANCE = 11, /* a spline whose steps add up to more than the area limit */
     AKTYRBUZ_AREA = 12,     /* splines whose estimates add up to more than the area limit */
     AKTYRBUZ_COINCIDE = 13, /* two adjacent control points are equal */
-    AKTYRBUZ_TABLE = 14,    /* a table that no build makes: counts that overrun its buffers, row starts that descend, an entry that names no segment */
+    AKTYRBUZ_TABLE = 14,    /* a table that no build makes: a height above 2^23, more than 2^24 segments or 2^30 entries, counts that overrun the buffers, starts of row y that descend or pass the entries, an entry of it that names no segment */
     AKTYRBUZ_ROW = 15,      /* a row that is not below the height */
     AKTYRBUZ_SPAN = 16      /* x0 + n above 2^23, or a channel shorter than n */
 };
@@ -50,14 +50,14 @@ float aktyrbuz_ln(float x);
  * At most min(configured, pixels / 2) splines and as many points are taken; configured is usually 2^20.
  * Rooms for S splines of P points in all: S counts (points of each spline), 2S starts (x, y), 2P deltas (x, y of each double delta)
  * and 128S coefficients (32 each for X, Y, B and sigma). Cells past these, and all cells after a refusal, are 0.
- * Place: an index of the list. Counts: splines, points, adjustment. */
+ * Place: an index of the list, of a pair that of its x; SHORT: the length of the list. Counts: splines, points, adjustment. */
 uint32_t aktyrbuz_read(const uint32_t *list, size_t list_len, uint32_t configured, uint32_t pixels,
                        uint32_t *counts, size_t counts_len, float *starts, size_t starts_len,
                        int32_t *deltas, size_t deltas_len, int32_t *coefficients, size_t coefficients_len, int64_t answer[5]);
 
 /* Writes a description as the list that is read back as it, under the same two limits. Here the lengths are exact (SHAPE).
  * Cells of the list past the last value, and all after a refusal, are 0.
- * Place: an index of the list. Counts: values written. */
+ * Place: the index in the list that the value would have, of a pair that of its x; SHAPE: 0; ROOM: the length lent. Counts: values written. */
 uint32_t aktyrbuz_write(const uint32_t *counts, size_t counts_len, const float *starts, size_t starts_len,
                         const int32_t *deltas, size_t deltas_len, const int32_t *coefficients, size_t coefficients_len,
                         int32_t adjustment, uint32_t configured, uint32_t pixels, uint32_t *list, size_t list_len, int64_t answer[5]);
@@ -68,7 +68,7 @@ uint32_t aktyrbuz_write(const uint32_t *counts, size_t counts_len, const float *
  * Rooms: path 2 floats a point, walk 3 floats a point, both for the longest spline and 0 on return; segments 8 floats each (centre x and y, distance,
  * 1/sigma, 0.25 sigma times multiplier, three colours); height + 1 row_starts; entries. Row y lists entries[row_starts[y]] up to but not including
  * entries[row_starts[y + 1]], ascending. Cells past the used part, and all cells after a refusal, are 0.
- * Place: the number of a spline. Counts: segments, entries, estimate. */
+ * Place: the number of a spline; SIZE, SHAPE, and ROOM of row_starts and entries: 0. Counts: segments, entries, estimate. */
 uint32_t aktyrbuz_build(const uint32_t *counts, size_t counts_len, const float *starts, size_t starts_len,
                         const int32_t *deltas, size_t deltas_len, const int32_t *coefficients, size_t coefficients_len,
                         int32_t adjustment, uint32_t width, uint32_t height, float y_to_x, float y_to_b,
