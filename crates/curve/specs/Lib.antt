@@ -1,3 +1,4 @@
+-- The definitions of the crate `curve`.
 pub mod Points
 pub mod Windows
 pub mod Curve

@@ -1,10 +1,10 @@
 -- The area limit in whole numbers: where a sum or product of the definition saturates, the limit is reached anyway.
-use mathlib.Core.Path.{_≡_, refl, sym, _∙_}
+use mathlib.Core.Path.{_≡_, refl}
 use mathlib.Core.Bool.{Bool, true, false, cond}
 use Prim.Native.Nat.{ℕ, _+_, _*_, _^_, _≤_, _<_}
 use native.Mathlib.Omega.{arith}
 use lib.Dec.{leb}
-use borrow.Author.Tests.{leb-true, leb-false, le-leb, lt-leb}
+use borrow.Author.Tests.{leb-false, lt-leb}
 use Rattle.numbers.specs.Saturating.{atMost, satAdd, satMul}
 use Rattle.dequantize.specs.Limits.{lesser, splineAreaLimit}
 

@@ -1,8 +1,8 @@
 -- The frame of a file of vectors, as vectors/README.md gives it: what its words are, and when the file is whole.
 use mathlib.Core.Path.{_≡_}
-use mathlib.Core.Bool.{Bool, true, false, cond}
+use mathlib.Core.Bool.{cond}
 use mathlib.Core.List.{List, [], _∷_}
-use Prim.Native.Nat.{ℕ, zero, suc, _+_, _-_, _*_, _/_, _%_, _<_, _≤_, min}
+use Prim.Native.Nat.{ℕ, zero, suc, _+_, _-_, _*_, _/_, _%_, _<_, min}
 use lib.Dec.{ltb, eqb}
 use lib.ListN.{length, take, getD}
 use Rattle.frame.specs.declared.End.{End}

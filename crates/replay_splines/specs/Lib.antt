@@ -1,1 +1,2 @@
+-- The definitions of the crate `replay_splines`.
 pub mod Splines

@@ -1,2 +1,3 @@
+-- The definitions of the crate `rows`.
 pub mod Rows
 pub mod Steps

@@ -2,17 +2,17 @@
 use mathlib.Core.Path.{_≡_, refl, sym, ap, _∙_, subst}
 use mathlib.Core.Bool.{Bool, true, false, not, _&&_, _||_, cond, Bool·beq}
 use Prim.Native.Nat.{ℕ, zero, suc, _+_, _-_, _*_, _/_, _^_, _≤_, _<_, min}
-use native.Mathlib.Nat.{le-trans, le-of-eq, le-of-lt, lt-of-lt-of-le, lt-of-le-of-lt, lt-irrefl, mul-one, one-mul, mul-pos, mul-left-comm, add-mul, le-div-iff-mul-le, div-lt-iff-lt-mul, div-one, pow-suc, mul-le-mul-left}
+use native.Mathlib.Nat.{lt-of-lt-of-le, lt-of-le-of-lt, lt-irrefl, mul-one, one-mul, mul-pos, mul-left-comm, add-mul, le-div-iff-mul-le, div-lt-iff-lt-mul, pow-suc, mul-le-mul-left}
 use lib.Pow.{pow-pos, pow-mono}
 use native.Mathlib.Omega.{arith}
 use native.Mathlib.Numerals.{add-one}
 use lib.IntN.{ℤ, pos, negsuc, negℤ}
-use lib.Dec.{T, leb, ltb, eqb, leb→le, le→leb, ltb→lt, lt→ltb, nltb→le, nleb→lt, T-not, eqb-refl, lit≤, leb·zero, leb·suc-zero}
+use lib.Dec.{T, leb, ltb, eqb, leb→le, le→leb, ltb→lt, lt→ltb, nltb→le, T-not, eqb-refl, lit≤, leb·zero, leb·suc-zero}
 use lib.Ieee.{Float, nan, inf, fin, up, down, binary32, lt, eq, ne, add, sub, fits, toUnsigned}
-use lib.Ieee.Fits.{down-pos, up-pos}
+use lib.Ieee.Fits.{down-pos}
 use lib.Ieee.Positive.{num, den}
 use Rattle.numbers.specs.Whole.{half}
-use Rattle.numbers.proofs.Zero.{yes, no, two-to, null}
+use Rattle.numbers.proofs.Zero.{two-to, null}
 use Rattle.numbers.proofs.Wholes.{half-id, half-nil, digits}
 use Rattle.segments.specs.Ranges.{Bound, under, at, over, rounded, positive, clip, past, rowPastOf, columnPastOf, beginsBy, lastsTo, hasRow, hasColumn, rowFirst, rowPast, columnFirst, columnPast}
 use Rattle.segments.specs.declared.Segment.{Segment}

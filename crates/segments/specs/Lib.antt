@@ -1,3 +1,4 @@
+-- The definitions of the crate `segments`.
 pub mod Segment
 pub mod Ranges
 pub mod Readings

@@ -1,10 +1,10 @@
 -- The rows and columns of a segment: from R(c - d) through R(c + d), by the centre c and the distance d. Definitions only.
 -- R rounds half away from zero, a NaN to 0; an infinity lies beyond every whole number.
 use mathlib.Core.Bool.{Bool, true, false, cond, _&&_}
-use Prim.Native.Nat.{ℕ, zero, suc, _*_, _^_, min}
+use Prim.Native.Nat.{ℕ, suc, _*_, _^_, min}
 use lib.Dec.{leb, ltb}
 use lib.IntN.{ℤ, pos, negsuc, negℤ}
-use lib.Ieee.{Float, nan, inf, fin, up, down, binary32, add, sub}
+use lib.Ieee.{Float, nan, inf, fin, up, down}
 use Rattle.numbers.specs.Arith.{_⊕_, _⊖_}
 use Rattle.numbers.specs.Whole.{half}
 use Rattle.segments.specs.declared.Segment.{Segment}

@@ -3,8 +3,8 @@ use mathlib.Core.Path.{_≡_, refl}
 use mathlib.Core.Bool.{true, false}
 use Prim.Native.Nat.{ℕ}
 use lib.IntN.{pos, negsuc}
-use lib.Ieee.{Float, nan, inf, fin, binary32, add, sub, round}
-use Rattle.segments.specs.Ranges.{rounded, rowFirst, rowPast, columnFirst, columnPast, rowPastOf, columnPastOf, rowsOf, columnsOf}
+use lib.Ieee.{Float, nan, inf, fin, add, sub}
+use Rattle.segments.specs.Ranges.{rounded, rowPastOf, columnPastOf, rowsOf, columnsOf}
 use Rattle.segments.specs.declared.Segment.{Segment}
 use Rattle.segments.specs.declared.Range.{Range}
 

@@ -1,11 +1,11 @@
 -- `add_segment`: which points of the walk make a segment, and its eight floats. Definitions only.
 -- The numbers are f32 patterns: 0.01, 0.1, 0.25, 1, 2, 3 and 5.
-use mathlib.Core.Bool.{Bool, true, false, cond, _||_}
+use mathlib.Core.Bool.{Bool, true, false, _||_}
 use mathlib.Core.List.{List, [], _∷_}
 use Prim.Native.Nat.{ℕ, _+_, _*_}
 use lib.ListN.{getD}
-use lib.Ieee.{Float, nan, inf, fin, binary32, ofBits, add, sub, mul, div, neg, eq}
-use Rattle.numbers.specs.Arith.{f, _⊕_, _⊖_, _⊗_, _⊘_}
+use lib.Ieee.{Float, nan, binary32, neg, eq}
+use Rattle.numbers.specs.Arith.{f, _⊖_, _⊗_, _⊘_}
 use Rattle.numbers.specs.Magnitude.{absOf, topOf, isInfinite}
 use Rattle.numbers.specs.Root.{sqrtOf}
 use Rattle.numbers.specs.Ln.{lnOf}

@@ -1,10 +1,10 @@
 -- Bit patterns of floats, over the format: a pattern is no NaN's unless its exponent is all ones and its digits are not zero.
-use mathlib.Core.Path.{_≡_, refl, sym, ap, subst, _∙_}
-use mathlib.Core.Bool.{Bool, true, false, cond, not, _&&_}
-use Prim.Native.Nat.{ℕ, zero, suc, _+_, _-_, _*_, _/_, _%_, _<_, _≤_}
+use mathlib.Core.Path.{_≡_, sym, ap, _∙_}
+use mathlib.Core.Bool.{Bool, true, false, not, _&&_}
+use Prim.Native.Nat.{ℕ, zero, suc, _-_, _/_, _%_}
 use native.Mathlib.Omega.{arith}
-use lib.Dec.{T, eqb, leb}
-use lib.Ieee.{Float, Format, binary32, nan, ne, fits, isNan, toBits, hid, ones, top, emax, ofFields, ofBits, nanBits}
+use lib.Dec.{T, eqb}
+use lib.Ieee.{Float, Format, binary32, nan, ne, fits, isNan, toBits, hid, ones, top, ofFields, ofBits, nanBits}
 use lib.Ieee.Bits.{ofBits-toBits}
 use lib.Ieee.Compare.{differs-from-itself}
 use borrow.Author.Tests.{eq-eqb, ne-eqb, eqb-true}

@@ -1,8 +1,8 @@
 -- A walk on the front of a buffer has the segments of its points, and the steps of a spline are put together.
-use mathlib.Core.Path.{_≡_, refl, sym, ap, _∙_}
-use mathlib.Core.Bool.{Bool, true, false, cond}
+use mathlib.Core.Path.{_≡_, ap, _∙_}
+use mathlib.Core.Bool.{Bool, true, false}
 use mathlib.Core.List.{List, []}
-use Prim.Native.Nat.{ℕ, _+_, _-_, _*_, _/_, _≤_, _<_}
+use Prim.Native.Nat.{ℕ, _-_, _*_, _/_, _≤_, _<_}
 use native.Mathlib.Omega.{arith}
 use lib.ListN.{length, take, getD}
 use lib.Seq.{getD-take}
@@ -14,15 +14,14 @@ use Rattle.dequantize.specs.declared.control_points.Pair.{Pair}
 use Rattle.dequantize.specs.declared.Spline.{Spline}
 use Rattle.curve.specs.Curve as Curve
 use Rattle.curve.specs.Curve.{pathOf}
-use Rattle.walk.specs.Walk.{PointToDraw, Walk, More, Ended, walkIn, lengthOf, lastMultiplier, flat}
+use Rattle.walk.specs.Walk.{walkIn, lengthOf, lastMultiplier, flat}
 use Rattle.walk.proofs.Answers.{Taken, taken-last}
 use Rattle.walk.proofs.Walking.{length-flat}
-use Rattle.points.specs.Points.{addSegmentsFromPoints, eights, filledOf, FilledOn, madeOf}
-use Rattle.points.specs.declared.Filled.{Filled}
-use Rattle.points.specs.declared.Filled.the-variants.{Count, Room}
+use Rattle.points.specs.Points.{addSegmentsFromPoints, filledOf, FilledOn}
+use Rattle.points.specs.declared.Filled.the-variants.{Count}
 use Rattle.points.proofs.Adding.{made-none}
 use Rattle.segments.specs.declared.Segment.{Segment}
-use Rattle.strand.specs.Strand.{walkSegments, flatSegments, afterWalk, pickStrand, strandOf, strandFilled, segmentsOf, NoRoom, Segments}
+use Rattle.strand.specs.Strand.{walkSegments, flatSegments, afterWalk, strandOf, NoRoom, Segments}
 
 -- ---- a walk
 

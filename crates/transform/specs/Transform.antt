@@ -8,7 +8,6 @@ use lib.Ieee.{Float, nan, binary32, ofInt}
 use Rattle.numbers.specs.Arith.{f, _⊕_, _⊗_, _⊘_}
 use Rattle.numbers.specs.Cos.{fastCos}
 use Rattle.dequantize.specs.declared.Spline.{Spline}
-use Rattle.dequantize.specs.Coefficients.{table}
 use Rattle.transform.specs.declared.Sums.{Sums}
 
 -- PI / 32.0 * k

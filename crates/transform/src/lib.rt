@@ -1,7 +1,7 @@
 // The transform: the colours and the width of a spline at a place of its path, from the four rows of coefficients.
 ghost use mathlib.Core.Path.{_≡_};
 ghost use Rattle.dequantize.specs.Coefficients.{table};
-ghost use Rattle.transform.specs.Transform.{dctMultiplier, cosineAt, dotOf, continuousIdct, sumsOf};
+ghost use Rattle.transform.specs.Transform.{dctMultiplier, cosineAt, dotOf, sumsOf};
 use dequantize::Spline;
 
 // k times the f32 number π/32.

@@ -1,9 +1,9 @@
 -- `frame::end_of_cases` meets its contract: the cases that are left end where all do, and no case ends before it begins.
 use borrow.Author.Needs.{needs}
-use mathlib.Core.Path.{_≡_, sym, _∙_}
-use Prim.Native.Nat.{_≤_, _<_, _-_}
+use mathlib.Core.Path.{_≡_}
+use Prim.Native.Nat.{_≤_, _-_}
 use native.Mathlib.Omega.{arith}
-use lib.ListN.{length, getD}
+use lib.ListN.{length}
 use Rattle.frame.specs.Frame.{endFrom, allEnd}
 use Rattle.frame.proofs.Laws.{end-more, case-within, end-done, ends-at, ends-past}
 use Rattle.frame.proofs.end_of_cases.Statement.{statement}

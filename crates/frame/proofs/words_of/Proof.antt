@@ -1,12 +1,12 @@
 -- `frame::words_of` meets its contract: each word below the counter is stored, and the buffer keeps its length.
-use mathlib.Core.Path.{_≡_, _∙_}
+use mathlib.Core.Path.{_≡_}
 use Prim.Native.Nat.{ℕ, _≤_, _<_, _*_, _-_}
 use native.Mathlib.Omega.{arith}
-use lib.ListN.{length, getD, length-set}
+use lib.ListN.{length, getD}
 use borrow.Author.Needs.{needs}
 use borrow.Author.Count.{below-none}
 use Rattle.io.proofs.Counting.{counts}
-use Rattle.frame.specs.Frame.{wordAt, Words}
+use Rattle.frame.specs.Frame.{wordAt}
 use Rattle.frame.proofs.Laws.{words-more}
 use Rattle.frame.proofs.words_of.Statement.{statement}
 use Rattle.frame.proofs.words_of.Tie as tie

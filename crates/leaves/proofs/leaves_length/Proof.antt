@@ -1,9 +1,7 @@
 -- The machine reads both signed numbers back from their bits.
-use mathlib.Core.Path.{ap, _∙_}
 use borrow.Author.Needs.{needs}
 use mir.Facts.{toZ-ofZ}
 use mir.Syntax.{w32}
-use Rattle.numbers.specs.Length.{lengthOf}
 use Rattle.leaves.proofs.leaves_length.Statement.{statement}
 use Rattle.leaves.proofs.leaves_length.Tie as tie
 

@@ -1,6 +1,6 @@
 -- `draw_all`: the splines below k are drawn.
 use mathlib.Core.Path.{_≡_, refl, sym, ap, _∙_}
-use Prim.Native.Nat.{ℕ, _+_, _-_, _*_, _<_, _≤_, _^_}
+use Prim.Native.Nat.{_+_, _-_, _*_, _<_, _≤_, _^_}
 use native.Mathlib.Omega.{arith}
 use borrow.Author.Needs.{needs}
 use lib.ListN.{length}
@@ -12,7 +12,7 @@ use Rattle.walk.specs.Walk.{walkRoom}
 use Rattle.points.specs.Points.{segmentRoom, FilledOn}
 use Rattle.strand.specs.Strand.{strandFilled, segmentsOf}
 use Rattle.painting.specs.declared.Drawn.the-variants as Drawn
-use Rattle.painting.specs.Painting.{Passed, strandOfSpline, paintOf, All, NoRoomAt}
+use Rattle.painting.specs.Painting.{Passed, strandOfSpline}
 use Rattle.painting.proofs.Painting.{Painting, painting-none, painting-all, painting-room, painting-more, part-is}
 use Rattle.painting.proofs.draw_all.Statement.{statement}
 use Rattle.painting.proofs.draw_all.Tie as tie

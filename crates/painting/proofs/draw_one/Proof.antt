@@ -1,5 +1,5 @@
 -- `draw_one`: the spline is dequantized again, and its start is a place, since it was accepted.
-use mathlib.Core.Path.{_≡_, refl, sym, _∙_}
+use mathlib.Core.Path.{refl, sym, _∙_}
 use borrow.Author.Needs.{needs}
 use Rattle.painting.proofs.Starts.{start-walk}
 use Rattle.painting.proofs.draw_one.Statement.{statement}

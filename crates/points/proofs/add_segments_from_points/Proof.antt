@@ -1,11 +1,11 @@
 -- `add_segments_from_points`: the points below i are done, and what is written and what is still to come make up all segments.
-use mathlib.Core.Path.{_≡_, refl, sym, _∙_}
-use Prim.Native.Nat.{ℕ, _+_, _-_, _/_, _≤_, _<_, _^_}
+use mathlib.Core.Path.{_≡_, refl, _∙_}
+use Prim.Native.Nat.{_-_, _/_, _≤_}
 use native.Mathlib.Omega.{arith}
 use borrow.Author.Needs.{needs}
 use lib.ListN.{length}
 use Rattle.numbers.specs.Arith.{_⊘_}
-use Rattle.points.specs.Points.{one, segmentRoom, pointSegment, madeOf, filledOf}
+use Rattle.points.specs.Points.{one, segmentRoom, pointSegment}
 use Rattle.points.proofs.Adding.{Adding, adding-none, adding-all, adding-more, adding-full}
 use Rattle.points.proofs.add_segments_from_points.Statement.{statement}
 use Rattle.points.proofs.add_segments_from_points.Tie as tie

@@ -1,5 +1,4 @@
 -- `point_segment`: three reads, then the calls in turn.
-use mathlib.Core.Path.{_≡_}
 use borrow.Author.Needs.{needs}
 use Rattle.points.specs.Points.{pointSegment}
 use Rattle.points.proofs.point_segment.Statement.{statement}

@@ -1,5 +1,4 @@
 -- `put_made`: by cases of what the point makes and of the room.
-use mathlib.Core.Path.{_≡_}
 use native.Mathlib.Omega.{arith}
 use borrow.Author.Needs.{needs}
 use Rattle.points.proofs.Adding.{made-none, made-one, made-room}

@@ -1,5 +1,4 @@
 -- `read_steps::moved` meets its contract: a number below 2^23 and one of 32 bits add up within 64 bits.
-use Prim.Native.Nat.{_^_}
 use native.Mathlib.Omega.{arith}
 use mir.Syntax.{w32, w64}
 use mir.Val.{SFits}

@@ -1,9 +1,9 @@
 -- `draw_path`: no room for the walk, or the segments of the walk on the buffer's front.
-use mathlib.Core.Path.{_≡_, refl, sym, ap, _∙_}
-use Prim.Native.Nat.{ℕ, _*_, _≤_}
+use mathlib.Core.Path.{refl, sym, _∙_}
+use Prim.Native.Nat.{_*_, _≤_}
 use native.Mathlib.Omega.{arith}
 use borrow.Author.Needs.{needs}
-use lib.ListN.{length, take}
+use lib.ListN.{length}
 use lib.Seq.{length-take-le}
 use Rattle.walk.specs.Walk.{walkRoom}
 use Rattle.walk.proofs.Answers.{Taken, walked-got, walked-none}

@@ -1,9 +1,9 @@
 -- `draw_spline`: no room for the path, or what the path on the buffer's front gives.
-use mathlib.Core.Path.{_≡_, refl, sym, ap, _∙_}
-use Prim.Native.Nat.{ℕ, _*_, _≤_}
+use mathlib.Core.Path.{refl, sym, _∙_}
+use Prim.Native.Nat.{_*_, _≤_}
 use native.Mathlib.Omega.{arith}
 use borrow.Author.Needs.{needs}
-use lib.ListN.{length, take}
+use lib.ListN.{length}
 use lib.Seq.{length-take-le}
 use Rattle.curve.specs.Curve.{pathRoom, pathOf}
 use Rattle.curve.proofs.Paths.{length-path}

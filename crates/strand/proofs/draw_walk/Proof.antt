@@ -1,5 +1,4 @@
 -- `draw_walk`: by the length, no segments or those of all points.
-use mathlib.Core.Path.{_≡_}
 use borrow.Author.Needs.{needs}
 use Rattle.strand.proofs.Strands.{flat-none, flat-all, none-filled}
 use Rattle.strand.proofs.draw_walk.Statement.{statement}
