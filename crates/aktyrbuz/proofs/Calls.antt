@@ -5,11 +5,11 @@ use Prim.Native.Nat.{ℕ}
 use lib.IntN.{ℤ}
 use lib.Ieee.{Float}
 use Rattle.numbers.specs.Ln.{lnOf}
-use Rattle.list.specs.List.{Rooms}
+use Rattle.list.specs.List.{ListRooms}
 use Rattle.reader.specs.Read.{Outcome, readOutcome}
 use Rattle.writer.specs.Write.{WriteOutcome, writeOf}
 use Rattle.dequantize.specs.Judge.{Description}
-use Rattle.table.specs.Table.{Image, buildOf}
+use Rattle.table.specs.Table.{Setting, buildOf}
 use Rattle.table.specs.Table as building
 use Rattle.picture.specs.Picture.{Built}
 use Rattle.draw.specs.Draw.{Table, Channels, DrawOutcome, drawOf}
@@ -22,14 +22,14 @@ use Rattle.draw.specs.Reach.{ReachOutcome, reachOf}
 use Rattle.aktyrbuz.specs.Calls.{ReadCall, reads, WriteCall, writes, BuildCall, builds, DrawCall, draws, ReachCall, reaches, LnCall, logs, BuildDone, PartCall, RowCalls, ImageCalls}
 use Rattle.aktyrbuz.specs.Calls as calls
 
-pub read-equation : (l : List ℕ) (configured pixels : ℕ) (rooms : Rooms) (o : Outcome) → ReadCall l configured pixels rooms o → o ≡ readOutcome configured pixels rooms l
+pub read-equation : (l : List ℕ) (configured pixels : ℕ) (rooms : ListRooms) (o : Outcome) → ReadCall l configured pixels rooms o → o ≡ readOutcome configured pixels rooms l
 read-equation l configured pixels rooms o (reads κs _ _ _ _ _ _ _ _ _ _ _ _ _ _ _ p) = p
 
 pub write-equation : (ns : List ℕ) (ss : List Float) (ds cs : List ℤ) (a : ℤ) (configured pixels room : ℕ) (o : WriteOutcome) → WriteCall ns ss ds cs a configured pixels room o
     → o ≡ writeOf ns ss ds cs a configured pixels room
 write-equation ns ss ds cs a configured pixels room o (writes κs _ _ _ _ _ _ _ _ _ _ _ _ _ _ _ _ _ p) = p
 
-pub build-equation : (d : Description) (i : Image) (r : building.Rooms) (o : building.Table) → BuildCall d i r o → o ≡ buildOf d i r
+pub build-equation : (d : Description) (i : Setting) (r : building.BuildRooms) (o : building.BuildOutcome) → BuildCall d i r o → o ≡ buildOf d i r
 build-equation d i r o (builds κs _ _ _ _ _ _ _ _ _ _ _ _ _ _ _ _ _ _ _ _ _ _ _ _ _ _ _ _ _ _ _ _ _ p) = p
 
 pub draw-equation : (t : Table) (y x0 n : ℕ) (a : Channels) (o : DrawOutcome) → DrawCall t y x0 n a o → o ≡ drawOf t y x0 n a
@@ -47,7 +47,7 @@ told-by t y x0 n a o (draws κs _ _ _ _ _ _ _ _ _ _ _ _ _ _ _ _ _ _ _ _ _ _ _ _ 
 
 -- ---- builds and runs
 
-pub built-by : {d : Description} {i : Image} {r : building.Rooms} {o : building.Table} {s e estimate : ℕ} → BuildDone d i r o s e estimate → Built d i r o s e estimate
+pub built-by : {d : Description} {i : Setting} {r : building.BuildRooms} {o : building.BuildOutcome} {s e estimate : ℕ} → BuildDone d i r o s e estimate → Built d i r o s e estimate
 built-by {d} {i} {r} {o} b = record { outcome = build-equation d i r o (b .called); done = b .done }
 
 part-by : {t : Table} {y : ℕ} {p : Part} {a b : Channels} {count : ℕ} → PartCall t y p a count b → Draws t y p a count b

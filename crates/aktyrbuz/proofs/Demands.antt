@@ -89,11 +89,11 @@ refused-leaves-zero = record {
   build = λ d i r o c p b e.
       let z = building-laws.refused-leaves-zero d i r o c p (build-equation d i r o b) e in
       record {
-        path = ap (λ (u : building.Table). u .path) z;
-        walk = ap (λ (u : building.Table). u .walk) z;
-        segments = ap (λ (u : building.Table). u .segments) z;
-        starts = ap (λ (u : building.Table). u .starts) z;
-        entries = ap (λ (u : building.Table). u .entries) z;
+        path = ap (λ (u : building.BuildOutcome). u .path) z;
+        walk = ap (λ (u : building.BuildOutcome). u .walk) z;
+        segments = ap (λ (u : building.BuildOutcome). u .segments) z;
+        starts = ap (λ (u : building.BuildOutcome). u .starts) z;
+        entries = ap (λ (u : building.BuildOutcome). u .entries) z;
       };
 }
 

@@ -9,13 +9,13 @@ use lib.Ieee.{Float}
 use contract.Lifetimes.{Lfts}
 use denote.Ref.{now}
 use Rattle.numbers.proofs.ln.Reads as ln
-use Rattle.list.specs.List.{Rooms}
+use Rattle.list.specs.List.{ListRooms}
 use Rattle.reader.specs.Read as reading
 use Rattle.reader.proofs.read.Reads as read
 use Rattle.writer.specs.Write as writing
 use Rattle.writer.proofs.write.Reads as write
 use Rattle.dequantize.specs.Judge.{Description, descriptionOf}
-use Rattle.table.specs.Table.{Image, imageOf}
+use Rattle.table.specs.Table.{Setting, settingOf}
 use Rattle.table.specs.Table as building
 use Rattle.table.specs.declared.BuildAnswer.{BuildAnswer}
 use Rattle.table.proofs.build.Reads as build
@@ -30,7 +30,7 @@ use Rattle.draw.proofs.reach.Reads as reach
 -- ---- outcomes that a contract allows
 
 -- of a list, under two limits, with so many cells lent
-pub data ReadCall : List ℕ → ℕ → ℕ → Rooms → reading.Outcome → Type 0 where
+pub data ReadCall : List ℕ → ℕ → ℕ → ListRooms → reading.Outcome → Type 0 where
   reads : (κs : Lfts 5) (list : _) (configured : _) (pixels : _) (counts : _) (starts : _) (deltas : _) (coefficients : _) (r : _)
       (list′ : _) (configured′ : _) (pixels′ : _) (counts′ : _) (starts′ : _) (deltas′ : _) (coefficients′ : _)
       → read.Post κs (list, (configured, (pixels, (counts, (starts, (deltas, (coefficients, tt))))))) r
@@ -47,12 +47,12 @@ pub data WriteCall : List ℕ → List Float → List ℤ → List ℤ → ℤ �
       → WriteCall (now counts) (now starts) (now deltas) (now coefficients) adjustment configured pixels (length (now list)) (writing.leaves r (now list′))
 
 -- of a description, for an image, with so many cells lent
-pub data BuildCall : Description → Image → building.Rooms → building.Table → Type 0 where
+pub data BuildCall : Description → Setting → building.BuildRooms → building.BuildOutcome → Type 0 where
   builds : (κs : Lfts 9) (counts : _) (starts : _) (deltas : _) (coefficients : _) (adjustment : _) (width : _) (height : _) (ytox : _) (ytob : _) (high : _) (level10 : _) (path : _) (walk : _) (segments : _) (rowStarts : _) (entries : _) (r : _)
       (counts′ : _) (starts′ : _) (deltas′ : _) (coefficients′ : _) (adjustment′ : _) (width′ : _) (height′ : _) (ytox′ : _) (ytob′ : _) (high′ : _) (level10′ : _) (path′ : _) (walk′ : _) (segments′ : _) (rowStarts′ : _) (entries′ : _)
       → build.Post κs (counts, (starts, (deltas, (coefficients, (adjustment, (width, (height, (ytox, (ytob, (high, (level10, (path, (walk, (segments, (rowStarts, (entries, tt)))))))))))))))) r
       (counts′, (starts′, (deltas′, (coefficients′, (adjustment′, (width′, (height′, (ytox′, (ytob′, (high′, (level10′, (path′, (walk′, (segments′, (rowStarts′, (entries′, tt))))))))))))))))
-      → BuildCall (descriptionOf (now counts) (now starts) (now deltas) (now coefficients)) (imageOf adjustment width height ytox ytob high level10)
+      → BuildCall (descriptionOf (now counts) (now starts) (now deltas) (now coefficients)) (settingOf adjustment width height ytox ytob high level10)
       (building.roomsOf (now path) (now walk) (now segments) (now rowStarts) (now entries))
       (building.leaves r (now path′) (now walk′) (now segments′) (now rowStarts′) (now entries′))
 
@@ -78,7 +78,7 @@ pub data LnCall : Float → Float → Type 0 where
   logs : (κs : Lfts 0) (x : _) (r : _) (x′ : _) → ln.Post κs (x, tt) r (x′, tt) → LnCall x r
 
 -- a build that is done, with its three counts
-pub record BuildDone (d : Description) (i : Image) (r : building.Rooms) (o : building.Table) (s e estimate : ℕ) : Type 0 where
+pub record BuildDone (d : Description) (i : Setting) (r : building.BuildRooms) (o : building.BuildOutcome) (s e estimate : ℕ) : Type 0 where
   pub called : BuildCall d i r o
   pub done : o .answer ≡ BuildAnswer.Done s e estimate
 

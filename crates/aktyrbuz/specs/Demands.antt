@@ -12,7 +12,7 @@ use Rattle.codes.specs.declared.Code.{Code}
 use Rattle.numbers.specs.Whole.{roundOf}
 use Rattle.numbers.specs.Length.{lengthOf}
 use Rattle.numbers.specs.Ln.{lnOf}
-use Rattle.list.specs.List.{Rooms, sum, unpackSigned}
+use Rattle.list.specs.List.{ListRooms, pointsOf, unpackSigned}
 use Rattle.list.specs.Steps.{zeroF32}
 use Rattle.reader.specs.Read.{Outcome, padded, readOutcome}
 use Rattle.reader.specs.Read as reading
@@ -28,7 +28,7 @@ use Rattle.dequantize.specs.Judge.{Description}
 use Rattle.segments.specs.declared.Segment.{Segment}
 use Rattle.segments.specs.Ranges.{at, rounded, hasRow, hasColumn}
 use Rattle.segments.specs.Readings.{spot}
-use Rattle.table.specs.Table.{Image, buildOf, zeros}
+use Rattle.table.specs.Table.{Setting, buildOf, zeros}
 use Rattle.table.specs.Table as building
 use Rattle.table.specs.declared.BuildAnswer.{BuildAnswer}
 use Rattle.picture.specs.Picture.{built, BuiltTable, segmentsOf, rowPairs, imagePairs, RowPicture}
@@ -43,7 +43,7 @@ use Rattle.aktyrbuz.specs.Calls.{ReadCall, WriteCall, BuildCall, DrawCal
 
 -- `read` answers and leaves what `Splines::read` makes of the list, with the checks in their order
 abbrev pub ReadsAsSplineRs : Type 0
-ReadsAsSplineRs = (l : List ℕ) (configured pixels : ℕ) (rooms : Rooms) (o : Outcome) → ReadCall l configured pixels rooms o → o ≡ readOutcome configured pixels rooms l
+ReadsAsSplineRs = (l : List ℕ) (configured pixels : ℕ) (rooms : ListRooms) (o : Outcome) → ReadCall l configured pixels rooms o → o ≡ readOutcome configured pixels rooms l
 
 -- `write` answers and leaves the list of a description, with the checks in their order
 abbrev pub WritesTheList : Type 0
@@ -56,26 +56,26 @@ abbrev pub WrittenIsRead : Type 0
 WrittenIsRead =
     (ns : List ℕ) (ss : List Float) (ds cs : List ℤ) (a : ℤ) (configured pixels room : ℕ) (o : WriteOutcome) (n : ℕ) → Floats ss
     → WriteCall ns ss ds cs a configured pixels room o → o .answer ≡ WriteAnswer.Done n
-    → (rooms : Rooms) → Enough rooms ns ss ds cs → (q : Outcome) → ReadCall (take n (o .list)) configured pixels rooms q
-    → q ≡ reading.leaves (ReadAnswer.Done (length ns) (sum ns) a) (padded (rooms .counts) 0 ns) (padded (rooms .starts) zeroF32 ss)
+    → (rooms : ListRooms) → Enough rooms ns ss ds cs → (q : Outcome) → ReadCall (take n (o .list)) configured pixels rooms q
+    → q ≡ reading.leaves (ReadAnswer.Done (length ns) (pointsOf ns) a) (padded (rooms .counts) 0 ns) (padded (rooms .starts) zeroF32 ss)
     (padded (rooms .deltas) (pos 0) ds) (padded (rooms .coefficients) (pos 0) cs)
 
 -- what `read` accepts, `write` writes back under the same limits: the list, every value
 abbrev pub ReadIsWritten : Type 0
 ReadIsWritten =
-    (configured pixels : ℕ) (rooms : Rooms) (l : List ℕ) (q : Outcome) (s p : ℕ) (a : ℤ) → ReadCall l configured pixels rooms q
+    (configured pixels : ℕ) (rooms : ListRooms) (l : List ℕ) (q : Outcome) (s p : ℕ) (a : ℤ) → ReadCall l configured pixels rooms q
     → q .answer ≡ ReadAnswer.Done s p a → (room : ℕ) → length l ≤ room → (o : WriteOutcome)
     → WriteCall (take s (q .counts)) (take (2 * s) (q .starts)) (take (2 * p) (q .deltas)) (take (128 * s) (q .coefficients)) a configured pixels room o
     → o ≡ writing.leaves (WriteAnswer.Done (length l)) (l ++ replicate (room - length l) 0)
 
 -- `build` answers and leaves what `initialize_draw_cache` makes of a description for an image, with the checks in their order
 abbrev pub BuildsAsSplineRs : Type 0
-BuildsAsSplineRs = (d : Description) (i : Image) (r : building.Rooms) (o : building.Table) → BuildCall d i r o → o ≡ buildOf d i r
+BuildsAsSplineRs = (d : Description) (i : Setting) (r : building.BuildRooms) (o : building.BuildOutcome) → BuildCall d i r o → o ≡ buildOf d i r
 
 -- where it is done, the cells hold the segments of the description, and each row lists those that have it, once each, ascending
 abbrev pub BuildsTheTable : Type 0
 BuildsTheTable =
-    (d : Description) (i : Image) (r : building.Rooms) (o : building.Table) (s e estimate : ℕ) → BuildDone d i r o s e estimate → BuiltTable d i r o s e estimate
+    (d : Description) (i : Setting) (r : building.BuildRooms) (o : building.BuildOutcome) (s e estimate : ℕ) → BuildDone d i r o s e estimate → BuiltTable d i r o s e estimate
 
 -- `draw` answers and leaves what `draw_segments` makes of the table and the channels, with the checks in their order
 abbrev pub DrawsAsSplineRs : Type 0
@@ -92,14 +92,14 @@ LogsByItsSteps = (x r : Float) → LnCall x r → r ≡ lnOf x
 -- ---- refusals
 
 -- every cell that reading lends is zero
-pub record ReadZeros (rooms : Rooms) (o : Outcome) : Type 0 where
+pub record ReadZeros (rooms : ListRooms) (o : Outcome) : Type 0 where
   pub counts : o .counts ≡ replicate (rooms .counts) 0
   pub starts : o .starts ≡ replicate (rooms .starts) zeroF32
   pub deltas : o .deltas ≡ replicate (rooms .deltas) (pos 0)
   pub coefficients : o .coefficients ≡ replicate (rooms .coefficients) (pos 0)
 
 -- every cell that building lends, the working cells too
-pub record BuildZeros (rooms : building.Rooms) (o : building.Table) : Type 0 where
+pub record BuildZeros (rooms : building.BuildRooms) (o : building.BuildOutcome) : Type 0 where
   pub path : o .path ≡ zeros (rooms .path)
   pub walk : o .walk ≡ zeros (rooms .walk)
   pub segments : o .segments ≡ zeros (rooms .segments)
@@ -108,11 +108,11 @@ pub record BuildZeros (rooms : building.Rooms) (o : building.Table) : Type 0 whe
 
 -- a refusal of reading, writing or building leaves every lent cell zero
 pub record RefusedLeavesZero : Type 0 where
-  pub read : (l : List ℕ) (configured pixels : ℕ) (rooms : Rooms) (o : Outcome) (c : Code) (p : ℕ) → ReadCall l configured pixels rooms o
+  pub read : (l : List ℕ) (configured pixels : ℕ) (rooms : ListRooms) (o : Outcome) (c : Code) (p : ℕ) → ReadCall l configured pixels rooms o
       → o .answer ≡ ReadAnswer.Refused c p → ReadZeros rooms o
   pub write : (ns : List ℕ) (ss : List Float) (ds cs : List ℤ) (a : ℤ) (configured pixels room : ℕ) (o : WriteOutcome) (c : Code) (p : ℕ)
       → WriteCall ns ss ds cs a configured pixels room o → o .answer ≡ WriteAnswer.Refused c p → o .list ≡ replicate room 0
-  pub build : (d : Description) (i : Image) (r : building.Rooms) (o : building.Table) (c : Code) (p : ℕ) → BuildCall d i r o
+  pub build : (d : Description) (i : Setting) (r : building.BuildRooms) (o : building.BuildOutcome) (c : Code) (p : ℕ) → BuildCall d i r o
       → o .answer ≡ BuildAnswer.Refused c p → BuildZeros r o
 
 -- a refused drawing writes nothing
@@ -122,10 +122,10 @@ RefusedDrawsNothing =
 
 -- a built table is not refused: a part of any of its rows that lies within 2^23 columns and in the channels is drawn, and every row has its reach
 pub record BuiltIsDrawn : Type 0 where
-  pub draw : (d : Description) (i : Image) (r : building.Rooms) (o : building.Table) (s e estimate : ℕ) → BuildDone d i r o s e estimate
+  pub draw : (d : Description) (i : Setting) (r : building.BuildRooms) (o : building.BuildOutcome) (s e estimate : ℕ) → BuildDone d i r o s e estimate
       → (y x0 n : ℕ) (a : Channels) (z : DrawOutcome) → y < i .height → spanGood x0 n (length (a .r0)) (length (a .r1)) (length (a .r2)) ≡ true
       → DrawCall (built i o s e) y x0 n a z → z .answer ≡ DrawAnswer.Done (z .told .updates)
-  pub reach : (d : Description) (i : Image) (r : building.Rooms) (o : building.Table) (s e estimate : ℕ) → BuildDone d i r o s e estimate
+  pub reach : (d : Description) (i : Setting) (r : building.BuildRooms) (o : building.BuildOutcome) (s e estimate : ℕ) → BuildDone d i r o s e estimate
       → (y W : ℕ) (z : ReachOutcome) → y < i .height → W ≤ 2 ^ 23 → ReachCall (built i o s e) y W z → z .answer ≡ ReachAnswer.Done (z .told .first) (z .told .past)
 
 -- ---- pixels
@@ -133,35 +133,35 @@ pub record BuiltIsDrawn : Type 0 where
 -- after all parts of a row of a built table, in any order, each pixel is its starting value with exactly the segments added, ascending, whose rows and columns have it
 abbrev pub RowInParts : Type 0
 RowInParts =
-    (d : Description) (i : Image) (r : building.Rooms) (o : building.Table) (s e estimate : ℕ) → BuildDone d i r o s e estimate
+    (d : Description) (i : Setting) (r : building.BuildRooms) (o : building.BuildOutcome) (s e estimate : ℕ) → BuildDone d i r o s e estimate
     → (y W : ℕ) (a w : Channels) (sum : ℕ) → RowRun (built i o s e) y W a w sum → RowPicture (segmentsOf d i r) y a w
 
 -- the same of every row of an image
 abbrev pub ImageInParts : Type 0
 ImageInParts =
-    (d : Description) (i : Image) (r : building.Rooms) (o : building.Table) (s e estimate : ℕ) → BuildDone d i r o s e estimate
+    (d : Description) (i : Setting) (r : building.BuildRooms) (o : building.BuildOutcome) (s e estimate : ℕ) → BuildDone d i r o s e estimate
     → (W : ℕ) (a w : drawing.Image) (sum : ℕ) → ImageRun (built i o s e) W a w sum → (y : ℕ) → y < i .height → RowPicture (segmentsOf d i r) y (a y) (w y)
 
 -- the updates sum to the pairs of a segment and a pixel that it has: in a row, where they are at most the width times the entries, and in an image
 pub record UpdatesSum : Type 0 where
-  pub row : (d : Description) (i : Image) (r : building.Rooms) (o : building.Table) (s e estimate : ℕ) → BuildDone d i r o s e estimate
+  pub row : (d : Description) (i : Setting) (r : building.BuildRooms) (o : building.BuildOutcome) (s e estimate : ℕ) → BuildDone d i r o s e estimate
       → (y W : ℕ) (a w : Channels) (sum : ℕ) → RowRun (built i o s e) y W a w sum → (sum ≡ rowPairs (segmentsOf d i r) W y) × (sum ≤ W * length (rowOf (built i o s e) y))
-  pub image : (d : Description) (i : Image) (r : building.Rooms) (o : building.Table) (s e estimate : ℕ) → BuildDone d i r o s e estimate
+  pub image : (d : Description) (i : Setting) (r : building.BuildRooms) (o : building.BuildOutcome) (s e estimate : ℕ) → BuildDone d i r o s e estimate
       → (W : ℕ) (a w : drawing.Image) (sum : ℕ) → ImageRun (built i o s e) W a w sum → sum ≡ imagePairs (segmentsOf d i r) W 0 (i .height)
 
 -- those segments do not depend on how much room was lent
 abbrev pub RoomChangesNothing : Type 0
 RoomChangesNothing =
-    (d : Description) (i : Image) (r r′ : building.Rooms) (o o′ : building.Table) (s e n s′ e′ n′ : ℕ) → BuildDone d i r o s e n → BuildDone d i r′ o′ s′ e′ n′
+    (d : Description) (i : Setting) (r r′ : building.BuildRooms) (o o′ : building.BuildOutcome) (s e n s′ e′ n′ : ℕ) → BuildDone d i r o s e n → BuildDone d i r′ o′ s′ e′ n′
     → segmentsOf d i r ≡ segmentsOf d i r′
 
 -- ---- any two outcomes that a contract allows are equal
 
 pub record OneOutcome : Type 0 where
-  pub read : (l : List ℕ) (configured pixels : ℕ) (rooms : Rooms) (o q : Outcome) → ReadCall l configured pixels rooms o → ReadCall l configured pixels rooms q → o ≡ q
+  pub read : (l : List ℕ) (configured pixels : ℕ) (rooms : ListRooms) (o q : Outcome) → ReadCall l configured pixels rooms o → ReadCall l configured pixels rooms q → o ≡ q
   pub write : (ns : List ℕ) (ss : List Float) (ds cs : List ℤ) (a : ℤ) (configured pixels room : ℕ) (o q : WriteOutcome)
       → WriteCall ns ss ds cs a configured pixels room o → WriteCall ns ss ds cs a configured pixels room q → o ≡ q
-  pub build : (d : Description) (i : Image) (r : building.Rooms) (o q : building.Table) → BuildCall d i r o → BuildCall d i r q → o ≡ q
+  pub build : (d : Description) (i : Setting) (r : building.BuildRooms) (o q : building.BuildOutcome) → BuildCall d i r o → BuildCall d i r q → o ≡ q
   pub draw : (t : Table) (y x0 n : ℕ) (a : Channels) (o q : DrawOutcome) → DrawCall t y x0 n a o → DrawCall t y x0 n a q → o ≡ q
   pub reach : (t : Table) (y W : ℕ) (o q : ReachOutcome) → ReachCall t y W o → ReachCall t y W q → o ≡ q
   pub ln : (x o q : Float) → LnCall x o → LnCall x q → o ≡ q

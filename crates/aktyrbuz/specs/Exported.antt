@@ -10,7 +10,7 @@ use Rattle.reader.specs.Read.{Outcome}
 use Rattle.reader.specs.declared.ReadAnswer.{ReadAnswer}
 use Rattle.writer.specs.Write.{WriteOutcome}
 use Rattle.writer.specs.declared.WriteAnswer.{WriteAnswer}
-use Rattle.table.specs.Table.{Table}
+use Rattle.table.specs.Table.{BuildOutcome}
 use Rattle.table.specs.declared.BuildAnswer.{BuildAnswer}
 use Rattle.draw.specs.Draw.{Channels, DrawOutcome}
 use Rattle.draw.specs.Reach.{ReachOutcome}
@@ -97,7 +97,7 @@ buildLeaves r five path walk segments starts entries = record {
   entries = entries;
 }
 
-abbrev pub buildExport : Table → BuildExport
+abbrev pub buildExport : BuildOutcome → BuildExport
 buildExport t =
     buildLeaves (toldBuild (t .answer) .number) (toldIn (toldBuild (t .answer))) (t .path) (t .walk) (t .segments) (t .starts) (t .entries)
 

@@ -6,7 +6,7 @@ ghost use Rattle.numbers.specs.Ln.{lnOf};
 ghost use Rattle.reader.specs.Read.{readOutcome, roomsOf};
 ghost use Rattle.writer.specs.Write.{writeOf};
 ghost use Rattle.dequantize.specs.Judge.{descriptionOf};
-ghost use Rattle.table.specs.Table.{imageOf, buildOf};
+ghost use Rattle.table.specs.Table.{settingOf, buildOf};
 ghost use Rattle.table.specs.Table as build;
 ghost use Rattle.draw.specs.Draw.{tableOf, three, drawOf};
 ghost use Rattle.draw.specs.Reach.{reachOf};
@@ -228,7 +228,7 @@ pub extern "C" fn aktyrbuz_build(
     answer: &mut [i64; 5],
 ) -> u32
     ensures { λ r. ⌜ buildLeaves r (now (answer .exit)) (now (path .exit)) (now (walk .exit)) (now (segments .exit)) (now («row_starts» .exit)) (now (entries .exit))
-        ≡ buildExport (buildOf (descriptionOf (now (counts .entry)) (now (starts .entry)) (now (deltas .entry)) (now (coefficients .entry))) (imageOf adjustment width height «y_to_x» «y_to_b» «high_precision» level10) (build.roomsOf (now (path .entry)) (now (walk .entry)) (now (segments .entry)) (now («row_starts» .entry)) (now (entries .entry)))) ⌝ }
+        ≡ buildExport (buildOf (descriptionOf (now (counts .entry)) (now (starts .entry)) (now (deltas .entry)) (now (coefficients .entry))) (settingOf adjustment width height «y_to_x» «y_to_b» «high_precision» level10) (build.roomsOf (now (path .entry)) (now (walk .entry)) (now (segments .entry)) (now («row_starts» .entry)) (now (entries .entry)))) ⌝ }
 {
     let told = told_build(table::build(
         counts,

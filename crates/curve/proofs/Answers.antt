@@ -12,7 +12,7 @@ use Rattle.buffers.specs.Onto.{onto}
 use Rattle.buffers.proofs.Fronts.{take-onto}
 use Rattle.curve.specs.declared.Point.{Point}
 use Rattle.curve.specs.declared.Curved.the-variants.{Points, Room}
-use Rattle.curve.specs.Curve.{flat, pick, curvedOf, curvedOn}
+use Rattle.curve.specs.Curve.{flat, curvedOf, curvedOn}
 use Rattle.curve.proofs.Paths.{length-flat}
 
 -- a path of n points had room and stands on the front of the buffer e
@@ -25,7 +25,7 @@ pub curved-got : (room : ℕ) (path : List Point) (o e : List Float) (n : ℕ) �
 unfolding curvedOf curvedOn
 curved-got room path o e n a b = go (leb (length path) room) refl a b
   where
-    go : (t : Bool) → leb (length path) room ≡ t → Points n ≡ pick t (Points (length path)) Room → e ≡ cond t (onto (flat path) o) o → Drawn room path e n
+    go : (t : Bool) → leb (length path) room ≡ t → Points n ≡ cond t (Points (length path)) Room → e ≡ cond t (onto (flat path) o) o → Drawn room path e n
     go false h a b = absurd (let z : _≡_ {A = ℕ} 0 1 = cc in omega arith)
     go true h a b =
         let k : n ≡ length path = cc in
@@ -36,7 +36,7 @@ pub curved-none : (room : ℕ) (path : List Point) → Room ≡ curvedOf room pa
 unfolding curvedOf
 curved-none room path a = go (leb (length path) room) refl a
   where
-    go : (t : Bool) → leb (length path) room ≡ t → Room ≡ pick t (Points (length path)) Room → room < length path
+    go : (t : Bool) → leb (length path) room ≡ t → Room ≡ cond t (Points (length path)) Room → room < length path
     go true h a = absurd (let z : _≡_ {A = ℕ} 0 1 = cc in omega arith)
     go false h a = leb-false (length path) room h
 

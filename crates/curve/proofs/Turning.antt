@@ -14,7 +14,7 @@ use Rattle.numbers.specs.Length.{hypotOf}
 use Rattle.numbers.proofs.Hypot.{hypot-is-length}
 use Rattle.buffers.specs.Onto.{onto}
 use Rattle.buffers.proofs.Filling.{Filled, filled-more, filled-all}
-use Rattle.dequantize.specs.ControlPoints.{validPointPos, plusOf, placeAt, movedOf, laterPoints, controlPoints, Walk}
+use Rattle.dequantize.specs.ControlPoints.{validPointPos, plusOf, placeAt, movedOf, laterPoints, controlPoints, Passable}
 use Rattle.dequantize.specs.declared.control_points.Pair.{Pair}
 use Rattle.dequantize.proofs.Pairs.{in-range-mag, point-range, abs-mag}
 use Rattle.dequantize.proofs.Walks.{walk-more, points-more, points-done}
@@ -149,7 +149,7 @@ pub record Under (t : Turn) (ds : List ℤ) (k : ℕ) : Type 0 where
   pub r : t .r ≡ pointOf (t .place .point)
   pub d0 : t .d0 ≡ rootDistance (t .p) (t .q)
   pub d1 : t .d1 ≡ rootLength (t .place .delta)
-  pub walk : Walk (t .place) (drop (2 * k) ds)
+  pub walk : Passable (t .place) (drop (2 * k) ds)
 
 module _ (t : Turn) (ds : List ℤ) (k : ℕ) (u : Under t ds k) where
   delta-half : Half (t .place .delta)
@@ -179,7 +179,7 @@ window-is : {p q r s : Point} {a b c d e f : Float} → a ≡ d → b ≡ e → 
     → _≡_ {A = Window} (record { p0 = p; p1 = q; p2 = r; p3 = s; d0 = a; d1 = b; d2 = c }) (record { p0 = p; p1 = q; p2 = r; p3 = s; d0 = d; d1 = e; d2 = f })
 window-is g h i = rw (g, h, i)
 
-pub first-under : (start : Pair) (ds : List ℤ) → Walk (placeAt start) ds → 2 ≤ length ds → Under (firstTurn start (nextPlace (placeAt start) ds 0)) ds 1
+pub first-under : (start : Pair) (ds : List ℤ) → Passable (placeAt start) ds → 2 ≤ length ds → Under (firstTurn start (nextPlace (placeAt start) ds 0)) ds 1
 unfolding firstTurn movedOf placeAt
 first-under start ds w h =
     let m = walk-more (placeAt start) ds 0 h w in

@@ -101,12 +101,8 @@ flat (p ∷ l) = p .x ∷ p .y ∷ flat l
 abbrev pub pathRoom : ℕ → ℕ
 pathRoom n = min (n / 2) 8388608
 
-abbrev pub pick : Bool → Curved → Curved → Curved
-pick true a b = a
-pick false a b = b
-
 unfoldable pub curvedOf : ℕ → List Point → Curved
-curvedOf room path = pick (leb (length path) room) (Points (length path)) Room
+curvedOf room path = cond (leb (length path) room) (Points (length path)) Room
 
 -- the buffer after; o is the buffer before
 unfoldable pub curvedOn : ℕ → List Point → List Float → List Float

@@ -5,7 +5,7 @@ ghost use Prim.Native.Nat.{_+_, _*_, _/_, _≤_, _<_};
 ghost use lib.ListN.{length, drop};
 ghost use lib.Seq.{sets};
 ghost use Rattle.buffers.specs.Onto.{onto};
-ghost use Rattle.dequantize.specs.ControlPoints.{validPointPos, placeAt, Walk};
+ghost use Rattle.dequantize.specs.ControlPoints.{validPointPos, placeAt, Passable};
 ghost use Rattle.curve.specs.Points.{addPoint, subPoint, mulPoint};
 ghost use Rattle.curve.specs.Windows.{toward, time, levels, windowPoint};
 ghost use Rattle.curve.specs.Curve.{pointOf, reflected, interpolated, windowPoints, pathOf, flat, pathRoom, curvedOf, curvedOn};
@@ -162,7 +162,7 @@ fn root_length(delta: Pair) -> f32
 
 // The place that the double delta k leads to.
 fn next_place(place: Place, deltas: &[i32], k: usize) -> Place
-    requires { ⌜ Walk place (drop (2 * k) (now deltas)) × (2 * k + 2 ≤ length (now deltas)) ⌝ }
+    requires { ⌜ Passable place (drop (2 * k) (now deltas)) × (2 * k + 2 ≤ length (now deltas)) ⌝ }
     ensures { λ r. ⌜ r ≡ nextPlace place (now (deltas .entry)) k ⌝ }
 {
     place.moved(Pair::of(deltas, k))
@@ -235,7 +235,7 @@ impl Turn {
 
 // The turn at the start of a path of two control points or more.
 fn first_turn(start: Pair, deltas: &[i32]) -> Turn
-    requires { ⌜ Walk (placeAt start) (now deltas) × (2 ≤ length (now deltas)) ⌝ }
+    requires { ⌜ Passable (placeAt start) (now deltas) × (2 ≤ length (now deltas)) ⌝ }
     ensures { λ r. ⌜ r ≡ firstTurn start (nextPlace (placeAt start) (now (deltas .entry)) 0) ⌝ }
 {
     Turn::first(start, next_place(Place::at(start), deltas, 0))
@@ -243,7 +243,7 @@ fn first_turn(start: Pair, deltas: &[i32]) -> Turn
 
 // The path through m + 1 control points.
 fn put_path(start: Pair, deltas: &[i32], out: &mut [f32], m: usize)
-    requires { ⌜ Walk (placeAt start) (now deltas) × (m ≡ length (now deltas) / 2) × (0 < m) × (32 * m + 2 ≤ length (now out)) ⌝ }
+    requires { ⌜ Passable (placeAt start) (now deltas) × (m ≡ length (now deltas) / 2) × (0 < m) × (32 * m + 2 ≤ length (now out)) ⌝ }
     ensures { λ _. ⌜ now (out .exit) ≡ onto (flat (pathOf start (now (deltas .entry)))) (now (out .entry)) ⌝ }
 {
     let mut t = first_turn(start, deltas);
@@ -274,7 +274,7 @@ fn path_room(len: usize) -> usize
 
 // The path of a spline that was traced before, on the front of out.
 pub fn curve(start: Pair, deltas: &[i32], out: &mut [f32]) -> Curved
-    requires { ⌜ Walk (placeAt start) (now deltas) ⌝ }
+    requires { ⌜ Passable (placeAt start) (now deltas) ⌝ }
     ensures { λ r. ⌜ (r ≡ curvedOf (pathRoom (length (now (out .entry)))) (pathOf start (now (deltas .entry))))
         × (now (out .exit) ≡ curvedOn (pathRoom (length (now (out .entry)))) (pathOf start (now (deltas .entry))) (now (out .entry))) ⌝ }
 {

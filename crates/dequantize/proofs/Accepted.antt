@@ -8,7 +8,7 @@ use lib.IntN.{ℤ}
 use lib.Ieee.{Float}
 use Rattle.codes.specs.declared.Code.{Code}
 use Rattle.codes.specs.declared.Code.the-variants.{Done, Position}
-use Rattle.dequantize.specs.ControlPoints.{startingPoint, traceOf, placeAt, controlPoints, adjacentCoincide, Walk}
+use Rattle.dequantize.specs.ControlPoints.{startingPoint, traceOf, placeAt, controlPoints, adjacentCoincide, Passable}
 use Rattle.dequantize.specs.Dequantize.{refusedOf, finishedOf, dequantizeOf}
 use Rattle.dequantize.specs.declared.Given.{Given}
 use Rattle.dequantize.specs.declared.Spline.{Spline}
@@ -29,7 +29,7 @@ pub record Accepted (x y : Float) (ds c : List ℤ) (g : Given) : Type 0 where
   pub begins : startingPoint x y ≡ At start
   pub traced : traceOf (g .limit) start ds ≡ On run
   pub is : dequantizeOf x y ds c g ≡ finishedOf c g (run .manhattan) (run .coincide)
-  pub walk : Walk (placeAt start) ds
+  pub walk : Passable (placeAt start) ds
   pub coincide : dequantizeOf x y ds c g .coincide ≡ adjacentCoincide (controlPoints start ds)
 
 module _ (x y : Float) (ds c : List ℤ) (g : Given) where

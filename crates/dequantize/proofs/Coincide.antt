@@ -81,8 +81,8 @@ same-next p d g h =
 
 -- ---- the flag of a run
 
-abbrev pub placeOf : Run → Place
-placeOf r = record { delta = r .delta; point = r .point }
+abbrev pub controlOf : Run → Place
+controlOf r = record { delta = r .delta; point = r .point }
 
 either : (r e t : Bool) → cond (cond r true e) true t ≡ cond r true (cond e true t)
 either true e t = refl
@@ -97,12 +97,12 @@ ended r s h = let e : r ≡ s = cc in subst (λ (y : Run). y .coincide ≡ cond 
 
 -- the flag, and what is said of the points after r
 abbrev flagged : Run → List ℤ → Bool
-flagged r ds = cond (r .coincide) true (coincideFrom (r .point) (laterPoints (placeOf r) ds))
+flagged r ds = cond (r .coincide) true (coincideFrom (r .point) (laterPoints (controlOf r) ds))
 
 stepped : (limit : ℕ) (r : Run) (dd : Pair) (ds : List ℤ) (s : Run)
     → ((t : Run) → traceFrom limit t ds ≡ On s → s .coincide ≡ flagged t ds)
     → (q : Traced) → stepOf limit r dd ≡ q → onward q (λ t. traceFrom limit t ds) ≡ On s
-    → s .coincide ≡ cond (r .coincide) true (coincideFrom (r .point) (movedOf (placeOf r) dd .point ∷ laterPoints (movedOf (placeOf r) dd) ds))
+    → s .coincide ≡ cond (r .coincide) true (coincideFrom (r .point) (movedOf (controlOf r) dd .point ∷ laterPoints (movedOf (controlOf r) dd) ds))
 unfolding movedOf coincideFrom
 stepped limit r dd ds s rest (Stop code) e g = absurd (let z : _≡_ {A = ℕ} 0 1 = cc in omega arith)
 stepped limit r dd ds s rest (On t) e g =

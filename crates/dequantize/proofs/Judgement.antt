@@ -1,6 +1,6 @@
 -- Judging all splines: AREA and COINCIDE exactly when, the first refusal exactly where, and what an accepted description has for every spline.
 use mathlib.Core.Path.{_≡_, refl, sym, ap, subst, _∙_}
-use mathlib.Core.Bool.{Bool, true, false}
+use mathlib.Core.Bool.{Bool, true, false, cond}
 use mathlib.Core.Logic.{_↔_, _⊎_, inl, inr}
 use Prim.Native.Nat.{ℕ, zero, suc, _+_, _-_, _≤_, _<_}
 use native.Mathlib.Nat.{eq-or-lt-of-le}
@@ -14,7 +14,7 @@ use Rattle.codes.specs.declared.Code.the-variants.{Done, Area, Coincide}
 use Rattle.codes.proofs.Codes.{numberOf-injective}
 use Rattle.numbers.specs.Saturating.{satAdd}
 use Rattle.dequantize.specs.Estimate.{satSum}
-use Rattle.dequantize.specs.Judge.{Description, pick, startX, startY, deltasOf, coefficientsOf, splineOf, settleOf, onward, judgeFrom, judgeOf}
+use Rattle.dequantize.specs.Judge.{Description, startX, startY, deltasOf, coefficientsOf, splineOf, settleOf, onward, judgeFrom, judgeOf}
 use Rattle.dequantize.specs.declared.Given.{Given}
 use Rattle.dequantize.specs.declared.Spline.{Spline}
 use Rattle.dequantize.specs.declared.judge.Settled.{Settled}
@@ -30,11 +30,11 @@ module _ (total : ℕ) (s : Spline) (limit : ℕ) (d : s .code ≡ Done) where
   abbrev more : ℕ
   more = satAdd total (s .estimate)
 
-  done-is : settleOf total s limit ≡ pick (leb (satAdd total (s .estimate)) limit) (pick (s .coincide) (Stop Coincide) (Total (satAdd total (s .estimate)))) (Stop Area)
+  done-is : settleOf total s limit ≡ cond (leb (satAdd total (s .estimate)) limit) (cond (s .coincide) (Stop Coincide) (Total (satAdd total (s .estimate)))) (Stop Area)
   unfolding settleOf
   done-is = rw d
 
-  settled-by : (a b : Bool) (n : ℕ) (t : Settled) → pick a (pick b (Stop Coincide) (Total n)) (Stop Area) ≡ t
+  settled-by : (a b : Bool) (n : ℕ) (t : Settled) → cond a (cond b (Stop Coincide) (Total n)) (Stop Area) ≡ t
       → (t ≡ Stop Area → a ≡ false) × (t ≡ Stop Coincide → (a ≡ true) × (b ≡ true)) × ((m : ℕ) → t ≡ Total m → (a ≡ true) × (b ≡ false) × (n ≡ m))
   settled-by false b n t e = (λ h. refl, λ h. absurd (let z : _≡_ {A = ℕ} 0 1 = cc in omega arith), λ m h. absurd (let z : _≡_ {A = ℕ} 0 1 = cc in omega arith))
   settled-by true true n t e = (λ h. absurd (let z : _≡_ {A = ℕ} 0 1 = cc in omega arith), λ h. (refl, refl), λ m h. absurd (let z : _≡_ {A = ℕ} 0 1 = cc in omega arith))
@@ -61,9 +61,9 @@ module _ (total : ℕ) (s : Spline) (limit : ℕ) (d : s .code ≡ Done) where
 -- a spline that goes on was not refused
 pub settled-done : (total : ℕ) (s : Spline) (limit n : ℕ) → settleOf total s limit ≡ Total n → s .code ≡ Done
 unfolding settleOf
-settled-done total s limit n h = numberOf-injective (s .code) Done (eqb-true (numberOf (s .code)) 0 (go (eqb (numberOf (s .code)) 0) (pick (leb (satAdd total (s .estimate)) limit) (pick (s .coincide) (Stop Coincide) (Total (satAdd total (s .estimate)))) (Stop Area)) h))
+settled-done total s limit n h = numberOf-injective (s .code) Done (eqb-true (numberOf (s .code)) 0 (go (eqb (numberOf (s .code)) 0) (cond (leb (satAdd total (s .estimate)) limit) (cond (s .coincide) (Stop Coincide) (Total (satAdd total (s .estimate)))) (Stop Area)) h))
   where
-    go : (b : Bool) (t : Settled) → pick b t (Stop (s .code)) ≡ Total n → b ≡ true
+    go : (b : Bool) (t : Settled) → cond b t (Stop (s .code)) ≡ Total n → b ≡ true
     go true t e = refl
     go false t e = absurd (let z : _≡_ {A = ℕ} 0 1 = cc in omega arith)
 

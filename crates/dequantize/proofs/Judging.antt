@@ -8,7 +8,7 @@ use lib.ListN.{length, getD, take, drop}
 use lib.Ieee.{nan}
 use Rattle.codes.specs.declared.Code.{Code}
 use Rattle.dequantize.specs.Dequantize.{dequantizeOf}
-use Rattle.dequantize.specs.Judge.{Description, Shaped, sum, startX, startY, deltasAt, deltasOf, coefficientsOf, splineOf, settleOf, judgeFrom, judgeOf}
+use Rattle.dequantize.specs.Judge.{Description, Shaped, pointsOf, startX, startY, deltasAt, deltasOf, coefficientsOf, splineOf, settleOf, judgeFrom, judgeOf}
 use Rattle.dequantize.specs.declared.Given.{Given}
 use Rattle.dequantize.specs.declared.Spline.{Spline}
 use Rattle.dequantize.specs.declared.judge.Settled.{Settled}
@@ -17,12 +17,12 @@ use Rattle.dequantize.specs.declared.judge.Judged.the-variants.{Fine, Re
 
 -- ---- sums of counts
 
-sum-more : (ns : List ℕ) (k : ℕ) → k < length ns → sum (take (suc k) ns) ≡ sum (take k ns) + getD ns k 0
+sum-more : (ns : List ℕ) (k : ℕ) → k < length ns → pointsOf (take (suc k) ns) ≡ pointsOf (take k ns) + getD ns k 0
 sum-more [] k h = absurd (omega arith)
 sum-more (n ∷ ns) zero h = omega arith
 sum-more (n ∷ ns) (suc k) h = omega (arith, sum-more ns k (omega arith))
 
-sum-part : (ns : List ℕ) (k : ℕ) → sum (take k ns) ≤ sum ns
+sum-part : (ns : List ℕ) (k : ℕ) → pointsOf (take k ns) ≤ pointsOf ns
 sum-part ns zero = omega arith
 sum-part [] (suc k) = omega arith
 sum-part (n ∷ ns) (suc k) = omega (arith, sum-part ns k)

@@ -1,18 +1,18 @@
 -- A start that is taken passes the check of a point: each of its coordinates did.
 use mathlib.Core.Path.{_≡_, refl, ap, subst}
-use mathlib.Core.Bool.{Bool, true, false}
+use mathlib.Core.Bool.{Bool, true, false, cond}
 use Prim.Native.Nat.{ℕ}
 use native.Mathlib.Omega.{arith}
 use lib.IntN.{ℤ}
 use lib.Ieee.{Float, binary32, isNan, toSigned}
 use Rattle.numbers.specs.Whole.{roundOf}
-use Rattle.dequantize.specs.ControlPoints.{inRange, pickWhole, roundedOf, joined, startingPoint, validPointPos}
+use Rattle.dequantize.specs.ControlPoints.{inRange, roundedOf, joined, startingPoint, validPointPos}
 use Rattle.dequantize.specs.declared.control_points.Pair.{Pair}
 use Rattle.dequantize.specs.declared.control_points.Whole.{Whole}
 use Rattle.dequantize.specs.declared.control_points.Whole.the-variants as W
 use Rattle.dequantize.specs.declared.control_points.Start.the-variants as S
 
-picked : (n i : Bool) (z w : ℤ) → pickWhole n W.Out (pickWhole i (W.At z) W.Out) ≡ W.At w → (i ≡ true) × (z ≡ w)
+picked : (n i : Bool) (z w : ℤ) → cond n W.Out (cond i (W.At z) W.Out) ≡ W.At w → (i ≡ true) × (z ≡ w)
 picked true i z w h = absurd (let e : _≡_ {A = ℕ} 0 1 = cc in omega arith)
 picked false true z w h = (refl, cc)
 picked false false z w h = absurd (let e : _≡_ {A = ℕ} 0 1 = cc in omega arith)

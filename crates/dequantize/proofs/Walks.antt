@@ -6,7 +6,7 @@ use Prim.Native.Nat.{ℕ, _+_, _*_, _/_, _<_, _≤_}
 use native.Mathlib.Omega.{arith}
 use lib.IntN.{ℤ}
 use lib.ListN.{length, drop}
-use Rattle.dequantize.specs.ControlPoints.{onward, stepOf, traceFrom, traceOf, runAt, pairAt, plusOf, movedOf, placeAt, laterPoints, controlPoints, validDoubleDelta, validPointPos, walks, Walk, Moves}
+use Rattle.dequantize.specs.ControlPoints.{onward, stepOf, traceFrom, traceOf, runAt, pairAt, plusOf, movedOf, placeAt, laterPoints, controlPoints, validDoubleDelta, validPointPos, passes, Passable, Moves}
 use Rattle.dequantize.specs.declared.control_points.Pair.{Pair}
 use Rattle.dequantize.specs.declared.control_points.Place.{Place}
 use Rattle.dequantize.specs.declared.control_points.Run.{Run}
@@ -14,15 +14,15 @@ use Rattle.dequantize.specs.declared.control_points.Traced.{Traced}
 use Rattle.dequantize.specs.declared.control_points.Traced.the-variants.{On, Stop}
 use Rattle.dequantize.proofs.Pairs.{both, point-fine, double-delta-fine}
 use Rattle.dequantize.proofs.Steps.{onto, step-went, pair-drop}
-use Rattle.dequantize.proofs.Coincide.{placeOf}
+use Rattle.dequantize.proofs.Coincide.{controlOf}
 
 -- ---- from a trace to a walk
 
 stepped : (limit : ℕ) (r : Run) (dd : Pair) (ds : List ℤ) (s : Run)
-    → ((t : Run) → traceFrom limit t ds ≡ On s → walks (placeOf t) ds ≡ true)
+    → ((t : Run) → traceFrom limit t ds ≡ On s → passes (controlOf t) ds ≡ true)
     → (q : Traced) → stepOf limit r dd ≡ q → onward q (λ t. traceFrom limit t ds) ≡ On s
-    → let p = movedOf (placeOf r) dd in
-    cond (validDoubleDelta dd) (cond (validPointPos (p .delta)) (cond (validPointPos (p .point)) (walks p ds) false) false) false ≡ true
+    → let p = movedOf (controlOf r) dd in
+    cond (validDoubleDelta dd) (cond (validPointPos (p .delta)) (cond (validPointPos (p .point)) (passes p ds) false) false) false ≡ true
 unfolding movedOf
 stepped limit r dd ds s rest (Stop code) e g = absurd (let z : _≡_ {A = ℕ} 0 1 = cc in omega arith)
 stepped limit r dd ds s rest (On t) e g =
@@ -30,14 +30,14 @@ stepped limit r dd ds s rest (On t) e g =
     let k : traceFrom limit (onto r dd) ds ≡ On s = rw (w .is) g in
     rw (w .small, w .delta, w .point) (rest (onto r dd) k)
 
-trace-walks : (limit : ℕ) (r : Run) (ds : List ℤ) (s : Run) → traceFrom limit r ds ≡ On s → walks (placeOf r) ds ≡ true
-unfolding traceFrom walks
+trace-walks : (limit : ℕ) (r : Run) (ds : List ℤ) (s : Run) → traceFrom limit r ds ≡ On s → passes (controlOf r) ds ≡ true
+unfolding traceFrom passes
 trace-walks limit r [] s h = refl
 trace-walks limit r (a ∷ []) s h = refl
 trace-walks limit r (a ∷ b ∷ ds) s h =
     stepped limit r (record { x = a; y = b }) ds s (λ t. trace-walks limit t ds s) (stepOf limit r (record { x = a; y = b })) refl h
 
-pub traced-walk : (limit : ℕ) (start : Pair) (ds : List ℤ) (s : Run) → validPointPos start ≡ true → traceOf limit start ds ≡ On s → Walk (placeAt start) ds
+pub traced-walk : (limit : ℕ) (start : Pair) (ds : List ℤ) (s : Run) → validPointPos start ≡ true → traceOf limit start ds ≡ On s → Passable (placeAt start) ds
 unfolding traceOf runAt placeAt validPointPos
 traced-walk limit start ds s h e = record { delta = refl; point = h; rest = trace-walks limit (runAt start) ds s e }
 
@@ -48,10 +48,10 @@ module _ (p : Place) (ds : List ℤ) (k : ℕ) (h : 2 * k + 2 ≤ length ds) whe
   unfolding laterPoints
   points-more = rw (pair-drop ds k h)
 
-  module _ (w : Walk p (drop (2 * k) ds)) where
+  module _ (w : Passable p (drop (2 * k) ds)) where
     parts : let q = movedOf p (pairAt ds k) in
-        cond (validDoubleDelta (pairAt ds k)) (cond (validPointPos (q .delta)) (cond (validPointPos (q .point)) (walks q (drop (2 * (k + 1)) ds)) false) false) false ≡ true
-    unfolding walks
+        cond (validDoubleDelta (pairAt ds k)) (cond (validPointPos (q .delta)) (cond (validPointPos (q .point)) (passes q (drop (2 * (k + 1)) ds)) false) false) false ≡ true
+    unfolding passes
     parts = rw (pair-drop ds k h) at (w .rest)
 
     pub walk-moves : Moves p (pairAt ds k)
@@ -61,7 +61,7 @@ module _ (p : Place) (ds : List ℤ) (k : ℕ) (h : 2 * k + 2 ≤ length ds) whe
         let e = both (validPointPos (plusOf (p .delta) (pairAt ds k))) _ (d .1) in
         record { delta = point-fine (p .delta) (w .delta); more = double-delta-fine (pairAt ds k) (d .0); next = point-fine (plusOf (p .delta) (pairAt ds k)) (e .0); point = point-fine (p .point) (w .point) }
 
-    pub walk-more : Walk (movedOf p (pairAt ds k)) (drop (2 * (k + 1)) ds)
+    pub walk-more : Passable (movedOf p (pairAt ds k)) (drop (2 * (k + 1)) ds)
     walk-more =
         let q = movedOf p (pairAt ds k) in
         let d = both (validDoubleDelta (pairAt ds k)) _ parts in
@@ -87,8 +87,8 @@ unfoldable pub allInRange : List Pair → Bool
 allInRange [] = true
 allInRange (p ∷ l) = cond (validPointPos p) (allInRange l) false
 
-later-in-range : (p : Place) (ds : List ℤ) → walks p ds ≡ true → allInRange (laterPoints p ds) ≡ true
-unfolding walks laterPoints allInRange
+later-in-range : (p : Place) (ds : List ℤ) → passes p ds ≡ true → allInRange (laterPoints p ds) ≡ true
+unfolding passes laterPoints allInRange
 later-in-range p [] w = refl
 later-in-range p (a ∷ []) w = refl
 later-in-range p (a ∷ b ∷ ds) w =
@@ -98,7 +98,7 @@ later-in-range p (a ∷ b ∷ ds) w =
     let g = both (validPointPos (q .point)) _ (e .1) in
     rw (g .0) (later-in-range q ds (g .1))
 
-pub points-in-range : (start : Pair) (ds : List ℤ) → Walk (placeAt start) ds → allInRange (controlPoints start ds) ≡ true
+pub points-in-range : (start : Pair) (ds : List ℤ) → Passable (placeAt start) ds → allInRange (controlPoints start ds) ≡ true
 unfolding controlPoints placeAt allInRange
 points-in-range start ds w = rw (w .point) (later-in-range (placeAt start) ds (w .rest))
 

@@ -56,15 +56,11 @@ pairAt l k = record { x = getD l (2 * k) (pos 0); y = getD l (2 * k + 1) (pos 0)
 
 -- ---- the start
 
-abbrev pub pickWhole : Bool → Whole → Whole → Whole
-pickWhole true a b = a
-pickWhole false a b = b
-
 -- `x.round()` as an i32, where it is in the range; a NaN is not
 unfoldable pub roundedOf : Float → Whole
 roundedOf x =
     let z = toSigned 31 (roundOf binary32 x) in
-    pickWhole (isNan x) W.Out (pickWhole (inRange z) (W.At z) W.Out)
+    cond (isNan x) W.Out (cond (inRange z) (W.At z) W.Out)
 
 abbrev pub joined : Whole → Whole → Start
 joined W.Out q = S.Out
@@ -169,15 +165,15 @@ pub record Moves (p : Place) (dd : Pair) : Type 0 where
   pub point : Fine (p .point)
 
 -- every double delta, delta and point on the way from p passes its check
-unfoldable pub walks : Place → List ℤ → Bool
-walks p [] = true
-walks p (a ∷ []) = true
-walks p (a ∷ b ∷ ds) =
+unfoldable pub passes : Place → List ℤ → Bool
+passes p [] = true
+passes p (a ∷ []) = true
+passes p (a ∷ b ∷ ds) =
     let q = movedOf p (record { x = a; y = b }) in
-    cond (validDoubleDelta (record { x = a; y = b })) (cond (validPointPos (q .delta)) (cond (validPointPos (q .point)) (walks q ds) false) false) false
+    cond (validDoubleDelta (record { x = a; y = b })) (cond (validPointPos (q .delta)) (cond (validPointPos (q .point)) (passes q ds) false) false) false
 
 -- the control points from p on may be gone through again
-pub record Walk (p : Place) (ds : List ℤ) : Type 0 where
+pub record Passable (p : Place) (ds : List ℤ) : Type 0 where
   pub delta : validPointPos (p .delta) ≡ true
   pub point : validPointPos (p .point) ≡ true
-  pub rest : walks p ds ≡ true
+  pub rest : passes p ds ≡ true

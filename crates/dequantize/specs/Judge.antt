@@ -1,6 +1,6 @@
 -- The first loop of `initialize_draw_cache` of spline.rs: each spline is dequantized, then AREA is checked over the running sum, then COINCIDE. Definitions only.
 use mathlib.Core.Path.{_≡_}
-use mathlib.Core.Bool.{Bool, true, false}
+use mathlib.Core.Bool.{Bool, true, false, cond}
 use mathlib.Core.List.{List, [], _∷_}
 use Prim.Native.Nat.{ℕ, zero, suc, _+_, _*_}
 use lib.Dec.{leb, eqb}
@@ -28,14 +28,14 @@ pub record Description : Type 0 where
 abbrev pub descriptionOf : List ℕ → List Float → List ℤ → List ℤ → Description
 descriptionOf counts starts deltas coefficients = record { counts = counts; starts = starts; deltas = deltas; coefficients = coefficients }
 
-abbrev pub sum : List ℕ → ℕ
-sum [] = 0
-sum (n ∷ ns) = n + sum ns
+abbrev pub pointsOf : List ℕ → ℕ
+pointsOf [] = 0
+pointsOf (n ∷ ns) = n + pointsOf ns
 
 -- what SHAPE asks for
 pub record Shaped (d : Description) : Type 0 where
   pub starts : length (d .starts) ≡ 2 * length (d .counts)
-  pub deltas : length (d .deltas) ≡ 2 * sum (d .counts)
+  pub deltas : length (d .deltas) ≡ 2 * pointsOf (d .counts)
   pub coefficients : length (d .coefficients) ≡ 128 * length (d .counts)
 
 -- ---- the spline k
@@ -48,7 +48,7 @@ startY d k = getD (d .starts) (2 * k + 1) nan
 
 -- where its double deltas begin
 unfoldable pub deltasAt : Description → ℕ → ℕ
-deltasAt d k = 2 * sum (take k (d .counts))
+deltasAt d k = 2 * pointsOf (take k (d .counts))
 
 unfoldable pub deltasOf : Description → ℕ → List ℤ
 deltasOf d k = take (2 * getD (d .counts) k 0) (drop (deltasAt d k) (d .deltas))
@@ -61,17 +61,13 @@ splineOf d g k = dequantizeOf (startX d k) (startY d k) (deltasOf d k) (coeffici
 
 -- ---- the checks after a spline
 
-abbrev pub pick : Bool → Settled → Settled → Settled
-pick true a b = a
-pick false a b = b
-
 -- its own refusal, AREA, COINCIDE, or the sum with its estimate
 unfoldable pub settleOf : ℕ → Spline → ℕ → Settled
 settleOf total s limit =
     let more = satAdd total (s .estimate) in
-    pick (eqb (numberOf (s .code)) 0)
-    (pick (leb more limit)
-    (pick (s .coincide) (Stop Coincide)
+    cond (eqb (numberOf (s .code)) 0)
+    (cond (leb more limit)
+    (cond (s .coincide) (Stop Coincide)
     (Total more))
     (Stop Area))
     (Stop (s .code))

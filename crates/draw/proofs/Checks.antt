@@ -8,7 +8,7 @@ use lib.Dec.{ltb}
 use lib.Ieee.{Float}
 use borrow.Author.Tests.{ltb-true, leb-true}
 use Rattle.codes.specs.declared.Code.{Code}
-use Rattle.draw.specs.Draw.{Table, rowOf, updates, allBelow, countsGood, spanGood, entriesGood, rowGood, orFault, judgeOf, Channels, three, leaves, drawn, outcome, drawOf}
+use Rattle.draw.specs.Draw.{Table, rowOf, updates, allBelow, countsGood, spanGood, entriesGood, rowGood, orFault, judgeOf, Channels, three, leaves, drawnChannel, outcome, drawOf}
 use Rattle.draw.specs.declared.Verdict.{Verdict}
 use Rattle.draw.specs.declared.Verdict.the-variants.{Fine, Fault}
 use Rattle.draw.specs.declared.DrawAnswer.the-variants.{Done, Refused}
@@ -101,7 +101,7 @@ module _ (t : Table) (y x0 n : ℕ) (a : Channels) where
   unfolding drawOf
   answer-fault e = sym (ap (λ (v : Verdict). outcome v t y x0 n a) e)
 
-  pub answer-done : {u : ℕ} {z0 z1 z2 : List Float} → judgeOf t y x0 n (length (a .r0)) (length (a .r1)) (length (a .r2)) ≡ Fine → u ≡ updates (t .segments) x0 n (rowOf t y) → z0 ≡ drawn 0 t y x0 n (a .r0) → z1 ≡ drawn 1 t y x0 n (a .r1) → z2 ≡ drawn 2 t y x0 n (a .r2) → leaves (Done u) (three z0 z1 z2) ≡ drawOf t y x0 n a
+  pub answer-done : {u : ℕ} {z0 z1 z2 : List Float} → judgeOf t y x0 n (length (a .r0)) (length (a .r1)) (length (a .r2)) ≡ Fine → u ≡ updates (t .segments) x0 n (rowOf t y) → z0 ≡ drawnChannel 0 t y x0 n (a .r0) → z1 ≡ drawnChannel 1 t y x0 n (a .r1) → z2 ≡ drawnChannel 2 t y x0 n (a .r2) → leaves (Done u) (three z0 z1 z2) ≡ drawOf t y x0 n a
   unfolding drawOf
   answer-done e p q0 q1 q2 = rw (p, q0, q1, q2) (sym (ap (λ (v : Verdict). outcome v t y x0 n a) e))
 

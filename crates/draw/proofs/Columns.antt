@@ -14,10 +14,10 @@ use Rattle.segments.specs.Ranges.{hasColumn, columnsOf}
 use Rattle.segments.specs.declared.Segment.{Segment}
 use Rattle.segments.specs.declared.Range.{Range}
 use Rattle.segments.proofs.Ranges.{has-column}
-use Rattle.shade.specs.Edit.{edit, below, inside}
+use Rattle.shade.specs.Edit.{edit, firstCells, inside}
 use Rattle.shade.specs.Shade.{shaded}
 use Rattle.shade.proofs.Edits.{lt-or-ge, is-edit, edit-cong, edit-part}
-use Rattle.draw.specs.Draw.{addIn, between, count}
+use Rattle.draw.specs.Draw.{shadedInColumn, between, count}
 
 -- how many of the n columns from x0 on lie from `first` up to `past`
 pub count-between : (first past x0 n : ℕ) → count (between first past) x0 n ≡ min (x0 + n) past - max x0 first
@@ -33,7 +33,7 @@ count-between first past x0 (suc n) =
 
 -- f at those of the n columns from x0 on that lie from `first` up to `past`
 abbrev pub ranged : (ℕ → Float → Float) → ℕ → ℕ → ℕ → ℕ → ℕ → Float → Float
-ranged f first past x0 n = below n (λ k v. cond (between first past (x0 + k)) (f (x0 + k) v) v)
+ranged f first past x0 n = firstCells n (λ k v. cond (between first past (x0 + k)) (f (x0 + k) v) v)
 
 -- where there are none, nothing changes
 pub ranged-none : (f : ℕ → Float → Float) (xs : List Float) (first past x0 n : ℕ) → min (x0 + n) past ≤ max x0 first → xs ≡ edit (ranged f first past x0 n) xs
@@ -87,10 +87,10 @@ pub count-columns : (segs : List Float) (i x0 n k : ℕ) (s : Segment) (r : Rang
 count-columns segs i x0 n k s r p q h e =
     e ∙ count-cong _ (hasColumn (segmentAt segs i)) x0 n (λ j l. has-columns s r (x0 + j) q (omega arith) ∙ ap (λ (t : Segment). hasColumn t (x0 + j)) p)
 
-pub draw-columns : (c : ℕ) (segs : List Float) (i y x0 n : ℕ) (s : Segment) (r : Range) (xs ys : List Float) → s ≡ segmentAt segs i → r ≡ columnsOf s → x0 + n ≤ 2 ^ 23 → ys ≡ edit (ranged (λ x v. shaded s y x c v) (r .first) (r .past) x0 n) xs → ys ≡ edit (below n (λ k v. addIn c segs y (x0 + k) v i)) xs
-draw-columns c segs i y x0 n s r xs ys p q h e = e ∙ edit-cong _ (below n (λ k v. addIn c segs y (x0 + k) v i)) xs (λ j v l. ⊎-elim (λ m. rw (lt-ltb j n m) (same j v m)) (λ m. rw (le-ltb j n m)) (lt-or-ge j n))
+pub draw-columns : (c : ℕ) (segs : List Float) (i y x0 n : ℕ) (s : Segment) (r : Range) (xs ys : List Float) → s ≡ segmentAt segs i → r ≡ columnsOf s → x0 + n ≤ 2 ^ 23 → ys ≡ edit (ranged (λ x v. shaded s y x c v) (r .first) (r .past) x0 n) xs → ys ≡ edit (firstCells n (λ k v. shadedInColumn c segs y (x0 + k) v i)) xs
+draw-columns c segs i y x0 n s r xs ys p q h e = e ∙ edit-cong _ (firstCells n (λ k v. shadedInColumn c segs y (x0 + k) v i)) xs (λ j v l. ⊎-elim (λ m. rw (lt-ltb j n m) (same j v m)) (λ m. rw (le-ltb j n m)) (lt-or-ge j n))
   where
-    same : (j : ℕ) (v : Float) → j < n → cond (between (r .first) (r .past) (x0 + j)) (shaded s y (x0 + j) c v) v ≡ addIn c segs y (x0 + j) v i
+    same : (j : ℕ) (v : Float) → j < n → cond (between (r .first) (r .past) (x0 + j)) (shaded s y (x0 + j) c v) v ≡ shadedInColumn c segs y (x0 + j) v i
     same j v m = rw (has-columns s r (x0 + j) q (omega arith)) (ap (λ (t : Segment). cond (hasColumn t (x0 + j)) (shaded t y (x0 + j) c v) v) p)
 
 -- Assumes nothing.

@@ -13,9 +13,9 @@ use lib.Ieee.{Float, nan}
 use borrow.Author.Tests.{ltb-true}
 use Rattle.segments.specs.Segment.{segmentAt}
 use Rattle.segments.specs.Ranges.{hasColumn}
-use Rattle.shade.specs.Edit.{edit, below}
+use Rattle.shade.specs.Edit.{edit, firstCells}
 use Rattle.shade.proofs.Edits.{is-edit, edit-cong, edit-edit}
-use Rattle.draw.specs.Draw.{addIn, pixel, count, updates, allBelow}
+use Rattle.draw.specs.Draw.{shadedInColumn, pixel, count, updates, allBelow}
 
 pub slice-next : (i e : ℕ) (l : List ℕ) → i < e → e ≤ length l → slice i e l ≡ getD l i 0 ∷ slice (i + 1) e l
 slice-next i e l h k = rw (add-one i) (slice-cons i e l 0 h k)
@@ -82,20 +82,20 @@ same-cond false v = refl
 
 -- a channel with the entries from i on still to be drawn
 abbrev pub rest : ℕ → List Float → ℕ → ℕ → ℕ → List ℕ → List Float → List Float
-rest c segs y x0 n es xs = edit (below n (λ k v. pixel c segs y (x0 + k) es v)) xs
+rest c segs y x0 n es xs = edit (firstCells n (λ k v. pixel c segs y (x0 + k) es v)) xs
 
-pub rest-next : (c : ℕ) (segs : List Float) (y x0 n i e : ℕ) (l : List ℕ) (xs ys all : List Float) → i < e → e ≤ length l → rest c segs y x0 n (slice i e l) xs ≡ all → ys ≡ edit (below n (λ k v. addIn c segs y (x0 + k) v (getD l i 0))) xs → rest c segs y x0 n (slice (i + 1) e l) ys ≡ all
+pub rest-next : (c : ℕ) (segs : List Float) (y x0 n i e : ℕ) (l : List ℕ) (xs ys all : List Float) → i < e → e ≤ length l → rest c segs y x0 n (slice i e l) xs ≡ all → ys ≡ edit (firstCells n (λ k v. shadedInColumn c segs y (x0 + k) v (getD l i 0))) xs → rest c segs y x0 n (slice (i + 1) e l) ys ≡ all
 rest-next c segs y x0 n i e l xs ys all h k p q =
     ap (rest c segs y x0 n (slice (i + 1) e l)) q
-    ∙ edit-edit (below n (λ j v. addIn c segs y (x0 + j) v (getD l i 0))) (below n (λ j v. pixel c segs y (x0 + j) (slice (i + 1) e l) v)) xs
-    ∙ edit-cong _ (below n (λ j v. pixel c segs y (x0 + j) (getD l i 0 ∷ slice (i + 1) e l) v)) xs (λ j v m. twice-cond (ltb j n) (λ w. pixel c segs y (x0 + j) (slice (i + 1) e l) w) (addIn c segs y (x0 + j) v (getD l i 0)) v)
+    ∙ edit-edit (firstCells n (λ j v. shadedInColumn c segs y (x0 + j) v (getD l i 0))) (firstCells n (λ j v. pixel c segs y (x0 + j) (slice (i + 1) e l) v)) xs
+    ∙ edit-cong _ (firstCells n (λ j v. pixel c segs y (x0 + j) (getD l i 0 ∷ slice (i + 1) e l) v)) xs (λ j v m. twice-cond (ltb j n) (λ w. pixel c segs y (x0 + j) (slice (i + 1) e l) w) (shadedInColumn c segs y (x0 + j) v (getD l i 0)) v)
     ∙ ap (λ (es : List ℕ). rest c segs y x0 n es xs) (sym (slice-next i e l h k))
     ∙ p
 
 pub rest-none : (c : ℕ) (segs : List Float) (y x0 n i e : ℕ) (l : List ℕ) (xs : List Float) → i ≤ e → e ≤ i → rest c segs y x0 n (slice i e l) xs ≡ xs
 rest-none c segs y x0 n i e l xs h k =
     ap (λ (es : List ℕ). rest c segs y x0 n es xs) (slice-none i e l h k)
-    ∙ sym (is-edit (below n (λ j v. v)) xs xs refl (λ j m. sym (same-cond (ltb j n) (getD xs j nan))))
+    ∙ sym (is-edit (firstCells n (λ j v. v)) xs xs refl (λ j m. sym (same-cond (ltb j n) (getD xs j nan))))
 
 pub all-none : (m i e : ℕ) (l : List ℕ) → i ≤ e → e ≤ i → allBelow m (slice i e l) ≡ true
 all-none m i e l h k = ap (allBelow m) (slice-none i e l h k)

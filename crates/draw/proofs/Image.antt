@@ -144,7 +144,7 @@ module _ (t : Table) (W H : ℕ) (g : countsGood t ≡ true) (hH : H ≤ t .heig
   pub image-in-parts : (wss : List (List ℕ)) (js : List Job) (a w : Image) (sum : ℕ) → length wss ≡ H → Each W wss → List·Permᴰ (jobs 0 wss) js → ((i : ℕ) → Wide W (a i)) → DrawnAll t js a sum w → WholeImage t W H a sum w
   image-in-parts wss js a w sum e each perm wide d =
       record {
-        each-row = λ y h. record { red = o .o0 y ∙ once y h _ (a y .r0) (wide y .w0); green = o .o1 y ∙ once y h _ (a y .r1) (wide y .w1); blue = o .o2 y ∙ once y h _ (a y .r2) (wide y .w2); pairs = refl };
+        each-row = λ y h. record { channel0 = o .o0 y ∙ once y h _ (a y .r0) (wide y .w0); channel1 = o .o1 y ∙ once y h _ (a y .r1) (wide y .w1); channel2 = o .o2 y ∙ once y h _ (a y .r2) (wide y .w2); pairs = refl };
         all-pairs = o .os ∙ sym (sum-perm (work t) perm) ∙ work-jobs t W 0 wss each ∙ rw e;
       }
     where

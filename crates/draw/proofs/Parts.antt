@@ -13,7 +13,7 @@ use Rattle.segments.specs.Segment.{segmentAt}
 use Rattle.segments.specs.Ranges.{hasColumn}
 use Rattle.shade.specs.Edit.{edit, inside}
 use Rattle.shade.proofs.Edits.{lt-or-ge, length-edit, is-edit, edit-cong, edit-edit, edit-part-of}
-use Rattle.draw.specs.Draw.{pixel, count, updates, Table, rowOf, countsGood, spanGood, rowGood, judgeOf, Channels, DrawOutcome, leaves, drawn, outcome, drawOf}
+use Rattle.draw.specs.Draw.{pixel, count, updates, Table, rowOf, countsGood, spanGood, rowGood, judgeOf, Channels, DrawOutcome, leaves, drawnChannel, outcome, drawOf}
 use Rattle.draw.specs.Parts.{Part, cuts, total, lent, back, lentOf, Wide, Draws, Drawn, none, more, Whole}
 use Rattle.draw.specs.declared.DrawAnswer.{DrawAnswer}
 use Rattle.draw.specs.declared.Verdict.{Verdict}
@@ -135,7 +135,7 @@ module _ (t : Table) (y W : ℕ) (g : countsGood t ≡ true) (hy : y < t .height
         work = d .counted ∙ ap (λ (q : DrawOutcome). q .told .updates) o;
       }
     where
-      step : (c : ℕ) (xs zs : List Float) → length xs ≡ W → zs ≡ drawn c t y (p .at) (p .wide) (lent (p .at) (d .room) xs) → back (p .at) (d .room) xs zs ≡ partly c t y p xs
+      step : (c : ℕ) (xs zs : List Float) → length xs ≡ W → zs ≡ drawnChannel c t y (p .at) (p .wide) (lent (p .at) (d .room) xs) → back (p .at) (d .room) xs zs ≡ partly c t y p xs
       step c xs zs w q = ap (back (p .at) (d .room) xs) q ∙ edit-part-of (λ k v. pixel c (t .segments) y k (rowOf t y) v) xs (p .at) (p .wide) (d .room) (d .holds) (omega (arith, d .in-row, e .w0))
 
 pub still-wide : {W : ℕ} {t : Table} {y : ℕ} {p : Part} {a b : Channels} {count : ℕ} → Wide W a → Came t y p a count b → Wide W b
@@ -177,9 +177,9 @@ module _ (t : Table) (y W : ℕ) (g : countsGood t ≡ true) (hy : y < t .height
   pub row-in-parts : (ws : List ℕ) (ps : List Part) (a w : Channels) (sum : ℕ) → total ws ≡ W → List·Permᴰ (cuts 0 ws) ps → Wide W a → Drawn t y ps a sum w → Whole t y W a sum w
   row-in-parts ws ps a w sum e perm wide d =
       record {
-        red = o .o0 ∙ once _ (a .r0) (wide .w0);
-        green = o .o1 ∙ once _ (a .r1) (wide .w1);
-        blue = o .o2 ∙ once _ (a .r2) (wide .w2);
+        channel0 = o .o0 ∙ once _ (a .r0) (wide .w0);
+        channel1 = o .o1 ∙ once _ (a .r1) (wide .w1);
+        channel2 = o .o2 ∙ once _ (a .r2) (wide .w2);
         pairs = o .os ∙ sym (sum-perm (λ p. updates (t .segments) (p .at) (p .wide) (rowOf t y)) perm) ∙ updates-cuts (t .segments) (rowOf t y) 0 ws ∙ rw e;
       }
     where

@@ -16,7 +16,7 @@ use Rattle.codes.specs.declared.Code.{Code}
 use Rattle.numbers.specs.Whole.{half}
 use Rattle.numbers.proofs.Zero.{two-to}
 use Rattle.segments.specs.Segment.{segmentAt}
-use Rattle.segments.specs.Ranges.{Bound, under, at, over, rounded, positive, clip, past, rowPastOf, columnPastOf, columnsOf}
+use Rattle.segments.specs.Ranges.{Bound, under, at, over, rounded, orZero, clip, past, rowPastOf, columnPastOf, columnsOf}
 use Rattle.segments.specs.declared.Segment.{Segment}
 use Rattle.segments.specs.declared.Range.{Range}
 use Rattle.segments.proofs.Ranges.{row-past-some, row-past-above}
@@ -49,7 +49,7 @@ reach-mid (inf true) W w F a k = absurd a
 reach-mid (inf false) W w F a k = absurd (omega arith)
 reach-mid (fin true m e) W w F a k = signed (half (m * up e) (down e)) (row-past-some (fin true m e) F (minus-below m e) a)
   where
-    signed : (h : ℕ) → clip (at (negℤ (pos h))) + 1 ≡ past (2 ^ 63) (at (negℤ (pos h))) → min W (past (2 ^ 64) (positive (at (negℤ (pos h))))) ≡ reachPast W (at (negℤ (pos h)))
+    signed : (h : ℕ) → clip (at (negℤ (pos h))) + 1 ≡ past (2 ^ 63) (at (negℤ (pos h))) → min W (past (2 ^ 64) (orZero (at (negℤ (pos h))))) ≡ reachPast W (at (negℤ (pos h)))
     signed zero q = refl
     signed (suc h) q = absurd (one-zero q)
 reach-mid (fin false m e) W w F a k = plain (half (m * up e) (down e)) k
@@ -62,7 +62,7 @@ pub reach-far : (x : Float) (W : ℕ) → W ≤ 2 ^ 23 → columnPastOf x ≡ 0 
 unfolding columnPastOf
 reach-far x W w e = go (rounded x) e
   where
-    go : (b : Bound) → past (2 ^ 64) (positive b) ≡ 0 → W ≡ reachPast W b
+    go : (b : Bound) → past (2 ^ 64) (orZero b) ≡ 0 → W ≡ reachPast W b
     go under q = absurd (one-zero q)
     go (at (pos n)) q = ⊎-elim (λ l. absurd (omega (arith, rw (lt-ltb n (2 ^ 64) l) at q))) (λ l. omega arith) (lt-or-ge n (2 ^ 64))
     go (at (negsuc n)) q = absurd (one-zero q)

@@ -10,7 +10,7 @@ use Rattle.codes.specs.Codes.{numberOf}
 use Rattle.codes.specs.declared.Code.{Code}
 use Rattle.segments.specs.Segment.{segmentAt}
 use Rattle.segments.specs.Ranges.{hasColumn}
-use Rattle.shade.specs.Edit.{edit, below}
+use Rattle.shade.specs.Edit.{edit, firstCells}
 use Rattle.shade.specs.Shade.{shaded}
 use Rattle.draw.specs.declared.Verdict.{Verdict}
 use Rattle.draw.specs.declared.Verdict.the-variants.{Fine, Fault}
@@ -20,12 +20,12 @@ use Rattle.draw.specs.declared.DrawAnswer.the-variants.{Done, Refused}
 -- ---- pixels
 
 -- the pixel at row y and column x, of colour c, with segment i added if the segment has the column
-abbrev pub addIn : ℕ → List Float → ℕ → ℕ → Float → ℕ → Float
-addIn c segments y x v i = cond (hasColumn (segmentAt segments i) x) (shaded (segmentAt segments i) y x c v) v
+abbrev pub shadedInColumn : ℕ → List Float → ℕ → ℕ → Float → ℕ → Float
+shadedInColumn c segments y x v i = cond (hasColumn (segmentAt segments i) x) (shaded (segmentAt segments i) y x c v) v
 
 -- with the listed segments added, in listed order
 abbrev pub pixel : ℕ → List Float → ℕ → ℕ → List ℕ → Float → Float
-pixel c segments y x listed v = foldl (addIn c segments y x) v listed
+pixel c segments y x listed v = foldl (shadedInColumn c segments y x) v listed
 
 -- whether x is one of the columns from `first` up to, not including, `past`
 abbrev pub between : ℕ → ℕ → ℕ → Bool
@@ -138,14 +138,14 @@ abbrev pub leaves : DrawAnswer → Channels → DrawOutcome
 leaves r a = record { answer = r; told = toldOf r; channels = a }
 
 -- a channel of colour c, lent from column x0 on, with n pixels of row y drawn
-abbrev pub drawn : ℕ → Table → ℕ → ℕ → ℕ → List Float → List Float
-drawn c t y x0 n xs = edit (below n (λ k v. pixel c (t .segments) y (x0 + k) (rowOf t y) v)) xs
+abbrev pub drawnChannel : ℕ → Table → ℕ → ℕ → ℕ → List Float → List Float
+drawnChannel c t y x0 n xs = edit (firstCells n (λ k v. pixel c (t .segments) y (x0 + k) (rowOf t y) v)) xs
 
 -- the updates and the drawn channels, or a refusal at place 0 and the channels as they were
 abbrev pub outcome : Verdict → Table → ℕ → ℕ → ℕ → Channels → DrawOutcome
 outcome Fine t y x0 n a =
     leaves (Done (updates (t .segments) x0 n (rowOf t y)))
-    (three (drawn 0 t y x0 n (a .r0)) (drawn 1 t y x0 n (a .r1)) (drawn 2 t y x0 n (a .r2)))
+    (three (drawnChannel 0 t y x0 n (a .r0)) (drawnChannel 1 t y x0 n (a .r1)) (drawnChannel 2 t y x0 n (a .r2)))
 outcome (Fault c) t y x0 n a = leaves (Refused c 0) a
 
 -- what `draw` answers and leaves

@@ -61,7 +61,7 @@ pub data Drawn (t : Table) (y : ℕ) : List Part → Channels → ℕ → Channe
 
 -- the row drawn whole: each pixel has exactly the listed segments added that have its column, and the updates are the pairs of a listed segment and a column that it has
 pub record Whole (t : Table) (y W : ℕ) (a : Channels) (sum : ℕ) (w : Channels) : Type 0 where
-  pub red : w .r0 ≡ edit (λ x v. pixel 0 (t .segments) y x (rowOf t y) v) (a .r0)
-  pub green : w .r1 ≡ edit (λ x v. pixel 1 (t .segments) y x (rowOf t y) v) (a .r1)
-  pub blue : w .r2 ≡ edit (λ x v. pixel 2 (t .segments) y x (rowOf t y) v) (a .r2)
+  pub channel0 : w .r0 ≡ edit (λ x v. pixel 0 (t .segments) y x (rowOf t y) v) (a .r0)
+  pub channel1 : w .r1 ≡ edit (λ x v. pixel 1 (t .segments) y x (rowOf t y) v) (a .r1)
+  pub channel2 : w .r2 ≡ edit (λ x v. pixel 2 (t .segments) y x (rowOf t y) v) (a .r2)
   pub pairs : sum ≡ updates (t .segments) 0 W (rowOf t y)

@@ -1,6 +1,6 @@
 -- The reach of a row: the first and one past the last column over the row's segments. Definitions only.
 -- A segment counts from max(0, R(cx - d)) up to, not including, min(W, R(cx + d) + 1), with no exception for large numbers.
-use mathlib.Core.Bool.{Bool, true, false}
+use mathlib.Core.Bool.{Bool, true, false, cond}
 use mathlib.Core.List.{List, foldl}
 use Prim.Native.Nat.{ℕ, suc, _^_, min, max}
 use lib.Dec.{leb, ltb}
@@ -54,15 +54,11 @@ lastOf s = s .«center_x» ⊕ s .«maximum_distance»
 unfoldable pub reachOfSegment : ℕ → Segment → Range
 reachOfSegment W s = spanning (reachFirst W (rounded (firstOf s))) (reachPast W (rounded (lastOf s)))
 
-abbrev pub pick : Bool → Range → Range → Range
-pick true a b = a
-pick false a b = b
-
 -- the least range that holds both; one without columns is skipped
 unfoldable pub joined : Range → Range → Range
 joined a b =
-    pick (ltb (b .first) (b .past))
-    (pick (ltb (a .first) (a .past)) (record { first = min (a .first) (b .first); past = max (a .past) (b .past) }) b)
+    cond (ltb (b .first) (b .past))
+    (cond (ltb (a .first) (a .past)) (record { first = min (a .first) (b .first); past = max (a .past) (b .past) }) b)
     a
 
 -- over the listed segments, from what was found before them

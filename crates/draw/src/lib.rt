@@ -7,9 +7,9 @@ ghost use lib.ListN.{length};
 ghost use lib.Seq.{slice};
 ghost use Rattle.segments.specs.Segment.{segmentAt};
 ghost use Rattle.segments.specs.Ranges.{hasColumn, rounded, columnPastOf};
-ghost use Rattle.shade.specs.Edit.{edit, below};
+ghost use Rattle.shade.specs.Edit.{edit, firstCells};
 ghost use Rattle.shade.specs.Shade.{shaded};
-ghost use Rattle.draw.specs.Draw.{addIn, pixel, between, count, updates, tableOf, countsGood, spanGood, allBelow, entriesGood, judgeOf, three, leaves, drawOf};
+ghost use Rattle.draw.specs.Draw.{shadedInColumn, pixel, between, count, updates, tableOf, countsGood, spanGood, allBelow, entriesGood, judgeOf, three, leaves, drawOf};
 ghost use Rattle.draw.specs.Reach.{reachPast, none, spanning, reachOfSegment, joined, reachOver, judgeReachOf, tells, reachOf};
 use codes::Code;
 use segments::Range;
@@ -60,9 +60,9 @@ pub fn draw_columns(
     requires { ⌜ (x0 + n ≤ 2 ^ 23) × (y ≤ 2 ^ 23) ⌝ }
     requires { ⌜ (n ≤ length (now r0)) × (n ≤ length (now r1)) × (n ≤ length (now r2)) ⌝ }
     ensures { λ r. ⌜ r ≡ count (between first past) x0 n ⌝ }
-    ensures { λ _. ⌜ now (r0 .exit) ≡ edit (below n (λ k v. cond (between first past (x0 + k)) (shaded segment y (x0 + k) 0 v) v)) (now (r0 .entry)) ⌝ }
-    ensures { λ _. ⌜ now (r1 .exit) ≡ edit (below n (λ k v. cond (between first past (x0 + k)) (shaded segment y (x0 + k) 1 v) v)) (now (r1 .entry)) ⌝ }
-    ensures { λ _. ⌜ now (r2 .exit) ≡ edit (below n (λ k v. cond (between first past (x0 + k)) (shaded segment y (x0 + k) 2 v) v)) (now (r2 .entry)) ⌝ }
+    ensures { λ _. ⌜ now (r0 .exit) ≡ edit (firstCells n (λ k v. cond (between first past (x0 + k)) (shaded segment y (x0 + k) 0 v) v)) (now (r0 .entry)) ⌝ }
+    ensures { λ _. ⌜ now (r1 .exit) ≡ edit (firstCells n (λ k v. cond (between first past (x0 + k)) (shaded segment y (x0 + k) 1 v) v)) (now (r1 .entry)) ⌝ }
+    ensures { λ _. ⌜ now (r2 .exit) ≡ edit (firstCells n (λ k v. cond (between first past (x0 + k)) (shaded segment y (x0 + k) 2 v) v)) (now (r2 .entry)) ⌝ }
 {
     let from = greatest(x0, first);
     let to = least(x0 + n, past);
@@ -100,9 +100,9 @@ fn draw_segment(
     requires { ⌜ (x0 + n ≤ 2 ^ 23) × (y ≤ 2 ^ 23) ⌝ }
     requires { ⌜ (n ≤ length (now r0)) × (n ≤ length (now r1)) × (n ≤ length (now r2)) ⌝ }
     ensures { λ r. ⌜ r ≡ count (hasColumn (segmentAt (now (segments .entry)) i)) x0 n ⌝ }
-    ensures { λ _. ⌜ now (r0 .exit) ≡ edit (below n (λ k v. addIn 0 (now (segments .entry)) y (x0 + k) v i)) (now (r0 .entry)) ⌝ }
-    ensures { λ _. ⌜ now (r1 .exit) ≡ edit (below n (λ k v. addIn 1 (now (segments .entry)) y (x0 + k) v i)) (now (r1 .entry)) ⌝ }
-    ensures { λ _. ⌜ now (r2 .exit) ≡ edit (below n (λ k v. addIn 2 (now (segments .entry)) y (x0 + k) v i)) (now (r2 .entry)) ⌝ }
+    ensures { λ _. ⌜ now (r0 .exit) ≡ edit (firstCells n (λ k v. shadedInColumn 0 (now (segments .entry)) y (x0 + k) v i)) (now (r0 .entry)) ⌝ }
+    ensures { λ _. ⌜ now (r1 .exit) ≡ edit (firstCells n (λ k v. shadedInColumn 1 (now (segments .entry)) y (x0 + k) v i)) (now (r1 .entry)) ⌝ }
+    ensures { λ _. ⌜ now (r2 .exit) ≡ edit (firstCells n (λ k v. shadedInColumn 2 (now (segments .entry)) y (x0 + k) v i)) (now (r2 .entry)) ⌝ }
 {
     let segment = Segment::at(segments, i);
     let columns = segment.columns();
@@ -140,9 +140,9 @@ fn draw_entries(
     requires { ⌜ (x0 + n ≤ 2 ^ 23) × (y ≤ 2 ^ 23) ⌝ }
     requires { ⌜ (n ≤ length (now r0)) × (n ≤ length (now r1)) × (n ≤ length (now r2)) ⌝ }
     ensures { λ r. ⌜ r ≡ updates (now (segments .entry)) x0 n (slice b e (now (entries .entry))) ⌝ }
-    ensures { λ _. ⌜ now (r0 .exit) ≡ edit (below n (λ k v. pixel 0 (now (segments .entry)) y (x0 + k) (slice b e (now (entries .entry))) v)) (now (r0 .entry)) ⌝ }
-    ensures { λ _. ⌜ now (r1 .exit) ≡ edit (below n (λ k v. pixel 1 (now (segments .entry)) y (x0 + k) (slice b e (now (entries .entry))) v)) (now (r1 .entry)) ⌝ }
-    ensures { λ _. ⌜ now (r2 .exit) ≡ edit (below n (λ k v. pixel 2 (now (segments .entry)) y (x0 + k) (slice b e (now (entries .entry))) v)) (now (r2 .entry)) ⌝ }
+    ensures { λ _. ⌜ now (r0 .exit) ≡ edit (firstCells n (λ k v. pixel 0 (now (segments .entry)) y (x0 + k) (slice b e (now (entries .entry))) v)) (now (r0 .entry)) ⌝ }
+    ensures { λ _. ⌜ now (r1 .exit) ≡ edit (firstCells n (λ k v. pixel 1 (now (segments .entry)) y (x0 + k) (slice b e (now (entries .entry))) v)) (now (r1 .entry)) ⌝ }
+    ensures { λ _. ⌜ now (r2 .exit) ≡ edit (firstCells n (λ k v. pixel 2 (now (segments .entry)) y (x0 + k) (slice b e (now (entries .entry))) v)) (now (r2 .entry)) ⌝ }
 {
     let mut total: u64 = 0;
     let mut j = b;

@@ -1,6 +1,6 @@
 -- What the exported layers return and leave: a layer's outcome as numbers and slices. Definitions only.
 use mathlib.Core.Path.{_≡_}
-use mathlib.Core.Bool.{Bool, true, false}
+use mathlib.Core.Bool.{Bool, true, false, cond}
 use mathlib.Core.List.{List, [], _∷_}
 use Prim.Native.Nat.{ℕ, _/_}
 use lib.Dec.{leb}
@@ -24,11 +24,11 @@ use Rattle.dequantize.specs.declared.judge.Judged.the-variants.{Fine, Refused}
 use Rattle.curve.specs.Curve.{pathOf, pathRoom, curvedOf, curvedOn}
 use Rattle.curve.specs.declared.Curved.{Curved}
 use Rattle.curve.specs.declared.Curved.the-variants as path
-use Rattle.walk.specs.Walk.{Walk, walkedOf, WalkedOn, lengthOf}
+use Rattle.walk.specs.Walk.{Walk, walkedOf, WalkedOn, walkLength}
 use Rattle.walk.specs.declared.Walked.{Walked}
 use Rattle.walk.specs.declared.Walked.the-variants as walk
 use Rattle.transform.specs.declared.Sums.{Sums}
-use Rattle.points.specs.Points.{pick, filledOf}
+use Rattle.points.specs.Points.{filledOf}
 use Rattle.points.specs.declared.Filled.{Filled}
 use Rattle.points.specs.declared.Filled.the-variants as filled
 use Rattle.segments.specs.Segment.{eightOf}
@@ -145,13 +145,9 @@ pub record LengthExport : Type 0 where
 abbrev pub lengthLeaves : ℕ → Float → LengthExport
 lengthLeaves number length = record { number = number; length = length }
 
-abbrev pub pickLength : Bool → LengthExport → LengthExport → LengthExport
-pickLength true a b = a
-pickLength false a b = b
-
 -- o is the number before, which a refusal keeps
 unfoldable pub lengthFrom : ℕ → Float → Float → LengthExport
-lengthFrom n last o = pickLength (leb 2 n) (pickLength (leb n 8388608) (lengthLeaves 0 (lengthOf n last)) (lengthLeaves (numberOf Shape) o)) (lengthLeaves (numberOf Shape) o)
+lengthFrom n last o = cond (leb 2 n) (cond (leb n 8388608) (lengthLeaves 0 (walkLength n last)) (lengthLeaves (numberOf Shape) o)) (lengthLeaves (numberOf Shape) o)
 
 -- ---- the transform
 
@@ -183,4 +179,4 @@ countedSegments filled.Room = refusedWith Room
 
 -- ROOM for a walk of more than 2^23 points, else as there is room for the segments
 abbrev pub filledAlong : List Float → ℕ → List Segment → Filled
-filledAlong walk room segs = pick (leb (length walk / 3) 8388608) (filledOf room 0 segs) filled.Room
+filledAlong walk room segs = cond (leb (length walk / 3) 8388608) (filledOf room 0 segs) filled.Room

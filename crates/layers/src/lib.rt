@@ -9,7 +9,7 @@ ghost use Rattle.dequantize.specs.ControlPoints.{startingPoint, validPointPos};
 ghost use Rattle.dequantize.specs.Dequantize.{dequantizeOf};
 ghost use Rattle.dequantize.specs.Judge.{descriptionOf};
 ghost use Rattle.dequantize.specs.Limits.{splineAreaLimit};
-ghost use Rattle.walk.specs.Walk.{walkIn, walkRoom, lengthOf};
+ghost use Rattle.walk.specs.Walk.{walkIn, walkRoom, walkLength};
 ghost use Rattle.transform.specs.Transform.{sumsOf};
 ghost use Rattle.points.specs.Points.{segmentRoom, addSegmentsFromPoints, FilledOn};
 ghost use Rattle.segments.specs.Segment.{addSegment, segmentAt};

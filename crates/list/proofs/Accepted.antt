@@ -11,7 +11,7 @@ use lib.Seq.{take-at, drop-at}
 use lib.IntN.{ℤ, pos, _+ℤ_, _-ℤ_, +ℤ-comm, +ℤ-negℤ-cancel}
 use borrow.Author.Tests.{ltb-false}
 use Rattle.codes.specs.declared.Code.{Code}
-use Rattle.list.specs.List.{unpackSigned, packSigned, posLimit, deltaLimit, beyond, Rooms, Got, got, stop, Spline, spline, Splines, splines, Described, described, sum, andThen, onto, coordinate, startsOf, deltasOf, coefficientsOf, splineOf, points, ontoSplines, splinesOf, describe, ended, afterStarts, lacking, readOf, startsList, splinesList, listOf, Near, Tame, Valid}
+use Rattle.list.specs.List.{unpackSigned, packSigned, posLimit, deltaLimit, beyond, ListRooms, Got, got, stop, Spline, spline, Splines, splines, Described, described, pointsOf, andThen, onto, coordinate, startsOf, deltasOf, coefficientsOf, splineIn, points, ontoSplines, splinesOf, describe, ended, afterStarts, lacking, readOf, startsList, splinesList, listOf, Near, Tame, Valid}
 use Rattle.list.proofs.Signed.{pack-unpack}
 
 -- ---- a step that gave something
@@ -132,9 +132,9 @@ made t left room a l l1 es bs l2 h g d k n ds cs r e =
       tame = d .2;
     })
 
-pub spline-read : (t left room : ℕ) (l : List ℕ) (n : ℕ) (ds cs : List ℤ) (r : List ℕ) → splineOf t left room l ≡ got (spline n ds cs) r
+pub spline-read : (t left room : ℕ) (l : List ℕ) (n : ℕ) (ds cs : List ℤ) (r : List ℕ) → splineIn t left room l ≡ got (spline n ds cs) r
     → SplineRead t left room l n ds cs r
-unfolding splineOf
+unfolding splineIn
 spline-read t left room [] n ds cs r e = let z : _≡_ {A = ℕ} 0 1 = cc in absurd (omega arith)
 spline-read t left room (a ∷ l) n ds cs r e =
     let p = t - length (a ∷ l) in
@@ -171,8 +171,8 @@ splines-list-one n ns es ds bs cs r a b =
 pub record SplinesRead (left s : ℕ) (l : List ℕ) (ns : List ℕ) (ds cs : List ℤ) (r : List ℕ) : Type 0 where
   pub is : l ≡ splinesList ns ds cs ++ r
   pub count : length ns ≡ s
-  pub under : sum ns ≤ left
-  pub deltas : length ds ≡ 2 * sum ns
+  pub under : pointsOf ns ≤ left
+  pub deltas : length ds ≡ 2 * pointsOf ns
   pub coefficients : length cs ≡ 128 * length ns
   pub tame : Tame ds
 
@@ -198,7 +198,7 @@ splines-read t left room zero l ns ds cs r e =
     let same : l ≡ r = cc in
     rw (p, q, k, same) (record { is = refl; count = refl; under = omega arith; deltas = refl; coefficients = refl; tame = tt })
 splines-read t left room (suc s) l ns ds cs r e =
-    let b = then-got (splineOf t left room l) (λ x l1. ontoSplines x (splinesOf t (left - points x) (room - 2 * points x) s l1)) (splines ns ds cs) r e in
+    let b = then-got (splineIn t left room l) (λ x l1. ontoSplines x (splinesOf t (left - points x) (room - 2 * points x) s l1)) (splines ns ds cs) r e in
     first (b .0) (b .1) (b .2) (b .3) (λ left′ room′ l′ ns′ ds′ cs′ r′. splines-read t left′ room′ s l′ ns′ ds′ cs′ r′)
   where
     rest : (n : ℕ) (es bs : List ℤ) (l1 : List ℕ) (g : Got Splines)
@@ -213,7 +213,7 @@ splines-read t left room (suc s) l ns ds cs r e =
         rw (← same-ns, ← same-ds, ← same-cs, ← same-r)
         (more n s left l l1 ms es ds′ bs cs′ r′ (v .is) (v .under) (v .deltas) (v .coefficients) (v .tame) (ih ms ds′ cs′ r′ refl))
 
-    first : (x : Spline) (l1 : List ℕ) → splineOf t left room l ≡ got x l1
+    first : (x : Spline) (l1 : List ℕ) → splineIn t left room l ≡ got x l1
         → ontoSplines x (splinesOf t (left - points x) (room - 2 * points x) s l1) ≡ got (splines ns ds cs) r
         → ((left′ room′ : ℕ) (l′ ns′ : List ℕ) (ds′ cs′ : List ℤ) (r′ : List ℕ) → splinesOf t left′ room′ s l′ ≡ got (splines ns′ ds′ cs′) r′ → SplinesRead left′ s l′ ns′ ds′ cs′ r′)
         → SplinesRead left (suc s) l ns ds cs r
@@ -260,12 +260,12 @@ after-read t limit room s zs (u ∷ l) a ys ns ds cs r e =
 
 -- ---- the whole list
 
-pub record ListRead (limit : ℕ) (rooms : Rooms) (l : List ℕ) (a : ℤ) (zs : List ℤ) (ns : List ℕ) (ds cs : List ℤ) (r : List ℕ) : Type 0 where
+pub record ListRead (limit : ℕ) (rooms : ListRooms) (l : List ℕ) (a : ℤ) (zs : List ℤ) (ns : List ℕ) (ds cs : List ℤ) (r : List ℕ) : Type 0 where
   pub none : r ≡ []
   pub is : l ≡ listOf (described a zs ns ds cs)
   pub valid : Valid limit zs ns ds cs
 
-whole : (limit : ℕ) (rooms : Rooms) (v : ℕ) (l l1 : List ℕ) (a : ℤ) (ys zs : List ℤ) (ns : List ℕ) (ds cs : List ℤ) (r : List ℕ) → v + 1 ≤ limit
+whole : (limit : ℕ) (rooms : ListRooms) (v : ℕ) (l l1 : List ℕ) (a : ℤ) (ys zs : List ℤ) (ns : List ℕ) (ds cs : List ℤ) (r : List ℕ) → v + 1 ≤ limit
     → (l ≡ startsList true (pos 0) (pos 0) ys ++ l1) × (length ys ≡ 2 * (v + 1)) × Near true ys → AfterRead limit (v + 1) ys l1 a zs ns ds cs r
     → ListRead limit rooms (v ∷ l) a zs ns ds cs r
 whole limit rooms v l l1 a ys zs ns ds cs r h g w =
@@ -286,7 +286,7 @@ whole limit rooms v l l1 a ys zs ns ds cs r h g w =
       };
     }
 
-pub list-read : (limit : ℕ) (rooms : Rooms) (l : List ℕ) (a : ℤ) (zs : List ℤ) (ns : List ℕ) (ds cs : List ℤ) (r : List ℕ)
+pub list-read : (limit : ℕ) (rooms : ListRooms) (l : List ℕ) (a : ℤ) (zs : List ℤ) (ns : List ℕ) (ds cs : List ℤ) (r : List ℕ)
     → readOf limit rooms l ≡ got (described a zs ns ds cs) r → ListRead limit rooms l a zs ns ds cs r
 unfolding readOf
 list-read limit rooms [] a zs ns ds cs r e = let z : _≡_ {A = ℕ} 0 1 = cc in absurd (omega arith)

@@ -8,20 +8,20 @@ use native.Mathlib.Omega.{arith}
 use lib.ListN.{length}
 use lib.IntN.{ℤ, pos}
 use borrow.Author.Tests.{le-ltb}
-use Rattle.list.specs.List.{packSigned, Rooms, got, splines, described, splinesOf, afterStarts, readOf, startsList, splinesList, listOf, Valid}
+use Rattle.list.specs.List.{packSigned, ListRooms, got, splines, described, splinesOf, afterStarts, readOf, startsList, splinesList, listOf, Valid}
 use Rattle.list.proofs.Signed.{unpack-pack}
 use Rattle.list.proofs.Accepted.{list-read}
 use Rattle.list.proofs.Written.{starts-written, splines-written}
 
 -- rooms that hold a description
-pub record Holds (rooms : Rooms) (zs : List ℤ) (ns : List ℕ) (ds cs : List ℤ) : Type 0 where
+pub record Holds (rooms : ListRooms) (zs : List ℤ) (ns : List ℕ) (ds cs : List ℤ) : Type 0 where
   pub counts : length ns ≤ rooms .counts
   pub starts : length zs ≤ rooms .starts
   pub deltas : length ds ≤ rooms .deltas
   pub coefficients : length cs ≤ rooms .coefficients
 
 -- what is written is read
-pub written-is-read : (limit : ℕ) (rooms : Rooms) (a : ℤ) (zs : List ℤ) (ns : List ℕ) (ds cs : List ℤ) → Valid limit zs ns ds cs → Holds rooms zs ns ds cs
+pub written-is-read : (limit : ℕ) (rooms : ListRooms) (a : ℤ) (zs : List ℤ) (ns : List ℕ) (ds cs : List ℤ) → Valid limit zs ns ds cs → Holds rooms zs ns ds cs
     → readOf limit rooms (listOf (described a zs ns ds cs)) ≡ got (described a zs ns ds cs) []
 unfolding readOf afterStarts
 written-is-read limit rooms a zs ns ds cs v h =
@@ -43,12 +43,12 @@ written-is-read limit rooms a zs ns ds cs v h =
     )
 
 -- what is read is written
-pub read-is-written : (limit : ℕ) (rooms : Rooms) (l : List ℕ) (a : ℤ) (zs : List ℤ) (ns : List ℕ) (ds cs : List ℤ) (r : List ℕ)
+pub read-is-written : (limit : ℕ) (rooms : ListRooms) (l : List ℕ) (a : ℤ) (zs : List ℤ) (ns : List ℕ) (ds cs : List ℤ) (r : List ℕ)
     → readOf limit rooms l ≡ got (described a zs ns ds cs) r → listOf (described a zs ns ds cs) ≡ l
 read-is-written limit rooms l a zs ns ds cs r e = sym (list-read limit rooms l a zs ns ds cs r e .is)
 
 -- and can be written under the same limit
-pub read-is-valid : (limit : ℕ) (rooms : Rooms) (l : List ℕ) (a : ℤ) (zs : List ℤ) (ns : List ℕ) (ds cs : List ℤ) (r : List ℕ)
+pub read-is-valid : (limit : ℕ) (rooms : ListRooms) (l : List ℕ) (a : ℤ) (zs : List ℤ) (ns : List ℕ) (ds cs : List ℤ) (r : List ℕ)
     → readOf limit rooms l ≡ got (described a zs ns ds cs) r → Valid limit zs ns ds cs
 read-is-valid limit rooms l a zs ns ds cs r e = list-read limit rooms l a zs ns ds cs r e .valid
 

@@ -8,7 +8,7 @@ use lib.ListN.{length, take, drop, length-drop, take-append-drop}
 use lib.Seq.{length-take-le}
 use lib.IntN.{ℤ, _+ℤ_, _-ℤ_, +ℤ-comm, -ℤ-+ℤ-cancel}
 use borrow.Author.Tests.{le-ltb}
-use Rattle.list.specs.List.{unpackSigned, packSigned, got, spline, splines, sum, startsOf, deltasOf, coefficientsOf, splineOf, splinesOf, startsList, splinesList, Near, Tame}
+use Rattle.list.specs.List.{unpackSigned, packSigned, got, spline, splines, pointsOf, startsOf, deltasOf, coefficientsOf, splineIn, splinesOf, startsList, splinesList, Near, Tame}
 use Rattle.list.proofs.Signed.{unpack-pack}
 
 pub coefficients-written : (t : ℕ) (vs : List ℤ) (r : List ℕ) → coefficientsOf t (length vs) (map packSigned vs ++ r) ≡ got vs r
@@ -49,14 +49,14 @@ tame-parts (suc n) (x ∷ y ∷ ds) w =
     rw m ((w .0, h .0), h .1)
 
 pub spline-written : (t left room n : ℕ) (ds cs : List ℤ) (r : List ℕ) → n ≤ left → 2 * n ≤ room → length ds ≡ 2 * n → length cs ≡ 128 → Tame ds
-    → splineOf t left room (n ∷ (map packSigned ds ++ (map packSigned cs ++ r))) ≡ got (spline n ds cs) r
-unfolding splineOf
+    → splineIn t left room (n ∷ (map packSigned ds ++ (map packSigned cs ++ r))) ≡ got (spline n ds cs) r
+unfolding splineIn
 spline-written t left room n ds cs r a b c d w =
     let e : coefficientsOf t 128 (map packSigned cs ++ r) ≡ got cs r
     = subst (λ (k : ℕ). coefficientsOf t k (map packSigned cs ++ r) ≡ got cs r) d (coefficients-written t cs r) in
     rw (le-ltb left n a, le-ltb room (2 * n) b, deltas-written t n ds (map packSigned cs ++ r) c w, e)
 
-pub splines-written : (t left room : ℕ) (ns : List ℕ) (ds cs : List ℤ) (r : List ℕ) → sum ns ≤ left → 2 * sum ns ≤ room → length ds ≡ 2 * sum ns
+pub splines-written : (t left room : ℕ) (ns : List ℕ) (ds cs : List ℤ) (r : List ℕ) → pointsOf ns ≤ left → 2 * pointsOf ns ≤ room → length ds ≡ 2 * pointsOf ns
     → length cs ≡ 128 * length ns → Tame ds → splinesOf t left room (length ns) (splinesList ns ds cs ++ r) ≡ got (splines ns ds cs) r
 unfolding splinesOf
 splines-written t left room [] [] [] r a b c d w = refl

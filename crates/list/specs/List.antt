@@ -40,7 +40,7 @@ abbrev pub beyond : ℕ → ℤ → ℤ → Bool
 beyond limit x y = leb limit (natAbs x) || leb limit (natAbs y)
 
 -- how many cells are lent for each kind of number
-pub record Rooms : Type 0 where
+pub record ListRooms : Type 0 where
   pub counts : ℕ
   pub starts : ℕ
   pub deltas : ℕ
@@ -65,9 +65,9 @@ pub data Splines : Type 0 where
 pub data Described : Type 0 where
   described : ℤ → List ℤ → List ℕ → List ℤ → List ℤ → Described
 
-abbrev pub sum : List ℕ → ℕ
-sum [] = 0
-sum (n ∷ ns) = n + sum ns
+abbrev pub pointsOf : List ℕ → ℕ
+pointsOf [] = 0
+pointsOf (n ∷ ns) = n + pointsOf ns
 
 -- ---- reading
 
@@ -111,9 +111,9 @@ coefficientsOf total (suc n) [] = stop Code.Short total
 coefficientsOf total (suc n) (a ∷ l) = onto (unpackSigned a ∷ []) (coefficientsOf total n l)
 
 -- a spline, of at most `left` points, with `room` cells for its double deltas
-unfoldable pub splineOf : ℕ → ℕ → ℕ → List ℕ → Got Spline
-splineOf total left room [] = stop Code.Short total
-splineOf total left room (n ∷ l) =
+unfoldable pub splineIn : ℕ → ℕ → ℕ → List ℕ → Got Spline
+splineIn total left room [] = stop Code.Short total
+splineIn total left room (n ∷ l) =
     cond (ltb left n) (stop Code.Points (total - length (n ∷ l)))
     (cond (ltb room (2 * n)) (stop Code.Room (total - length (n ∷ l)))
     (andThen (deltasOf total n l) (λ ds l1. andThen (coefficientsOf total 128 l1) (λ cs l2. got (spline n ds cs) l2))))
@@ -130,7 +130,7 @@ ontoSplines s (stop c p) = stop c p
 unfoldable pub splinesOf : ℕ → ℕ → ℕ → ℕ → List ℕ → Got Splines
 splinesOf total left room zero l = got (splines [] [] []) l
 splinesOf total left room (suc s) l =
-    andThen (splineOf total left room l)
+    andThen (splineIn total left room l)
     (λ x l1. ontoSplines x (splinesOf total (left - points x) (room - 2 * points x) s l1))
 
 abbrev pub describe : ℤ → List ℤ → Splines → Described
@@ -148,11 +148,11 @@ afterStarts total limit room s zs (a ∷ l) =
     andThen (splinesOf total limit room s l) (λ x l1. ended total (describe (unpackSigned a) zs x) l1)
 
 -- no room for the counts, the starts or the coefficients of s splines
-abbrev pub lacking : Rooms → ℕ → Bool
+abbrev pub lacking : ListRooms → ℕ → Bool
 lacking rooms s = ltb (rooms .counts) s || (ltb (rooms .starts) (2 * s) || ltb (rooms .coefficients) (128 * s))
 
 -- the whole list
-unfoldable pub readOf : ℕ → Rooms → List ℕ → Got Described
+unfoldable pub readOf : ℕ → ListRooms → List ℕ → Got Described
 readOf limit rooms [] = stop Code.Short 0
 readOf limit rooms (v ∷ l) =
     cond (ltb limit (v + 1)) (stop Code.Splines 0)
@@ -201,9 +201,9 @@ Tame (x ∷ y ∷ ds) = (beyond deltaLimit x y ≡ false) × Tame ds
 pub record Valid (limit : ℕ) (zs : List ℤ) (ns : List ℕ) (ds cs : List ℤ) : Type 0 where
   pub some : 0 < length ns
   pub count : length ns ≤ limit
-  pub total : sum ns ≤ limit
+  pub total : pointsOf ns ≤ limit
   pub starts : length zs ≡ 2 * length ns
-  pub deltas : length ds ≡ 2 * sum ns
+  pub deltas : length ds ≡ 2 * pointsOf ns
   pub coefficients : length cs ≡ 128 * length ns
   pub near : Near true zs
   pub tame : Tame ds

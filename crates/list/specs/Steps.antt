@@ -12,8 +12,8 @@ nextOf [] = End
 nextOf (a ∷ l) = Value a
 
 -- a whole number as an f32
-unfoldable pub whole : ℤ → Float
-whole z = ofInt binary32 z
+unfoldable pub f32Of : ℤ → Float
+f32Of z = ofInt binary32 z
 
 abbrev pub zeroF32 : Float
 zeroF32 = ofInt binary32 (pos 0)

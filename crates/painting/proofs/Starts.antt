@@ -7,13 +7,13 @@ use Rattle.dequantize.specs.declared.Given.{Given}
 use Rattle.dequantize.specs.declared.control_points.Pair.{Pair}
 use Rattle.dequantize.specs.declared.control_points.Start.{Start}
 use Rattle.dequantize.specs.declared.control_points.Start.the-variants.{At}
-use Rattle.dequantize.specs.ControlPoints.{startingPoint, placeAt, Walk}
+use Rattle.dequantize.specs.ControlPoints.{startingPoint, placeAt, Passable}
 use Rattle.dequantize.proofs.Accepted.{Accepted}
 
-pub start-walk : (x y : Float) (ds c : List ℤ) (g : Given) → Accepted x y ds c g → {r : Start} (start : Pair) → r ≡ startingPoint x y → r ≡ At start → Walk (placeAt start) ds
+pub start-walk : (x y : Float) (ds c : List ℤ) (g : Given) → Accepted x y ds c g → {r : Start} (start : Pair) → r ≡ startingPoint x y → r ≡ At start → Passable (placeAt start) ds
 start-walk x y ds c g a {r} start p q =
     let e : At (a .start) ≡ At start = sym (a .begins) ∙ sym p ∙ q in
     let s : a .start ≡ start = cc in
-    subst (λ (t : Pair). Walk (placeAt t) ds) s (a .walk)
+    subst (λ (t : Pair). Passable (placeAt t) ds) s (a .walk)
 
 -- Assumes nothing.

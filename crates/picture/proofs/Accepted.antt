@@ -23,7 +23,7 @@ use Rattle.rows.specs.declared.Listed.{Listed}
 use Rattle.rows.specs.declared.Listed.the-variants as Listed
 use Rattle.rows.specs.Rows.{inRow, Outcome, outcome, built}
 use Rattle.painting.specs.Painting.{strandOfSpline, Painted, All, NoRoomAt, afterStrand, paintFrom, paintOf}
-use Rattle.table.specs.Table.{Rooms, Image, Table, givenOf, refusedWith, zeros, padded, verdictOf, afterRows, afterJudge, buildOf}
+use Rattle.table.specs.Table.{BuildRooms, Setting, BuildOutcome, givenOf, refusedWith, zeros, padded, verdictOf, afterRows, afterJudge, buildOf}
 use Rattle.table.specs.Refusals.{painted}
 use Rattle.table.proofs.Checks.{ready}
 use Rattle.table.specs.declared.BuildAnswer.the-variants.{Done}
@@ -55,11 +55,11 @@ all-fit d g high p w room segs e = paint-fits d g high p w room (length (d .coun
 
 -- ---- from the end of the checks to their beginning
 
-module _ (r : Rooms) (t : Table) (s e est : ℕ) (done : t .answer ≡ Done s e est) where
+module _ (r : BuildRooms) (t : BuildOutcome) (s e est : ℕ) (done : t .answer ≡ Done s e est) where
   -- a refusal is not done
   refused-not : (c : Code) (k : ℕ) → t ≡ refusedWith r c k → ⊥
   unfolding refusedWith
-  refused-not c k q = let z : _≡_ {A = ℕ} 0 1 = cc (sym (ap (λ (b : Table). b .answer) q) ∙ done) in omega arith
+  refused-not c k q = let z : _≡_ {A = ℕ} 0 1 = cc (sym (ap (λ (b : BuildOutcome). b .answer) q) ∙ done) in omega arith
 
   -- the rows were listed
   record Listing (estimate : ℕ) (segs : List Segment) (o : Outcome) : Type 0 where
@@ -76,17 +76,17 @@ module _ (r : Rooms) (t : Table) (s e est : ℕ) (done : t .answer ≡ Done s e 
       → Listing estimate segs (outcome l ss es)
   rows-listed estimate segs Listed.Room ss es q = absurd (refused-not Code.Room 0 q)
   rows-listed estimate segs (Listed.Entries n) ss es q =
-      let a : Done (length segs) n estimate ≡ Done s e est = sym (ap (λ (b : Table). b .answer) q) ∙ done in
+      let a : Done (length segs) n estimate ≡ Done s e est = sym (ap (λ (b : BuildOutcome). b .answer) q) ∙ done in
       let m : n ≡ e = cc in
       record {
         same = cc;
         size = cc;
         listed = ap Listed.Entries m;
-        path = ap (λ (b : Table). b .path) q;
-        walk = ap (λ (b : Table). b .walk) q;
-        segments = ap (λ (b : Table). b .segments) q;
-        starts = ap (λ (b : Table). b .starts) q;
-        entries = ap (λ (b : Table). b .entries) q;
+        path = ap (λ (b : BuildOutcome). b .path) q;
+        walk = ap (λ (b : BuildOutcome). b .walk) q;
+        segments = ap (λ (b : BuildOutcome). b .segments) q;
+        starts = ap (λ (b : BuildOutcome). b .starts) q;
+        entries = ap (λ (b : BuildOutcome). b .entries) q;
       }
 
   -- every spline was judged and drawn
@@ -105,7 +105,7 @@ module _ (r : Rooms) (t : Table) (s e est : ℕ) (done : t .answer ≡ Done s e 
       record { segs = segs; estimate = estimate; judged = refl; drawn = refl; listing = rows-listed estimate segs (o .answer) (o .starts) (o .entries) q }
 
 -- what an accepted build is
-pub record Accepted (d : Description) (i : Image) (r : Rooms) (t : Table) (s e est : ℕ) : Type 0 where
+pub record Accepted (d : Description) (i : Setting) (r : BuildRooms) (t : BuildOutcome) (s e est : ℕ) : Type 0 where
   pub segs : List Segment
   pub low : i .height ≤ 2 ^ 23
   pub fits-starts : i .height < r .starts
@@ -120,7 +120,7 @@ pub record Accepted (d : Description) (i : Image) (r : Rooms) (t : Table) (s e e
   pub starts : t .starts ≡ built (inRow (eights segs)) (length segs) (i .height) (r .starts) (r .entries) .starts
   pub entries : t .entries ≡ built (inRow (eights segs)) (length segs) (i .height) (r .starts) (r .entries) .entries
 
-pub accepted : (d : Description) (i : Image) (r : Rooms) (t : Table) (s e est : ℕ) → t ≡ buildOf d i r → t .answer ≡ Done s e est → Accepted d i r t s e est
+pub accepted : (d : Description) (i : Setting) (r : BuildRooms) (t : BuildOutcome) (s e est : ℕ) → t ≡ buildOf d i r → t .answer ≡ Done s e est → Accepted d i r t s e est
 unfolding buildOf
 accepted d i r t s e est q done =
     let g = ended r t s e est done (i .height) (verdictOf d (givenOf i) (i .width) (i .height) (r .starts)) (painted d i r) q in

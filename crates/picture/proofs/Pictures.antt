@@ -8,7 +8,7 @@ use lib.Ieee.{Float}
 use Rattle.dequantize.specs.Judge.{Description}
 use Rattle.shade.specs.Edit.{edit}
 use Rattle.shade.proofs.Edits.{edit-cong}
-use Rattle.table.specs.Table.{Rooms, Image, Table}
+use Rattle.table.specs.Table.{BuildRooms, Setting, BuildOutcome}
 use Rattle.draw.specs.Draw.{pixel, rowOf, Channels}
 use Rattle.draw.specs.Parts.{Part, cuts, total, Wide, Drawn, Whole}
 use Rattle.draw.specs.Image as image
@@ -19,9 +19,9 @@ use Rattle.picture.specs.Picture.{Built, built, segmentsOf, pixelOf, row
 use Rattle.picture.proofs.Pixels.{updates-most}
 use Rattle.picture.proofs.Tables.{row-pixel, row-pairs, counts-good, row-good}
 
-module _ {d : Description} {i : Image} {r : Rooms} {o : Table} {s e estimate : ℕ} (b : Built d i r o s e estimate) (W : ℕ) (h : W ≤ 2 ^ 23) where
+module _ {d : Description} {i : Setting} {r : BuildRooms} {o : BuildOutcome} {s e estimate : ℕ} (b : Built d i r o s e estimate) (W : ℕ) (h : W ≤ 2 ^ 23) where
   whole-picture : (y : ℕ) → y < i .height → {a w : Channels} {sum : ℕ} → Whole (built i o s e) y W a sum w → RowPicture (segmentsOf d i r) y a w
-  whole-picture y k {a} {w} t = record { channel0 = t .red ∙ same 0 (a .r0); channel1 = t .green ∙ same 1 (a .r1); channel2 = t .blue ∙ same 2 (a .r2) }
+  whole-picture y k {a} {w} t = record { channel0 = t .channel0 ∙ same 0 (a .r0); channel1 = t .channel1 ∙ same 1 (a .r1); channel2 = t .channel2 ∙ same 2 (a .r2) }
     where
       same : (c : ℕ) (xs : List Float) → edit (λ x v. pixel c (o .segments) y x (rowOf (built i o s e) y) v) xs ≡ edit (pixelOf c (segmentsOf d i r) y) xs
       same c xs = edit-cong (λ x v. pixel c (o .segments) y x (rowOf (built i o s e) y) v) (pixelOf c (segmentsOf d i r) y) xs (λ x v l. row-pixel b y k c x v)

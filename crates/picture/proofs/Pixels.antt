@@ -12,8 +12,8 @@ use Rattle.segments.specs.Segment.{segmentAt}
 use Rattle.segments.specs.Ranges.{hasRow, hasColumn}
 use Rattle.rows.specs.Rows.{listed}
 use Rattle.rows.proofs.Counts.{listed-in, listed-out}
-use Rattle.draw.specs.Draw.{addIn, pixel, count, updates}
-use Rattle.picture.specs.Picture.{hasPixel, addTo, pixelOf, rowPairs}
+use Rattle.draw.specs.Draw.{shadedInColumn, pixel, count, updates}
+use Rattle.picture.specs.Picture.{hasPixel, shadedInPixel, pixelOf, rowPairs}
 
 -- ---- counts
 
@@ -63,13 +63,13 @@ module _ (flat : List Float) (segs : List Segment) (d : Segment) (at : (i : ℕ)
       s : Segment
       s = getD segs n d
 
-      longer : pixelOf c (take (suc n) segs) y x v ≡ addTo c y x (pixelOf c (take n segs) y x v) s
-      longer = ap (λ (l : List Segment). pixelOf c l y x v) (take-suc segs n d h) ∙ foldl-append (addTo c y x) v (take n segs) (s ∷ [])
+      longer : pixelOf c (take (suc n) segs) y x v ≡ shadedInPixel c y x (pixelOf c (take n segs) y x v) s
+      longer = ap (λ (l : List Segment). pixelOf c l y x v) (take-suc segs n d h) ∙ foldl-append (shadedInPixel c y x) v (take n segs) (s ∷ [])
 
       go : (b : Bool) → hasRow s y ≡ b → pixel c flat y x (listed has y n) v ≡ pixelOf c (take n segs) y x v → pixel c flat y x (listed has y (suc n)) v ≡ pixelOf c (take (suc n) segs) y x v
       go true e ih =
           ap (λ (l : List ℕ). pixel c flat y x l v) (listed-in has y n (rows n y h ∙ e))
-          ∙ foldl-append (addIn c flat y x) v (listed has y n) (n ∷ [])
+          ∙ foldl-append (shadedInColumn c flat y x) v (listed has y n) (n ∷ [])
           ∙ rw (ih, at n h, longer, e)
       go false e ih = ap (λ (l : List ℕ). pixel c flat y x l v) (listed-out has y n (rows n y h ∙ e)) ∙ rw (ih, longer, e)
 

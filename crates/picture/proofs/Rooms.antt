@@ -1,6 +1,6 @@
 -- The segments of a description do not depend on how much room was lent, where there was enough: a walk has one end, so a spline has one list of segments.
 use mathlib.Core.Path.{_≡_, refl, sym, ap, _∙_, subst}
-use mathlib.Core.Bool.{Bool, true, false}
+use mathlib.Core.Bool.{Bool, true, false, cond}
 use mathlib.Core.Logic.{⊎-elim}
 use mathlib.Core.List.{List, [], _++_}
 use Prim.Native.Nat.{ℕ, zero, suc}
@@ -23,10 +23,10 @@ use Rattle.walk.proofs.Fuel.{walk-enough, walk-short}
 use Rattle.points.specs.declared.Filled.{Filled}
 use Rattle.points.specs.declared.Filled.the-variants.{Count, Room}
 use Rattle.points.specs.Points.{segmentRoom}
-use Rattle.strand.specs.Strand.{Strand, NoRoom, Segments, afterWalk, pickStrand, strandOf, walkSegments, strandFilled, segmentsOf}
+use Rattle.strand.specs.Strand.{Strand, NoRoom, Segments, afterWalk, strandOf, walkSegments, strandFilled, segmentsOf}
 use Rattle.rows.proofs.Counts.{split}
 use Rattle.painting.specs.Painting.{strandAt, strandOfSpline, Painted, All, afterStrand, paintFrom, paintOf}
-use Rattle.table.specs.Table.{Rooms, Image, Table, givenOf}
+use Rattle.table.specs.Table.{BuildRooms, Setting, BuildOutcome, givenOf}
 use Rattle.picture.specs.Picture as picture
 use Rattle.picture.specs.Picture.{Built}
 use Rattle.picture.proofs.Tables.{facts, segments-are}
@@ -52,7 +52,7 @@ module _ (s : Spline) (high : Bool) (xs ys : List Segment) where
       let y : walkSegments s high us ≡ ys = cc in
       sym x ∙ ap (walkSegments s high) (walk-same m n path vs us e f) ∙ y
 
-  picked : (b : Bool) (t : Strand) (zs : List Segment) → pickStrand b t ≡ Segments zs → t ≡ Segments zs
+  picked : (b : Bool) (t : Strand) (zs : List Segment) → cond b t NoRoom ≡ Segments zs → t ≡ Segments zs
   picked true t zs e = e
   picked false t zs e = absurd (one-zero cc)
 
@@ -93,7 +93,7 @@ module _ (d : Description) (g : Given) (high : Bool) (p w room p′ w′ room′
           (after-all (strandFilled room′ (length done) (Segments us)) k (paintFrom d g high p′ w′ room′ n (suc k) (done ++ us)) ys f))
 
 -- two builds of one description for one image draw the same segments, whatever was lent
-pub same-segments : {d : Description} {i : Image} {r r′ : Rooms} {o o′ : Table} {s e n s′ e′ n′ : ℕ} → Built d i r o s e n → Built d i r′ o′ s′ e′ n′
+pub same-segments : {d : Description} {i : Setting} {r r′ : BuildRooms} {o o′ : BuildOutcome} {s e n s′ e′ n′ : ℕ} → Built d i r o s e n → Built d i r′ o′ s′ e′ n′
     → picture.segmentsOf d i r ≡ picture.segmentsOf d i r′
 unfolding paintOf
 same-segments {d} {i} {r} {r′} a b =

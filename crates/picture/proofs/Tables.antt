@@ -23,7 +23,7 @@ use Rattle.rows.specs.Rows.{inRow, listed, upTo, startOf, Outcome}
 use Rattle.rows.proofs.Counts.{listed-in, by-row}
 use Rattle.rows.proofs.Table.{rest-same}
 use Rattle.rows.proofs.Users as users
-use Rattle.table.specs.Table.{Rooms, Image, Table, zeros, padded}
+use Rattle.table.specs.Table.{BuildRooms, Setting, BuildOutcome, zeros, padded}
 use Rattle.draw.proofs.Entries.{and-left, and-right}
 use Rattle.draw.specs.Draw.{pixel, updates, rowOf, allBelow, countsGood, spanGood, entriesGood, rowGood, judgeOf}
 use Rattle.draw.specs.Reach.{judgeReachOf}
@@ -90,7 +90,7 @@ listed-below has m y (suc n) h =
 abbrev none : Segment
 none = segmentAt [] 0
 
-module _ {d : Description} {i : Image} {r : Rooms} {o : Table} {s e estimate : ℕ} (b : Built d i r o s e estimate) where
+module _ {d : Description} {i : Setting} {r : BuildRooms} {o : BuildOutcome} {s e estimate : ℕ} (b : Built d i r o s e estimate) where
   pub facts : Accepted d i r o s e estimate
   facts = accepted d i r o s e estimate (b .outcome) (b .done)
 

@@ -14,7 +14,7 @@ use Rattle.shade.specs.Shade.{shaded}
 use Rattle.painting.specs.Painting.{Painted, All, NoRoomAt}
 use Rattle.rows.specs.Rows.{listed, rows, startOf, upTo, inRow}
 use Rattle.rows.specs.Rows as listing
-use Rattle.table.specs.Table.{Rooms, Image, givenOf, zeros, padded, buildOf}
+use Rattle.table.specs.Table.{BuildRooms, Setting, givenOf, zeros, padded, buildOf}
 use Rattle.table.specs.Table as build
 use Rattle.table.specs.Refusals.{painted}
 use Rattle.table.specs.declared.BuildAnswer.{BuildAnswer}
@@ -26,12 +26,12 @@ abbrev pub hasPixel : Segment → ℕ → ℕ → Bool
 hasPixel s y x = hasRow s y && hasColumn s x
 
 -- a pixel of colour c with one segment added, if the segment has it
-abbrev pub addTo : ℕ → ℕ → ℕ → Float → Segment → Float
-addTo c y x v s = cond (hasPixel s y x) (shaded s y x c v) v
+abbrev pub shadedInPixel : ℕ → ℕ → ℕ → Float → Segment → Float
+shadedInPixel c y x v s = cond (hasPixel s y x) (shaded s y x c v) v
 
 -- with all segments added that have it, in their order
 abbrev pub pixelOf : ℕ → List Segment → ℕ → ℕ → Float → Float
-pixelOf c segments y x v = foldl (addTo c y x) v segments
+pixelOf c segments y x v = foldl (shadedInPixel c y x) v segments
 
 -- the pairs of a segment and one of the first W pixels of row y that it has
 abbrev pub rowPairs : List Segment → ℕ → ℕ → ℕ
@@ -46,12 +46,12 @@ imagePairs segments W y (suc H) = rowPairs segments W y + imagePairs segments W 
 -- ---- a built table
 
 -- an outcome of a build, with its three counts where it is done
-pub record Built (d : Description) (i : Image) (r : Rooms) (o : build.Table) (s e estimate : ℕ) : Type 0 where
+pub record Built (d : Description) (i : Setting) (r : BuildRooms) (o : build.BuildOutcome) (s e estimate : ℕ) : Type 0 where
   pub outcome : o ≡ buildOf d i r
   pub done : o .answer ≡ BuildAnswer.Done s e estimate
 
 -- the table as drawing takes it: s segments, e entries, and a row start for each row of the image and one more
-abbrev pub built : Image → build.Table → ℕ → ℕ → Table
+abbrev pub built : Setting → build.BuildOutcome → ℕ → ℕ → Table
 built i o s e = tableOf (o .segments) s (o .entries) e (o .starts) (i .height)
 
 abbrev pub paintedSegments : Painted → List Segment
@@ -59,12 +59,12 @@ paintedSegments (All segments) = segments
 paintedSegments (NoRoomAt k) = []
 
 -- the segments of a description, in the order of its splines
-unfoldable pub segmentsOf : Description → Image → Rooms → List Segment
+unfoldable pub segmentsOf : Description → Setting → BuildRooms → List Segment
 segmentsOf d i r = paintedSegments (painted d i r)
 
 -- what the table holds: the segments laid flat, the rows that list them, where each row starts, and zeros behind them and in the working cells; row y lists the segments
 -- that have it, once each, ascending
-pub record BuiltTable (d : Description) (i : Image) (r : Rooms) (o : build.Table) (s e estimate : ℕ) : Type 0 where
+pub record BuiltTable (d : Description) (i : Setting) (r : BuildRooms) (o : build.BuildOutcome) (s e estimate : ℕ) : Type 0 where
   pub judged : judgeOf d (givenOf i) ≡ Judged.Fine estimate
   pub count : s ≡ length (segmentsOf d i r)
   pub segments : o .segments ≡ padded (r .segments) (eights (segmentsOf d i r))

@@ -1,7 +1,7 @@
 -- `add_segments_from_points` of spline.rs at a distance of 1: the segments that a walk makes, and what a lent buffer then holds. Definitions only.
 -- A walk is a list of three numbers a point: x, y and multiplier. 0x3f800000 is 1, 0x41f80000 is 31.
 use mathlib.Core.Path.{_≡_}
-use mathlib.Core.Bool.{Bool, true, false}
+use mathlib.Core.Bool.{Bool, true, false, cond}
 use mathlib.Core.List.{List, [], _∷_, _++_}
 use Prim.Native.Nat.{ℕ, zero, suc, _+_, _*_, _/_, min}
 use lib.Dec.{leb}
@@ -20,22 +20,22 @@ use Rattle.transform.specs.Transform.{sumsOf}
 use Rattle.points.specs.declared.Filled.{Filled}
 use Rattle.points.specs.declared.Filled.the-variants.{Count, Room}
 
-abbrev pub one : Float
-one = f 0x3f800000
+abbrev pub oneF32 : Float
+oneF32 = f 0x3f800000
 
 -- (point_index * desired_distance * inv_length).min(1.0)
 unfoldable pub progressOf : Float → ℕ → Float
-progressOf invLength i = minOf (ofInt binary32 (pos i) ⊗ one ⊗ invLength) one
+progressOf invLength i = minOf (ofInt binary32 (pos i) ⊗ oneF32 ⊗ invLength) oneF32
 
 -- t
-unfoldable pub placeOf : Float → ℕ → Float
+unfoldable pub curveTime : Float → ℕ → Float
 unfolding progressOf
-placeOf invLength i = f 0x41f80000 ⊗ progressOf invLength i
+curveTime invLength i = f 0x41f80000 ⊗ progressOf invLength i
 
 -- what point i makes
 unfoldable pub pointSegment : Spline → Float → Bool → List Float → ℕ → Added
 pointSegment s invLength high walk i =
-    let sums = sumsOf s (placeOf invLength i) in
+    let sums = sumsOf s (curveTime invLength i) in
     addSegment (getD walk (3 * i) nan) (getD walk (3 * i + 1) nan) (getD walk (3 * i + 2) nan) (sums .x) (sums .y) (sums .b) (sums .sigma) high
 
 abbrev pub madeOf : Added → List Segment
@@ -49,7 +49,7 @@ segmentsFrom s invLength high walk i (suc n) = madeOf (pointSegment s invLength 
 
 -- of all points of a walk with its length
 unfoldable pub addSegmentsFromPoints : Spline → List Float → Float → Bool → List Segment
-addSegmentsFromPoints s walk l high = segmentsFrom s (one ⊘ l) high walk 0 (length walk / 3)
+addSegmentsFromPoints s walk l high = segmentsFrom s (oneF32 ⊘ l) high walk 0 (length walk / 3)
 
 -- ---- in a lent buffer
 
@@ -62,13 +62,9 @@ eights (s ∷ l) = eightOf s ++ eights l
 abbrev pub segmentRoom : ℕ → ℕ
 segmentRoom n = min (n / 8) 16777216
 
-abbrev pub pick : Bool → Filled → Filled → Filled
-pick true a b = a
-pick false a b = b
-
 -- the segments after the first `from` ones
 unfoldable pub filledOf : ℕ → ℕ → List Segment → Filled
-filledOf room from segs = pick (leb (from + length segs) room) (Count (from + length segs)) Room
+filledOf room from segs = cond (leb (from + length segs) room) (Count (from + length segs)) Room
 
 -- o is the buffer before, e after; without room nothing is said of it
 abbrev pub FilledOn : Filled → ℕ → List Segment → List Float → List Float → Type 0

@@ -2,7 +2,7 @@
 ghost use mathlib.Core.Path.{_≡_};
 ghost use Prim.Native.Nat.{_+_, _*_, _/_, _≤_, _<_};
 ghost use lib.ListN.{length};
-ghost use Rattle.points.specs.Points.{placeOf, pointSegment, madeOf, segmentRoom, addSegmentsFromPoints, filledOf, FilledOn};
+ghost use Rattle.points.specs.Points.{curveTime, pointSegment, madeOf, segmentRoom, addSegmentsFromPoints, filledOf, FilledOn};
 use dequantize::Spline;
 use segments::Added;
 
@@ -15,7 +15,7 @@ pub enum Filled {
 // Where in the transform point i lies.
 fn place_of(inv_length: f32, i: usize) -> f32
     requires { ⌜ i ≤ 8388608 ⌝ }
-    ensures { λ r. ⌜ r ≡ placeOf «inv_length» i ⌝ }
+    ensures { λ r. ⌜ r ≡ curveTime «inv_length» i ⌝ }
 {
     31.0 * numbers::min((i as f32) * 1.0 * inv_length, 1.0)
 }

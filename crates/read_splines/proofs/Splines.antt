@@ -11,7 +11,7 @@ use lib.IntN.{ℤ}
 use borrow.Author.Tests.{lt-ltb, le-ltb}
 use Rattle.codes.specs.declared.Code.{Code}
 use Rattle.list.specs.declared.Next.{Next}
-use Rattle.list.specs.List.{packSigned, Got, got, stop, Spline, spline, Splines, splines, sum, andThen, ontoSplines, deltasOf, coefficientsOf, splineOf, splinesOf}
+use Rattle.list.specs.List.{packSigned, Got, got, stop, Spline, spline, Splines, splines, pointsOf, andThen, ontoSplines, deltasOf, coefficientsOf, splineIn, splinesOf}
 use Rattle.list.specs.Steps.{nextOf}
 use Rattle.list.proofs.Buffers.{part-tail, next-is, next-not}
 use Rattle.list.proofs.Accepted.{deltas-read, SplineRead, spline-read}
@@ -51,21 +51,21 @@ pub spline-stop : (g : Got Spline) (k : Code) (p : ℕ) (d d′ c c′ : List �
 spline-stop g k p d d′ c c′ e = subst (λ (x : Got Spline). SplineLeft x (Points.Stop k p) d d′ c c′) (sym e) refl
 
 module _ (t left room : ℕ) (l : List ℕ) where
-  pub spline-short : nextOf l ≡ Next.End → splineOf t left room l ≡ stop Code.Short t
-  unfolding splineOf
+  pub spline-short : nextOf l ≡ Next.End → splineIn t left room l ≡ stop Code.Short t
+  unfolding splineIn
   spline-short e = rw (next-not l e)
 
-  pub spline-over : (n : ℕ) → nextOf l ≡ Next.Value n → left < n → splineOf t left room l ≡ stop Code.Points (t - length l)
-  unfolding splineOf
+  pub spline-over : (n : ℕ) → nextOf l ≡ Next.Value n → left < n → splineIn t left room l ≡ stop Code.Points (t - length l)
+  unfolding splineIn
   spline-over n e h = rw (next-is l n e, lt-ltb left n h)
 
-  pub spline-room : (n : ℕ) → nextOf l ≡ Next.Value n → n ≤ left → room < 2 * n → splineOf t left room l ≡ stop Code.Room (t - length l)
-  unfolding splineOf
+  pub spline-room : (n : ℕ) → nextOf l ≡ Next.Value n → n ≤ left → room < 2 * n → splineIn t left room l ≡ stop Code.Room (t - length l)
+  unfolding splineIn
   spline-room n e h g = rw (next-is l n e, le-ltb left n h, lt-ltb room (2 * n) g)
 
 spline-at : (t left room : ℕ) (l : List ℕ) (n : ℕ) → nextOf l ≡ Next.Value n → n ≤ left → 2 * n ≤ room
-    → splineOf t left room l ≡ andThen (deltasOf t n (drop 1 l)) (λ ds l1. andThen (coefficientsOf t 128 l1) (λ cs l2. got (spline n ds cs) l2))
-unfolding splineOf
+    → splineIn t left room l ≡ andThen (deltasOf t n (drop 1 l)) (λ ds l1. andThen (coefficientsOf t 128 l1) (λ cs l2. got (spline n ds cs) l2))
+unfolding splineIn
 spline-at t left room [] n e h g = cc
 spline-at t left room (a ∷ l) n e h g =
     let p : a ≡ n = cc in
@@ -73,7 +73,7 @@ spline-at t left room (a ∷ l) n e h g =
 
 -- its double deltas have been read, from the part after its count
 module _ (t left room : ℕ) (l after : List ℕ) (n : ℕ) (e : nextOf l ≡ Next.Value n) (h : n ≤ left) (g : 2 * n ≤ room) (ea : after ≡ drop 1 l) (d d′ : List ℤ) where
-  pub spline-deltas-stop : (k : Code) (p : ℕ) → Filled (deltasOf t n after) (Step.Stop k p) d d′ → splineOf t left room l ≡ stop k p
+  pub spline-deltas-stop : (k : Code) (p : ℕ) → Filled (deltasOf t n after) (Step.Stop k p) d d′ → splineIn t left room l ≡ stop k p
   spline-deltas-stop k p f = spline-at t left room l n e h g ∙ rw (← ea, filled-stopped (deltasOf t n after) d d′ k p f)
 
   module _ (f : Filled (deltasOf t n after) Step.Done d d′) where
@@ -90,16 +90,16 @@ module _ (t left room : ℕ) (l after : List ℕ) (n : ℕ) (e : nextOf l ≡ Ne
 
     -- and its coefficients from the part after those
     module _ (tail : List ℕ) (et : tail ≡ drop (2 * n) after) (c c′ : List ℤ) where
-      at-tail : splineOf t left room l ≡ andThen (coefficientsOf t 128 tail) (λ cs l2. got (spline n (gave .vs) cs) l2)
+      at-tail : splineIn t left room l ≡ andThen (coefficientsOf t 128 tail) (λ cs l2. got (spline n (gave .vs) cs) l2)
       at-tail = spline-at t left room l n e h g ∙ rw (← ea, gave .is, far .0, ← et)
 
-      pub spline-coefficients-stop : (k : Code) (p : ℕ) → Filled (coefficientsOf t 128 tail) (Step.Stop k p) c c′ → splineOf t left room l ≡ stop k p
+      pub spline-coefficients-stop : (k : Code) (p : ℕ) → Filled (coefficientsOf t 128 tail) (Step.Stop k p) c c′ → splineIn t left room l ≡ stop k p
       spline-coefficients-stop k p b = at-tail ∙ rw (filled-stopped (coefficientsOf t 128 tail) c c′ k p b)
 
-      pub spline-done : Filled (coefficientsOf t 128 tail) Step.Done c c′ → SplineLeft (splineOf t left room l) (Points.Count n) d d′ c c′
+      pub spline-done : Filled (coefficientsOf t 128 tail) Step.Done c c′ → SplineLeft (splineIn t left room l) (Points.Count n) d d′ c c′
       spline-done b =
           let k = filled-gave (coefficientsOf t 128 tail) c c′ b in
-          let is : splineOf t left room l ≡ got (spline n (gave .vs) (k .vs)) (k .rest)
+          let is : splineIn t left room l ≡ got (spline n (gave .vs) (k .vs)) (k .rest)
           = at-tail ∙ ap (λ (x : Got (List ℤ)). andThen x (λ cs l2. got (spline n (gave .vs) cs) l2)) (k .is) in
           subst (λ (x : Got Spline). SplineLeft x (Points.Count n) d d′ c c′) (sym is) (refl, gave .left, k .left)
 
@@ -108,7 +108,7 @@ module _ (t left room : ℕ) (l after : List ℕ) (n : ℕ) (e : nextOf l ≡ Ne
 pub record Took (t left room : ℕ) (l : List ℕ) (n : ℕ) (d d′ c c′ : List ℤ) : Type 0 where
   pub ds : List ℤ
   pub cs : List ℤ
-  pub is : splineOf t left room l ≡ got (spline n ds cs) (drop (2 * n + 129) l)
+  pub is : splineIn t left room l ≡ got (spline n ds cs) (drop (2 * n + 129) l)
   pub long : 2 * n + 129 ≤ length l
   pub under : n ≤ left
   pub fits : 2 * n ≤ room
@@ -124,10 +124,10 @@ spline-went t left room l n ds cs r v =
     (v .is ∙ ap (λ (m : List ℕ). n ∷ m) (sym (append-assoc (map packSigned ds) (map packSigned cs) r)))
     (ap suc (length-append (map packSigned ds) (map packSigned cs)) ∙ omega (arith, length-map ds packSigned, length-map cs packSigned, v .deltas, v .coefficients))
 
-pub took : (t left room : ℕ) (l : List ℕ) (n : ℕ) (d d′ c c′ : List ℤ) → SplineLeft (splineOf t left room l) (Points.Count n) d d′ c c′ → Took t left room l n d d′ c c′
-took t left room l n d d′ c c′ h = go (splineOf t left room l) refl h
+pub took : (t left room : ℕ) (l : List ℕ) (n : ℕ) (d d′ c c′ : List ℤ) → SplineLeft (splineIn t left room l) (Points.Count n) d d′ c c′ → Took t left room l n d d′ c c′
+took t left room l n d d′ c c′ h = go (splineIn t left room l) refl h
   where
-    whole : (ds cs : List ℤ) (r : List ℕ) → splineOf t left room l ≡ got (spline n ds cs) r → Front ds d d′ → Front cs c c′ → Took t left room l n d d′ c c′
+    whole : (ds cs : List ℤ) (r : List ℕ) → splineIn t left room l ≡ got (spline n ds cs) r → Front ds d d′ → Front cs c c′ → Took t left room l n d d′ c c′
     whole ds cs r e x y =
         let v = spline-read t left room l n ds cs r e in
         let w = spline-went t left room l n ds cs r v in
@@ -144,7 +144,7 @@ took t left room l n d d′ c c′ h = go (splineOf t left room l) refl h
           newC = y;
         }
 
-    go : (g : Got Spline) → splineOf t left room l ≡ g → SplineLeft g (Points.Count n) d d′ c c′ → Took t left room l n d d′ c c′
+    go : (g : Got Spline) → splineIn t left room l ≡ g → SplineLeft g (Points.Count n) d d′ c c′ → Took t left room l n d d′ c c′
     go (got (spline m ds cs) r) e h =
         let p : m ≡ n = cc (h .0) in
         whole ds cs r (e ∙ rw p) (h .1) (h .2)
@@ -156,7 +156,7 @@ spline-stopped (stop j q) k p d d′ c c′ h = cc
 
 -- ---- all splines
 
-pub splines-one : (t left room m : ℕ) (l : List ℕ) (n : ℕ) (ds cs : List ℤ) (r : List ℕ) → 0 < m → splineOf t left room l ≡ got (spline n ds cs) r
+pub splines-one : (t left room m : ℕ) (l : List ℕ) (n : ℕ) (ds cs : List ℤ) (r : List ℕ) → 0 < m → splineIn t left room l ≡ got (spline n ds cs) r
     → splinesOf t left room m l ≡ ontoSplines (spline n ds cs) (splinesOf t (left - n) (room - 2 * n) (m - 1) r)
 unfolding splinesOf
 splines-one t left room zero l n ds cs r h e = absurd (not-suc-le-zero h)
@@ -164,7 +164,7 @@ splines-one t left room (suc m) l n ds cs r h e =
     let s : suc m - 1 ≡ m = omega arith in
     rw (e, s)
 
-splines-stop : (t left room m : ℕ) (l : List ℕ) (k : Code) (p : ℕ) → 0 < m → splineOf t left room l ≡ stop k p → splinesOf t left room m l ≡ stop k p
+splines-stop : (t left room m : ℕ) (l : List ℕ) (k : Code) (p : ℕ) → 0 < m → splineIn t left room l ≡ stop k p → splinesOf t left room m l ≡ stop k p
 unfolding splinesOf
 splines-stop t left room zero l k p h e = absurd (not-suc-le-zero h)
 splines-stop t left room (suc m) l k p h e = rw e
@@ -187,7 +187,7 @@ before-end : (ms : List ℕ) (es bs : List ℤ) (t left room : ℕ) (l : List �
 unfolding splinesOf
 before-end ms es bs t left room l = rw (append-nil ms, append-nil es, append-nil bs)
 
-sum-snoc : (ms : List ℕ) (n : ℕ) → sum (ms ++ (n ∷ [])) ≡ sum ms + n
+sum-snoc : (ms : List ℕ) (n : ℕ) → pointsOf (ms ++ (n ∷ [])) ≡ pointsOf ms + n
 sum-snoc [] n = omega arith
 sum-snoc (m ∷ ms) n = omega (arith, sum-snoc ms n)
 
@@ -220,7 +220,7 @@ front l old i h e = rw (length-take-le i l h, ← e) (sym (take-append-drop i l)
 pub record Going (list : List ℕ) (total limit s : ℕ) (N₀ : List ℕ) (D₀ C₀ : List ℤ) (N : List ℕ) (D C : List ℤ) (rest : List ℕ) (left i d k : ℕ) : Type 0 where
   pub turns : i ≤ s
   pub cells : k ≡ 128 * i
-  pub under : left + sum (take i N) ≡ limit
+  pub under : left + pointsOf (take i N) ≡ limit
   pub inD : d ≤ length D
   pub lenN : length N ≡ length N₀
   pub lenD : length D ≡ length D₀
@@ -262,13 +262,13 @@ module _ (list : List ℕ) (total limit s : ℕ) (N₀ : List ℕ) (D₀ C₀ : 
 
     module _ (more : i < s) (roomC : 128 * s ≤ length C₀) (roomN : s ≤ length N₀) (d′ c′ : List ℤ) where
       abbrev Left : Points → Type 0
-      Left r = SplineLeft (splineOf total left (length (take (length D - d) (drop d D))) rest) r (take (length D - d) (drop d D)) d′ (take (length C - k) (drop k C)) c′
+      Left r = SplineLeft (splineIn total left (length (take (length D - d) (drop d D))) rest) r (take (length D - d) (drop d D)) d′ (take (length C - k) (drop k C)) c′
 
       pub going-stop : (c : Code) (p : ℕ) → Left (Points.Stop c p)
           → (N′ : List ℕ) (D′ C′ : List ℤ) → SplinesLeft (splinesOf total limit (length D₀) s list) (Points.Stop c p) N₀ N′ D₀ D′ C₀ C′
       going-stop c p h N′ D′ C′ =
           let room : length (take (length D - d) (drop d D)) ≡ length D - d = rw (part-tail d D) (length-drop d D) in
-          let e = spline-stopped (splineOf total left (length (take (length D - d) (drop d D))) rest) c p (take (length D - d) (drop d D)) d′ (take (length C - k) (drop k C)) c′ h in
+          let e = spline-stopped (splineIn total left (length (take (length D - d) (drop d D))) rest) c p (take (length D - d) (drop d D)) d′ (take (length C - k) (drop k C)) c′ h in
           let f : splinesOf total limit (length D₀) s list ≡ stop c p
           = now .so ∙ rw (splines-stop total left (length D - d) (s - i) rest c p (omega arith) (rw room at e)) in
           subst (λ (x : Got Splines). SplinesLeft x (Points.Stop c p) N₀ N′ D₀ D′ C₀ C′) (sym f) refl
@@ -277,7 +277,7 @@ module _ (list : List ℕ) (total limit s : ℕ) (N₀ : List ℕ) (D₀ C₀ : 
         it : Took total left (length (take (length D - d) (drop d D))) rest n (take (length D - d) (drop d D)) d′ (take (length C - k) (drop k C)) c′
         it = took total left (length (take (length D - d) (drop d D))) rest n (take (length D - d) (drop d D)) d′ (take (length C - k) (drop k C)) c′ h
 
-        step : (ds cs : List ℤ) → splineOf total left (length D - d) rest ≡ got (spline n ds cs) (drop (2 * n + 129) rest)
+        step : (ds cs : List ℤ) → splineIn total left (length D - d) rest ≡ got (spline n ds cs) (drop (2 * n + 129) rest)
             → (D′ C′ : List ℤ) (N′ : List ℕ) → take (d + 2 * n) D′ ≡ take d D ++ ds → take (k + 128) C′ ≡ take k C ++ cs → take (i + 1) N′ ≡ take i N ++ (n ∷ [])
             → length D′ ≡ length D
             → before (take i N) (take d D) (take k C) (splinesOf total left (length D - d) (s - i) rest)

@@ -3,7 +3,7 @@ use mathlib.Core.Path.{_≡_}
 use mathlib.Core.List.{List}
 use Prim.Native.Nat.{ℕ}
 use lib.IntN.{ℤ}
-use Rattle.list.specs.List.{Got, got, stop, Spline, spline, Splines, splines, sum}
+use Rattle.list.specs.List.{Got, got, stop, Spline, spline, Splines, splines, pointsOf}
 use Rattle.read_steps.specs.Steps.{Front}
 use Rattle.read_splines.specs.declared.Points.{Points}
 
@@ -14,5 +14,5 @@ SplineLeft (stop k p) r d d′ c c′ = r ≡ Points.Stop k p
 
 -- all splines, and the sum of their points
 abbrev pub SplinesLeft : Got Splines → Points → List ℕ → List ℕ → List ℤ → List ℤ → List ℤ → List ℤ → Type 0
-SplinesLeft (got (splines ns ds cs) l) r n n′ d d′ c c′ = (r ≡ Points.Count (sum ns)) × Front ns n n′ × Front ds d d′ × Front cs c c′
+SplinesLeft (got (splines ns ds cs) l) r n n′ d d′ c c′ = (r ≡ Points.Count (pointsOf ns)) × Front ns n n′ × Front ds d d′ × Front cs c c′
 SplinesLeft (stop k p) r n n′ d d′ c c′ = r ≡ Points.Stop k p

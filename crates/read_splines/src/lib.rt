@@ -7,7 +7,7 @@ use read_steps::read_coefficients;
 use read_steps::read_deltas;
 ghost use Prim.Native.Nat.{_*_, _≤_, _<_};
 ghost use lib.ListN.{length};
-ghost use Rattle.list.specs.List.{splineOf, splinesOf};
+ghost use Rattle.list.specs.List.{splineIn, splinesOf};
 ghost use Rattle.read_splines.specs.Splines.{SplineLeft, SplinesLeft};
 
 pub enum Points {
@@ -24,7 +24,7 @@ pub fn read_spline(
     coefficients: &mut [i32],
 ) -> Points
     requires { ⌜ (128 ≤ length (now coefficients)) × (length (now list) ≤ total) ⌝ }
-    ensures { λ r. ⌜ SplineLeft (splineOf total left (length (now (deltas .entry))) (now (list .entry))) r (now (deltas .entry)) (now (deltas .exit)) (now (coefficients .entry)) (now (coefficients .exit)) ⌝ }
+    ensures { λ r. ⌜ SplineLeft (splineIn total left (length (now (deltas .entry))) (now (list .entry))) r (now (deltas .entry)) (now (deltas .exit)) (now (coefficients .entry)) (now (coefficients .exit)) ⌝ }
 {
     let Next::Value(n) = head(list) else {
         return Points::Stop(Code::Short, total);

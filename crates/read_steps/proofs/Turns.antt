@@ -13,7 +13,7 @@ use lib.Ieee.{Float}
 use Rattle.codes.specs.declared.Code.{Code}
 use Rattle.list.specs.declared.Next.{Next}
 use Rattle.list.specs.List.{unpackSigned, posLimit, deltaLimit, beyond, Got, got, stop, onto, coordinate, startsOf, deltasOf, coefficientsOf}
-use Rattle.list.specs.Steps.{nextOf, whole}
+use Rattle.list.specs.Steps.{nextOf, f32Of}
 use Rattle.list.proofs.Buffers.{part-tail, next-not}
 use Rattle.read_steps.specs.declared.Pair.{Pair}
 use Rattle.read_steps.specs.declared.Step.{Step}
@@ -171,7 +171,7 @@ starts-one t first x y cx cy (suc m) l a b h e ex ey w =
     (sym (pair-is l a b e))
     (rw (← ex, ← ey, w, s))
 
-floats-two : (x y : ℤ) (g : Got (List ℤ)) → floats (onto (x ∷ y ∷ []) g) ≡ onto (whole x ∷ whole y ∷ []) (floats g)
+floats-two : (x y : ℤ) (g : Got (List ℤ)) → floats (onto (x ∷ y ∷ []) g) ≡ onto (f32Of x ∷ f32Of y ∷ []) (floats g)
 floats-two x y (got zs l) = refl
 floats-two x y (stop c p) = refl
 
@@ -179,10 +179,10 @@ pub starts-more : (t n m i : ℕ) (list rest : List ℕ) (out : List Float) (fir
     → floats (startsOf t true (pos 0) (pos 0) n list) ≡ onto (take i out) (floats (startsOf t first x y m rest))
     → 0 < m → i + 1 < length out → pairOf rest ≡ Pair.Both a b → cx ≡ coordinate first x a → cy ≡ coordinate first y b → beyond posLimit cx cy ≡ false
     → floats (startsOf t true (pos 0) (pos 0) n list)
-    ≡ onto (take (i + 2) (set (set out i (whole cx)) (i + 1) (whole cy))) (floats (startsOf t false cx cy (m - 1) (take (length rest - 2) (drop 2 rest))))
+    ≡ onto (take (i + 2) (set (set out i (f32Of cx)) (i + 1) (f32Of cy))) (floats (startsOf t false cx cy (m - 1) (take (length rest - 2) (drop 2 rest))))
 starts-more t n m i list rest out first x y cx cy a b e h g v ex ey w =
     rw (part-tail 2 rest)
     (e ∙ rw (starts-one t first x y cx cy m rest a b h v ex ey w, floats-two cx cy (startsOf t false cx cy (m - 1) (drop 2 rest)))
-    (two-more out i (whole cx) (whole cy) (floats (startsOf t false cx cy (m - 1) (drop 2 rest))) g))
+    (two-more out i (f32Of cx) (f32Of cy) (floats (startsOf t false cx cy (m - 1) (drop 2 rest))) g))
 
 -- Assumes nothing.

@@ -6,7 +6,7 @@ use lib.ListN.{length, drop}
 use lib.IntN.{ℤ}
 use lib.Ieee.{Float}
 use Rattle.list.specs.List.{Got, got, stop}
-use Rattle.list.specs.Steps.{whole}
+use Rattle.list.specs.Steps.{f32Of}
 use Rattle.read_steps.specs.declared.Pair.{Pair}
 use Rattle.read_steps.specs.declared.Step.{Step}
 
@@ -18,7 +18,7 @@ pairOf (a ∷ b ∷ l) = Pair.Both a b
 
 -- whole numbers as f32
 abbrev pub floats : Got (List ℤ) → Got (List Float)
-floats (got zs l) = got (map whole zs) l
+floats (got zs l) = got (map f32Of zs) l
 floats (stop c p) = stop c p
 
 -- the values stand in front, and the rest is as it was

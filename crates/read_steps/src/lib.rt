@@ -12,7 +12,7 @@ ghost use lib.IntN.{pos, natAbs, _+ℤ_};
 ghost use lib.ListN.{length};
 ghost use lib.Signed.{mag};
 ghost use Rattle.list.specs.List.{unpackSigned, posLimit, deltaLimit, beyond, coordinate, startsOf, deltasOf, coefficientsOf};
-ghost use Rattle.list.specs.Steps.{whole};
+ghost use Rattle.list.specs.Steps.{f32Of};
 ghost use Rattle.read_steps.specs.Steps.{pairOf, floats, Filled};
 
 pub enum Pair {
@@ -123,7 +123,7 @@ pub fn far(x: i64, y: i64) -> bool
 // A whole number below 2^23 in magnitude is an f32.
 pub fn start_of(x: i64) -> f32
     requires { ⌜ mag x < 2 ^ 23 ⌝ }
-    ensures { λ r. ⌜ r ≡ whole x ⌝ }
+    ensures { λ r. ⌜ r ≡ f32Of x ⌝ }
 {
     x as f32
 }

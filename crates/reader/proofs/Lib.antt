@@ -1,4 +1,4 @@
 -- The laws of the crate `reader`.
 pub mod Whole
-pub mod Given
+pub mod Refusals
 pub mod Promises

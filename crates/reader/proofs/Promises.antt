@@ -7,16 +7,16 @@ use lib.ListN.{replicate}
 use lib.IntN.{ℤ, pos}
 use Rattle.codes.specs.Codes.{numberOf}
 use Rattle.codes.specs.declared.Code.{Code}
-use Rattle.list.specs.List.{Rooms, Got, got, stop, Described, described, limitOf, readOf, listOf, Valid}
+use Rattle.list.specs.List.{ListRooms, Got, got, stop, Described, described, limitOf, readOf, listOf, Valid}
 use Rattle.list.specs.Steps.{zeroF32}
 use Rattle.list.proofs.RoundTrip.{Holds, written-is-read}
 use Rattle.reader.specs.declared.ReadAnswer.{ReadAnswer}
 use Rattle.reader.specs.Read.{Told, Outcome, outcome, readOutcome}
-use Rattle.reader.specs.Given.{Refusal}
-use Rattle.reader.proofs.Given as table
+use Rattle.reader.specs.Refusals.{ReadRefusal}
+use Rattle.reader.proofs.Refusals as table
 
 -- an outcome of a refusal: the code's number, its place, and nothing but zeros
-pub record Refused (rooms : Rooms) (c : Code) (p : ℕ) (o : Outcome) : Type 0 where
+pub record Refused (rooms : ListRooms) (c : Code) (p : ℕ) (o : Outcome) : Type 0 where
   pub answer : o .answer ≡ ReadAnswer.Refused c p
   pub told : _≡_ {A = Told} (o .told) (record { number = numberOf c; place = p; splines = 0; points = 0; adjustment = pos 0 })
   pub counts : o .counts ≡ replicate (rooms .counts) 0
@@ -24,14 +24,14 @@ pub record Refused (rooms : Rooms) (c : Code) (p : ℕ) (o : Outcome) : Type 0 w
   pub deltas : o .deltas ≡ replicate (rooms .deltas) (pos 0)
   pub coefficients : o .coefficients ≡ replicate (rooms .coefficients) (pos 0)
 
-module _ (configured pixels : ℕ) (rooms : Rooms) (list : List ℕ) where
+module _ (configured pixels : ℕ) (rooms : ListRooms) (list : List ℕ) where
   -- any two outcomes that the contract allows are equal
   pub one-outcome : (a b : Outcome) → a ≡ readOutcome configured pixels rooms list → b ≡ readOutcome configured pixels rooms list → a ≡ b
   one-outcome a b p q = p ∙ sym q
 
   module _ (o : Outcome) (is : o ≡ readOutcome configured pixels rooms list) where
     -- what is refused is in the table
-    pub refused-exactly : (c : Code) (p : ℕ) → o .answer ≡ ReadAnswer.Refused c p → Refusal (limitOf configured pixels) rooms list c p
+    pub refused-exactly : (c : Code) (p : ℕ) → o .answer ≡ ReadAnswer.Refused c p → ReadRefusal (limitOf configured pixels) rooms list c p
     refused-exactly c p e =
         table.refused-exactly (limitOf configured pixels) rooms list c p
         (stopped (readOf (limitOf configured pixels) rooms list) (sym (ap Outcome.answer is) ∙ e))
@@ -44,7 +44,7 @@ module _ (configured pixels : ℕ) (rooms : Rooms) (list : List ℕ) where
             rw (x, y)
 
     -- what is in the table is refused, and leaves zeros
-    pub given-exactly : (c : Code) (p : ℕ) → Refusal (limitOf configured pixels) rooms list c p → Refused rooms c p o
+    pub given-exactly : (c : Code) (p : ℕ) → ReadRefusal (limitOf configured pixels) rooms list c p → Refused rooms c p o
     given-exactly c p h =
         let e = table.given-exactly (limitOf configured pixels) rooms list c (h .due) (h .rest) (h .reached) (h .given) in
         let at : readOf (limitOf configured pixels) rooms list ≡ stop c p = e ∙ ap (λ (q : ℕ). stop c q) (sym (h .place)) in
@@ -52,7 +52,7 @@ module _ (configured pixels : ℕ) (rooms : Rooms) (list : List ℕ) where
         (record { answer = refl; told = refl; counts = refl; starts = refl; deltas = refl; coefficients = refl })
 
 -- what is written is read: the outcome of the list of a valid description is that description
-pub read-after-write : (configured pixels : ℕ) (rooms : Rooms) (a : ℤ) (zs : List ℤ) (ns : List ℕ) (ds cs : List ℤ)
+pub read-after-write : (configured pixels : ℕ) (rooms : ListRooms) (a : ℤ) (zs : List ℤ) (ns : List ℕ) (ds cs : List ℤ)
     → Valid (limitOf configured pixels) zs ns ds cs → Holds rooms zs ns ds cs
     → readOutcome configured pixels rooms (listOf (described a zs ns ds cs)) ≡ outcome rooms (got (described a zs ns ds cs) [])
 read-after-write configured pixels rooms a zs ns ds cs v h = ap (outcome rooms) (written-is-read (limitOf configured pixels) rooms a zs ns ds cs v h)

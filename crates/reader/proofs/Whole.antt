@@ -12,8 +12,8 @@ use lib.Ieee.{Float}
 use borrow.Author.Tests.{lt-ltb, le-ltb}
 use Rattle.codes.specs.declared.Code.{Code}
 use Rattle.list.specs.declared.Next.{Next}
-use Rattle.list.specs.List.{unpackSigned, packSigned, Rooms, Got, got, stop, Splines, splines, Described, described, sum, andThen, startsOf, splinesOf, describe, ended, afterStarts, lacking, limitOf, readOf, startsList, splinesList}
-use Rattle.list.specs.Steps.{nextOf, whole, zeroF32}
+use Rattle.list.specs.List.{unpackSigned, packSigned, ListRooms, Got, got, stop, Splines, splines, Described, described, pointsOf, andThen, startsOf, splinesOf, describe, ended, afterStarts, lacking, limitOf, readOf, startsList, splinesList}
+use Rattle.list.specs.Steps.{nextOf, f32Of, zeroF32}
 use Rattle.list.proofs.Buffers.{next-is, next-not}
 use Rattle.list.proofs.Accepted.{starts-read, splines-read}
 use Rattle.read_steps.specs.declared.Step.{Step}
@@ -27,7 +27,7 @@ use Rattle.read_splines.proofs.Splines.{Gave, filled-gave, filled-stopped, went
 
 -- ---- how far the splines go
 
-splines-length : (ns : List ℕ) (ds cs : List ℤ) → length ds ≡ 2 * sum ns → length cs ≡ 128 * length ns → length (splinesList ns ds cs) ≡ 129 * length ns + 2 * sum ns
+splines-length : (ns : List ℕ) (ds cs : List ℤ) → length ds ≡ 2 * pointsOf ns → length cs ≡ 128 * length ns → length (splinesList ns ds cs) ≡ 129 * length ns + 2 * pointsOf ns
 splines-length [] ds cs a b = refl
 splines-length (n ∷ ns) ds cs a b =
     let es = map packSigned (take (2 * n) ds) in
@@ -39,7 +39,7 @@ splines-length (n ∷ ns) ds cs a b =
     ap suc (length-append (es ++ bs) others) ∙ omega (arith, length-append es bs, e1, e2, ih)
 
 splines-went : (t left room s : ℕ) (l : List ℕ) (ns : List ℕ) (ds cs : List ℤ) (r : List ℕ) → splinesOf t left room s l ≡ got (splines ns ds cs) r
-    → (length ns ≡ s) × (length l ≡ 129 * s + 2 * sum ns + length r)
+    → (length ns ≡ s) × (length l ≡ 129 * s + 2 * pointsOf ns + length r)
 splines-went t left room s l ns ds cs r e =
     let v = splines-read t left room s l ns ds cs r e in
     let k = splines-length ns ds cs (v .deltas) (v .coefficients) in
@@ -85,7 +85,7 @@ module _ (t limit room s : ℕ) where
               → andThen i (λ x l1. ended t (describe (unpackSigned u) [] x) l1) ≡ stop Code.Trail (t - (length rest - (129 * s + 2 * m)))
           go (got (splines ns ds cs) r) i h =
               let w = splines-went t limit room s rest ns ds cs r i in
-              let q : m ≡ sum ns = cc (h .0) in
+              let q : m ≡ pointsOf ns = cc (h .0) in
               let len : length r ≡ length rest - (129 * s + 2 * m) = omega (arith, w .1) in
               ended-trail t (described (unpackSigned u) [] ns ds cs) r (omega arith) ∙ rw len
           go (stop j q) i h = let z : _≡_ {A = ℕ} 0 1 = cc in absurd (omega arith)
@@ -99,7 +99,7 @@ module _ (t limit room s : ℕ) where
               → RestLeft (andThen i (λ x l1. ended t (describe (unpackSigned u) [] x) l1)) (ReadAnswer.Done s m (unpackSigned u)) n n′ d d′ c c′
           go (got (splines ns ds cs) r) i h =
               let w = splines-went t limit room s rest ns ds cs r i in
-              let q : m ≡ sum ns = cc (h .0) in
+              let q : m ≡ pointsOf ns = cc (h .0) in
               let none : length r ≡ 0 = omega (arith, w .1) in
               rw (ended-none t (described (unpackSigned u) [] ns ds cs) r none, q, ← w .0) (refl, h .1, h .2, h .3)
           go (stop j q) i h = let z : _≡_ {A = ℕ} 0 1 = cc in absurd (omega arith)
@@ -121,12 +121,12 @@ starts-aside t limit room s zs (u ∷ l) = go (splinesOf t limit room s l)
     go (got (splines ns ds cs) (b ∷ k)) = refl
     go (stop c p) = refl
 
-rest-starts : (g : Got Described) (zs : List ℤ) (r : ReadAnswer) (n n′ : List ℕ) (f f′ : List Float) (d d′ c c′ : List ℤ) → RestLeft g r n n′ d d′ c c′ → Front (map whole zs) f f′
+rest-starts : (g : Got Described) (zs : List ℤ) (r : ReadAnswer) (n n′ : List ℕ) (f f′ : List Float) (d d′ c c′ : List ℤ) → RestLeft g r n n′ d d′ c c′ → Front (map f32Of zs) f f′
     → ListLeft (withStarts zs g) r n n′ f f′ d d′ c c′
 rest-starts (got (described a ys ns ds cs) l) zs r n n′ f f′ d d′ c c′ h w = (h .0, h .1, w, h .2, h .3)
 rest-starts (stop k p) zs r n n′ f f′ d d′ c c′ h w = h
 
-got-floats : (g : Got (List ℤ)) (vs : List Float) (r : List ℕ) → floats g ≡ got vs r → (zs : List ℤ) × (g ≡ got zs r) × (map whole zs ≡ vs)
+got-floats : (g : Got (List ℤ)) (vs : List Float) (r : List ℕ) → floats g ≡ got vs r → (zs : List ℤ) × (g ≡ got zs r) × (map f32Of zs ≡ vs)
 got-floats (got zs l) vs r e = let p : l ≡ r = cc in (zs, rw p, cc)
 got-floats (stop c p) vs r e = let z : _≡_ {A = ℕ} 0 1 = cc in absurd (omega arith)
 
@@ -147,7 +147,7 @@ starts-length false x y (suc n) (a ∷ b ∷ zs) h = omega (arith, starts-length
 pub list-stop : (g : Got Described) (k : Code) (p : ℕ) (n n′ : List ℕ) (f f′ : List Float) (d d′ c c′ : List ℤ) → g ≡ stop k p → ListLeft g (ReadAnswer.Refused k p) n n′ f f′ d d′ c c′
 list-stop g k p n n′ f f′ d d′ c c′ e = subst (λ (x : Got Described). ListLeft x (ReadAnswer.Refused k p) n n′ f f′ d d′ c c′) (sym e) refl
 
-module _ (limit : ℕ) (rooms : Rooms) (l : List ℕ) where
+module _ (limit : ℕ) (rooms : ListRooms) (l : List ℕ) where
   pub read-short : nextOf l ≡ Next.End → readOf limit rooms l ≡ stop Code.Short 0
   unfolding readOf
   read-short e = rw (next-not l e)
@@ -171,7 +171,7 @@ module _ (limit : ℕ) (rooms : Rooms) (l : List ℕ) where
   no-coefficients v e h a b c =
       read-room v e h (rw (le-ltb (rooms .counts) (v + 1) a, le-ltb (rooms .starts) (2 * (v + 1)) b, lt-ltb (rooms .coefficients) (128 * (v + 1)) c))
 
-read-at : (limit : ℕ) (rooms : Rooms) (l : List ℕ) (v : ℕ) → nextOf l ≡ Next.Value v → v < limit → v + 1 ≤ rooms .counts → 2 * (v + 1) ≤ rooms .starts
+read-at : (limit : ℕ) (rooms : ListRooms) (l : List ℕ) (v : ℕ) → nextOf l ≡ Next.Value v → v < limit → v + 1 ≤ rooms .counts → 2 * (v + 1) ≤ rooms .starts
     → 128 * (v + 1) ≤ rooms .coefficients
     → readOf limit rooms l ≡ andThen (startsOf (length l) true (pos 0) (pos 0) (v + 1) (drop 1 l)) (λ zs l1. afterStarts (length l) limit (rooms .deltas) (v + 1) zs l1)
 unfolding readOf
@@ -180,7 +180,7 @@ read-at limit rooms (x ∷ l) v e h a b c =
     let p : x ≡ v = cc in
     rw (p, le-ltb limit (v + 1) (omega arith), le-ltb (rooms .counts) (v + 1) a, le-ltb (rooms .starts) (2 * (v + 1)) b, le-ltb (rooms .coefficients) (128 * (v + 1)) c)
 
-module _ (limit : ℕ) (rooms : Rooms) (l rest : List ℕ) (v : ℕ) (e : nextOf l ≡ Next.Value v) (h : v < limit) (a : v + 1 ≤ rooms .counts)
+module _ (limit : ℕ) (rooms : ListRooms) (l rest : List ℕ) (v : ℕ) (e : nextOf l ≡ Next.Value v) (h : v < limit) (a : v + 1 ≤ rooms .counts)
     (b : 2 * (v + 1) ≤ rooms .starts) (c : 128 * (v + 1) ≤ rooms .coefficients) (er : rest ≡ drop 1 l) (f f′ : List Float) where
   abbrev Starts : Got (List ℤ)
   Starts = startsOf (length l) true (pos 0) (pos 0) (v + 1) rest
@@ -195,7 +195,7 @@ module _ (limit : ℕ) (rooms : Rooms) (l rest : List ℕ) (v : ℕ) (e : nextOf
     gave : Gave (floats Starts) f f′
     gave = filled-gave (floats Starts) f f′ w
 
-    read : (zs : List ℤ) × (Starts ≡ got zs (gave .rest)) × (map whole zs ≡ gave .vs)
+    read : (zs : List ℤ) × (Starts ≡ got zs (gave .rest)) × (map f32Of zs ≡ gave .vs)
     read = got-floats Starts (gave .vs) (gave .rest) (gave .is)
 
     far : (gave .rest ≡ drop (2 * (v + 1)) rest) × (2 * (v + 1) ≤ length rest)
@@ -212,7 +212,7 @@ module _ (limit : ℕ) (rooms : Rooms) (l rest : List ℕ) (v : ℕ) (e : nextOf
         let x : gave .rest ≡ tail = far .0 ∙ sym et in
         let y : readOf limit rooms l ≡ withStarts (read .0) (afterStarts (length l) limit (rooms .deltas) (v + 1) [] tail)
         = at-starts ∙ rw (read .1, x) (starts-aside (length l) limit (rooms .deltas) (v + 1) (read .0) tail) in
-        let z : Front (map whole (read .0)) f f′ = gave .left ∙ rw (← read .2) in
+        let z : Front (map f32Of (read .0)) f f′ = gave .left ∙ rw (← read .2) in
         subst (λ (q : Got Described). ListLeft q r n n′ f f′ d d′ c′ c″) (sym y)
         (rest-starts (afterStarts (length l) limit (rooms .deltas) (v + 1) [] tail) (read .0) r n n′ f f′ d d′ c′ c″ k z)
 
@@ -223,7 +223,7 @@ drop-replicate zero n z = rw sub-zero
 drop-replicate (suc k) zero z = rw zero-sub
 drop-replicate (suc k) (suc n) z = rw suc-sub-suc (drop-replicate k n z)
 
-refused : (g : Got Described) (k : Code) (p : ℕ) (n n′ : List ℕ) (s s′ : List Float) (d d′ c c′ : List ℤ) (rooms : Rooms) → ListLeft g (ReadAnswer.Refused k p) n n′ s s′ d d′ c c′
+refused : (g : Got Described) (k : Code) (p : ℕ) (n n′ : List ℕ) (s s′ : List Float) (d d′ c c′ : List ℤ) (rooms : ListRooms) → ListLeft g (ReadAnswer.Refused k p) n n′ s s′ d d′ c c′
     → leaves (ReadAnswer.Refused k p) (replicate (rooms .counts) 0) (replicate (rooms .starts) zeroF32) (replicate (rooms .deltas) (pos 0)) (replicate (rooms .coefficients) (pos 0)) ≡ outcome rooms g
 refused (got (described a zs ns ds cs) l) k p n n′ s s′ d d′ c c′ rooms h = cc (h .0)
 refused (stop j q) k p n n′ s s′ d d′ c c′ rooms h =
@@ -231,13 +231,13 @@ refused (stop j q) k p n n′ s s′ d d′ c c′ rooms h =
     let y : q ≡ p = cc in
     rw (x, y)
 
-done : (g : Got Described) (i m : ℕ) (a : ℤ) (n′ : List ℕ) (s′ : List Float) (d′ c′ : List ℤ) (rooms : Rooms)
+done : (g : Got Described) (i m : ℕ) (a : ℤ) (n′ : List ℕ) (s′ : List Float) (d′ c′ : List ℤ) (rooms : ListRooms)
     → ListLeft g (ReadAnswer.Done i m a) (replicate (rooms .counts) 0) n′ (replicate (rooms .starts) zeroF32) s′ (replicate (rooms .deltas) (pos 0)) d′ (replicate (rooms .coefficients) (pos 0)) c′
     → leaves (ReadAnswer.Done i m a) n′ s′ d′ c′ ≡ outcome rooms g
 done (stop j q) i m a n′ s′ d′ c′ rooms h = cc
 done (got (described b zs ns ds cs) l) i m a n′ s′ d′ c′ rooms h =
     let x : i ≡ length ns = cc (h .0) in
-    let y : m ≡ sum ns = cc (h .0) in
+    let y : m ≡ pointsOf ns = cc (h .0) in
     let w : a ≡ b = cc (h .0) in
     rw (
       h .1,
@@ -248,7 +248,7 @@ done (got (described b zs ns ds cs) l) i m a n′ s′ d′ c′ rooms h =
       y,
       w,
       drop-replicate {A = ℕ} (length ns) (rooms .counts) 0,
-      drop-replicate (length (map whole zs)) (rooms .starts) zeroF32,
+      drop-replicate (length (map f32Of zs)) (rooms .starts) zeroF32,
       drop-replicate (length ds) (rooms .deltas) (pos 0),
       drop-replicate (length cs) (rooms .coefficients) (pos 0),
     )
@@ -275,7 +275,7 @@ module _ (configured pixels limit : ℕ) (el : limit ≡ limitOf configured pixe
       → length n′ ≡ length wn → length s′ ≡ length ws → length d′ ≡ length wd → length c′ ≡ length wc → Wiped n′ n″ s′ s″ d′ d″ c′ c″
       → leaves (ReadAnswer.Refused k p) n″ s″ d″ c″ ≡ readOutcome configured pixels (roomsOf n s d c) list
   read-refused k p n′ n″ s′ s″ d′ d″ c′ c″ h ln ls ld lc v =
-      rw (v .counts, v .starts, v .deltas, v .coefficients, ln ∙ ap Rooms.counts same, ls ∙ ap Rooms.starts same, ld ∙ ap Rooms.deltas same, lc ∙ ap Rooms.coefficients same)
+      rw (v .counts, v .starts, v .deltas, v .coefficients, ln ∙ ap ListRooms.counts same, ls ∙ ap ListRooms.starts same, ld ∙ ap ListRooms.deltas same, lc ∙ ap ListRooms.coefficients same)
       (refused (readOf (limitOf configured pixels) (roomsOf n s d c) list) k p wn n′ ws s′ wd d′ wc c′ (roomsOf n s d c) (rw (same, el) at h))
 
 -- Assumes nothing.

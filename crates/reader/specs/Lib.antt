@@ -1,4 +1,4 @@
 -- The definitions of the crate `reader`.
 pub mod Read
 pub mod Rest
-pub mod Given
+pub mod Refusals

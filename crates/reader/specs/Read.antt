@@ -5,8 +5,8 @@ use lib.ListN.{length, replicate}
 use lib.IntN.{ℤ, pos}
 use lib.Ieee.{Float}
 use Rattle.codes.specs.Codes.{numberOf}
-use Rattle.list.specs.List.{Got, got, stop, Rooms, Described, described, sum, limitOf, readOf}
-use Rattle.list.specs.Steps.{whole, zeroF32}
+use Rattle.list.specs.List.{Got, got, stop, ListRooms, Described, described, pointsOf, limitOf, readOf}
+use Rattle.list.specs.Steps.{f32Of, zeroF32}
 use Rattle.reader.specs.declared.ReadAnswer.{ReadAnswer}
 
 -- an answer in the terms of the table of codes: the code's number, the place, and the counts
@@ -34,7 +34,7 @@ pub record Outcome : Type 0 where
 abbrev pub leaves : ReadAnswer → List ℕ → List Float → List ℤ → List ℤ → Outcome
 leaves r ns zs ds cs = record { answer = r; told = toldOf r; counts = ns; starts = zs; deltas = ds; coefficients = cs }
 
-abbrev pub roomsOf : List ℕ → List Float → List ℤ → List ℤ → Rooms
+abbrev pub roomsOf : List ℕ → List Float → List ℤ → List ℤ → ListRooms
 roomsOf ns zs ds cs = record { counts = length ns; starts = length zs; deltas = length ds; coefficients = length cs }
 
 -- n cells: the values, and zeros after them
@@ -42,12 +42,12 @@ abbrev pub padded : {A : Type 0} → ℕ → A → List A → List A
 padded n zero vs = vs ++ replicate (n - length vs) zero
 
 -- what was read, or a refusal with every cell zero
-abbrev pub outcome : Rooms → Got Described → Outcome
+abbrev pub outcome : ListRooms → Got Described → Outcome
 outcome rooms (got (described a zs ns ds cs) l) = record {
-  answer = ReadAnswer.Done (length ns) (sum ns) a;
-  told = record { number = 0; place = 0; splines = length ns; points = sum ns; adjustment = a };
+  answer = ReadAnswer.Done (length ns) (pointsOf ns) a;
+  told = record { number = 0; place = 0; splines = length ns; points = pointsOf ns; adjustment = a };
   counts = padded (rooms .counts) 0 ns;
-  starts = padded (rooms .starts) zeroF32 (map whole zs);
+  starts = padded (rooms .starts) zeroF32 (map f32Of zs);
   deltas = padded (rooms .deltas) (pos 0) ds;
   coefficients = padded (rooms .coefficients) (pos 0) cs;
 }
@@ -61,5 +61,5 @@ outcome rooms (stop c p) = record {
 }
 
 -- the outcome of reading a list
-abbrev pub readOutcome : ℕ → ℕ → Rooms → List ℕ → Outcome
+abbrev pub readOutcome : ℕ → ℕ → ListRooms → List ℕ → Outcome
 readOutcome configured pixels rooms list = outcome rooms (readOf (limitOf configured pixels) rooms list)

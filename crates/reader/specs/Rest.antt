@@ -5,21 +5,21 @@ use Prim.Native.Nat.{ℕ}
 use lib.ListN.{length, replicate}
 use lib.IntN.{ℤ, pos}
 use lib.Ieee.{Float}
-use Rattle.list.specs.List.{Got, got, stop, Described, described, sum}
-use Rattle.list.specs.Steps.{whole, zeroF32}
+use Rattle.list.specs.List.{Got, got, stop, Described, described, pointsOf}
+use Rattle.list.specs.Steps.{f32Of, zeroF32}
 use Rattle.read_steps.specs.Steps.{Front}
 use Rattle.reader.specs.declared.ReadAnswer.{ReadAnswer}
 
 -- what follows the starts
 abbrev pub RestLeft : Got Described → ReadAnswer → List ℕ → List ℕ → List ℤ → List ℤ → List ℤ → List ℤ → Type 0
 RestLeft (got (described a zs ns ds cs) l) r n n′ d d′ c c′ =
-    (r ≡ ReadAnswer.Done (length ns) (sum ns) a) × Front ns n n′ × Front ds d d′ × Front cs c c′
+    (r ≡ ReadAnswer.Done (length ns) (pointsOf ns) a) × Front ns n n′ × Front ds d d′ × Front cs c c′
 RestLeft (stop k p) r n n′ d d′ c c′ = r ≡ ReadAnswer.Refused k p
 
 -- the whole list
 abbrev pub ListLeft : Got Described → ReadAnswer → List ℕ → List ℕ → List Float → List Float → List ℤ → List ℤ → List ℤ → List ℤ → Type 0
 ListLeft (got (described a zs ns ds cs) l) r n n′ s s′ d d′ c c′ =
-    (r ≡ ReadAnswer.Done (length ns) (sum ns) a) × Front ns n n′ × Front (map whole zs) s s′ × Front ds d d′ × Front cs c c′
+    (r ≡ ReadAnswer.Done (length ns) (pointsOf ns) a) × Front ns n n′ × Front (map f32Of zs) s s′ × Front ds d d′ × Front cs c c′
 ListLeft (stop k p) r n n′ s s′ d d′ c c′ = r ≡ ReadAnswer.Refused k p
 
 -- zeros in every cell of the four buffers

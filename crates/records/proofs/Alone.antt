@@ -19,7 +19,7 @@ use Rattle.shade.specs.Shade.{shaded}
 use Rattle.draw.specs.declared.DrawAnswer.the-variants.{Done, Refused}
 use Rattle.draw.specs.Draw.{between, count, spanGood, three, Channels, leaves}
 use Rattle.draw.proofs.Columns.{ranged, count-columns, draw-columns}
-use Rattle.records.specs.Records.{zeroSegment, recordOf, recordsOf, drawnAlone, judgeRecord, drawAlone, drawRecordOf}
+use Rattle.records.specs.Records.{zeroSegment, recordOf, recordsOf, drawnChannelAlone, judgeRecord, drawAlone, drawRecordOf}
 use Rattle.records.proofs.Fills.{length-listFrom, listFrom-at}
 
 module _ (s : Segment) (x0 n : ℕ) (r : Range) (q : r ≡ columnsOf s) (h : x0 + n ≤ 2 ^ 23) where
@@ -27,7 +27,7 @@ module _ (s : Segment) (x0 n : ℕ) (r : Range) (q : r ≡ columnsOf s) (h : x0 
   unfolding segmentAt
   count-alone k e = count-columns (eightOf s) 0 x0 n k s r refl q h e
 
-  pub columns-alone : (c y : ℕ) (xs ys : List Float) → ys ≡ edit (ranged (λ x v. shaded s y x c v) (r .first) (r .past) x0 n) xs → ys ≡ drawnAlone c s y x0 n xs
+  pub columns-alone : (c y : ℕ) (xs ys : List Float) → ys ≡ edit (ranged (λ x v. shaded s y x c v) (r .first) (r .past) x0 n) xs → ys ≡ drawnChannelAlone c s y x0 n xs
   unfolding segmentAt
   columns-alone c y xs ys e = draw-columns c (eightOf s) 0 y x0 n s r xs ys refl q h e
 
@@ -45,7 +45,7 @@ module _ (known : Bool) (s : Segment) (y x0 n : ℕ) (a : Channels) where
   no-span e l g = rw (e, lt-ltb y (2 ^ 23) l, g) refl
 
   pub drawn-alone : {k : ℕ} {z0 z1 z2 : List Float} → known ≡ true → y < 2 ^ 23 → spanGood x0 n (length (a .r0)) (length (a .r1)) (length (a .r2)) ≡ true → k ≡ count (hasColumn s) x0 n
-      → z0 ≡ drawnAlone 0 s y x0 n (a .r0) → z1 ≡ drawnAlone 1 s y x0 n (a .r1) → z2 ≡ drawnAlone 2 s y x0 n (a .r2) → leaves (Done k) (three z0 z1 z2) ≡ drawAlone known s y x0 n a
+      → z0 ≡ drawnChannelAlone 0 s y x0 n (a .r0) → z1 ≡ drawnChannelAlone 1 s y x0 n (a .r1) → z2 ≡ drawnChannelAlone 2 s y x0 n (a .r2) → leaves (Done k) (three z0 z1 z2) ≡ drawAlone known s y x0 n a
   unfolding judgeRecord
   drawn-alone e l g p q0 q1 q2 = rw (p, q0, q1, q2) (rw (e, lt-ltb y (2 ^ 23) l, g) refl)
 

@@ -10,7 +10,7 @@ use Rattle.codes.specs.declared.Code.{Code}
 use Rattle.segments.specs.declared.Segment.{Segment}
 use Rattle.segments.specs.Segment.{segmentAt}
 use Rattle.segments.specs.Ranges.{hasColumn}
-use Rattle.shade.specs.Edit.{edit, below}
+use Rattle.shade.specs.Edit.{edit, firstCells}
 use Rattle.shade.specs.Shade.{shaded}
 use Rattle.draw.specs.declared.Verdict.{Verdict}
 use Rattle.draw.specs.declared.Verdict.the-variants.{Fine, Fault}
@@ -46,8 +46,8 @@ recordsOf xs c n = listFrom (recordOf xs c) 0 n
 -- ---- one record drawn
 
 -- a channel of colour c, lent from column x0 on, with the segment added to those of n pixels of row y whose columns it has
-abbrev pub drawnAlone : ℕ → Segment → ℕ → ℕ → ℕ → List Float → List Float
-drawnAlone c s y x0 n xs = edit (below n (λ k v. cond (hasColumn s (x0 + k)) (shaded s y (x0 + k) c v) v)) xs
+abbrev pub drawnChannelAlone : ℕ → Segment → ℕ → ℕ → ℕ → List Float → List Float
+drawnChannelAlone c s y x0 n xs = edit (firstCells n (λ k v. cond (hasColumn s (x0 + k)) (shaded s y (x0 + k) c v) v)) xs
 
 -- a number that names no record is TABLE, a row that no image has ROW, and n pixels that no image or channel has SPAN
 unfoldable pub judgeRecord : Bool → ℕ → ℕ → ℕ → ℕ → ℕ → ℕ → Verdict
@@ -57,7 +57,7 @@ judgeRecord known y x0 n l0 l1 l2 =
 -- the updates and the drawn channels, or a refusal at place 0 and the channels as they were
 abbrev pub outcomeAlone : Verdict → Segment → ℕ → ℕ → ℕ → Channels → DrawOutcome
 outcomeAlone Fine s y x0 n a =
-    leaves (Done (count (hasColumn s) x0 n)) (three (drawnAlone 0 s y x0 n (a .r0)) (drawnAlone 1 s y x0 n (a .r1)) (drawnAlone 2 s y x0 n (a .r2)))
+    leaves (Done (count (hasColumn s) x0 n)) (three (drawnChannelAlone 0 s y x0 n (a .r0)) (drawnChannelAlone 1 s y x0 n (a .r1)) (drawnChannelAlone 2 s y x0 n (a .r2)))
 outcomeAlone (Fault c) s y x0 n a = leaves (Refused c 0) a
 
 abbrev pub drawAlone : Bool → Segment → ℕ → ℕ → ℕ → Channels → DrawOutcome

@@ -11,7 +11,7 @@ use Rattle.dequantize.specs.Coefficients.{table}
 use Rattle.dequantize.specs.Judge.{Description, descriptionOf}
 use Rattle.dequantize.proofs.Tables.{length-table}
 use Rattle.table.specs.declared.BuildAnswer.{BuildAnswer}
-use Rattle.table.specs.Table.{Rooms, Image, imageOf, Table, buildOf}
+use Rattle.table.specs.Table.{BuildRooms, Setting, settingOf, BuildOutcome, buildOf}
 use Rattle.stored.specs.Stored.{floatIn, signedIn}
 use Rattle.replay_build.specs.Built.{part, AnswerAgrees, BuildAgrees, lent, imageIn, floatsIn, signedsIn, descriptionIn}
 
@@ -26,7 +26,7 @@ taken g N n p e l =
 
 module _ (input output : List ℕ) where
   -- a table agrees with the case
-  abbrev Agrees : Table → Type 0
+  abbrev Agrees : BuildOutcome → Type 0
   Agrees t = BuildAgrees t (getD input 1 0) output
 
   -- a description agrees with the case, in the image of the case and the rooms that are lent
@@ -34,11 +34,11 @@ module _ (input output : List ℕ) where
   Described d = Agrees (buildOf d (imageIn input) lent)
 
   pub image-is : {a : ℤ} {x b : Float} → a ≡ signedIn input 8 → x ≡ floatIn input 2 → b ≡ floatIn input 3
-      → imageOf a (getD input 0 0) (getD input 1 0) x b (imageIn input .high) (imageIn input .level10) ≡ imageIn input
-  image-is p q r = λ i. imageOf (p i) (getD input 0 0) (getD input 1 0) (q i) (r i) (imageIn input .high) (imageIn input .level10)
+      → settingOf a (getD input 0 0) (getD input 1 0) x b (imageIn input .high) (imageIn input .level10) ≡ imageIn input
+  image-is p q r = λ i. settingOf (p i) (getD input 0 0) (getD input 1 0) (q i) (r i) (imageIn input .high) (imageIn input .level10)
 
-  pub built-agrees : (d : Description) {t : Table} {i : Image} {r : Rooms} → t ≡ buildOf d i r → i ≡ imageIn input → r ≡ lent → Agrees t → Described d
-  built-agrees d {t} {i} {r} p q l a = subst Agrees (p ∙ ap (λ (v : Image). buildOf d v r) q ∙ ap (buildOf d (imageIn input)) l) a
+  pub built-agrees : (d : Description) {t : BuildOutcome} {i : Setting} {r : BuildRooms} → t ≡ buildOf d i r → i ≡ imageIn input → r ≡ lent → Agrees t → Described d
+  built-agrees d {t} {i} {r} p q l a = subst Agrees (p ∙ ap (λ (v : Setting). buildOf d v r) q ∙ ap (buildOf d (imageIn input)) l) a
 
   pub words-agree : (counts starts deltas coefficients : List ℕ) {x : List Float} {y z : List ℤ} → x ≡ table (floatIn starts) 16 → y ≡ table (signedIn deltas) 2048 → z ≡ table (signedIn coefficients) 1024
       → Described (descriptionOf counts (take (length starts) x) (take (length deltas) y) (take (length coefficients) z))

@@ -12,7 +12,7 @@ use Rattle.dequantize.specs.Coefficients.{table}
 use Rattle.dequantize.specs.Judge.{Description, descriptionOf}
 use Rattle.table.specs.declared.BuildAnswer.{BuildAnswer}
 use Rattle.table.specs.declared.BuildAnswer.the-variants.{Done, Refused}
-use Rattle.table.specs.Table.{Rooms, Image, imageOf, Table}
+use Rattle.table.specs.Table.{BuildRooms, Setting, settingOf, BuildOutcome}
 use Rattle.stored.specs.Stored.{floatIn, signedIn, longIn, refusalWord, Begins, BeginsWith}
 
 -- the words from a up to b
@@ -48,13 +48,13 @@ AnswerAgrees (Refused code place) height segments starts entries output = Refusa
 AnswerAgrees (Done count listed estimate) height segments starts entries output = TableAgrees count listed estimate height segments starts entries output
 
 -- what a build answers, and leaves in the segments, the row starts and the entries
-abbrev pub BuildAgrees : Table → ℕ → List ℕ → Type 0
+abbrev pub BuildAgrees : BuildOutcome → ℕ → List ℕ → Type 0
 BuildAgrees t height output = AnswerAgrees (t .answer) height (t .segments) (t .starts) (t .entries) output
 
 -- ---- the input
 
 -- what is lent
-abbrev pub lent : Rooms
+abbrev pub lent : BuildRooms
 lent = record {
   path = 256;
   walk = 2048;
@@ -63,9 +63,9 @@ lent = record {
   entries = 512;
 }
 
-abbrev pub imageIn : List ℕ → Image
+abbrev pub imageIn : List ℕ → Setting
 imageIn input =
-    imageOf (signedIn input 8) (getD input 0 0) (getD input 1 0) (floatIn input 2) (floatIn input 3) (eqb (getD input 4 0) 1) (eqb (getD input 5 0) 1)
+    settingOf (signedIn input 8) (getD input 0 0) (getD input 1 0) (floatIn input 2) (floatIn input 3) (eqb (getD input 4 0) 1) (eqb (getD input 5 0) 1)
 
 -- the starts among 16 cells, and signed numbers among so many
 abbrev pub floatsIn : List ℕ → List Float

@@ -12,8 +12,8 @@ use lib.IntN.{ℤ, pos}
 use lib.Ieee.{Float}
 use borrow.Author.Tests.{le-ltb}
 use Rattle.codes.specs.declared.Code.the-variants.{Room}
-use Rattle.list.specs.List.{Rooms, Got, got, stop, Described, described, limitOf, sum, readOf, listOf}
-use Rattle.list.specs.Steps.{whole, zeroF32}
+use Rattle.list.specs.List.{ListRooms, Got, got, stop, Described, described, limitOf, pointsOf, readOf, listOf}
+use Rattle.list.specs.Steps.{f32Of, zeroF32}
 use Rattle.list.proofs.RoundTrip.{Holds, written-is-read, read-is-written, read-is-valid}
 use Rattle.reader.specs.Read.{Outcome, padded, readOutcome}
 use Rattle.reader.specs.Read as reading
@@ -27,7 +27,7 @@ use Rattle.write_laws.specs.Floats.{Floats}
 use Rattle.write_laws.proofs.Accepts.{fine-valid, valid-fine, wholes-back, floats-back}
 
 -- rooms that hold a description
-pub record Enough (rooms : Rooms) (ns : List ℕ) (ss : List Float) (ds cs : List ℤ) : Type 0 where
+pub record Enough (rooms : ListRooms) (ns : List ℕ) (ss : List Float) (ds cs : List ℤ) : Type 0 where
   pub counts : length ns ≤ rooms .counts
   pub starts : length ss ≤ rooms .starts
   pub deltas : length ds ≤ rooms .deltas
@@ -78,8 +78,8 @@ module _ (ns : List ℕ) (ss : List Float) (ds cs : List ℤ) (a : ℤ) (configu
 -- the description that a list was written from is read from it, every number, with rooms exact or larger
 pub written-then-read : (ns : List ℕ) (ss : List Float) (ds cs : List ℤ) (a : ℤ) (configured pixels room : ℕ) (o : WriteOutcome) (n : ℕ)
     → Floats ss → o ≡ writeOf ns ss ds cs a configured pixels room → o .answer ≡ WriteAnswer.Done n
-    → (rooms : Rooms) → Enough rooms ns ss ds cs → (q : Outcome) → q ≡ readOutcome configured pixels rooms (take n (o .list))
-    → q ≡ reading.leaves (ReadAnswer.Done (length ns) (sum ns) a) (padded (rooms .counts) 0 ns) (padded (rooms .starts) zeroF32 ss)
+    → (rooms : ListRooms) → Enough rooms ns ss ds cs → (q : Outcome) → q ≡ readOutcome configured pixels rooms (take n (o .list))
+    → q ≡ reading.leaves (ReadAnswer.Done (length ns) (pointsOf ns) a) (padded (rooms .counts) 0 ns) (padded (rooms .starts) zeroF32 ss)
     (padded (rooms .deltas) (pos 0) ds) (padded (rooms .coefficients) (pos 0) cs)
 unfolding valuesOf
 written-then-read ns ss ds cs a configured pixels room o n f p e rooms h q r =
@@ -97,7 +97,7 @@ written-then-read ns ss ds cs a configured pixels room o n f p e rooms h q r =
 
 -- ---- what is read is written
 
-pub record Taken (limit : ℕ) (rooms : Rooms) (l : List ℕ) (q : Outcome) (s p : ℕ) (a : ℤ) : Type 0 where
+pub record Taken (limit : ℕ) (rooms : ListRooms) (l : List ℕ) (q : Outcome) (s p : ℕ) (a : ℤ) : Type 0 where
   pub zs : List ℤ
   pub ns : List ℕ
   pub ds : List ℤ
@@ -105,13 +105,13 @@ pub record Taken (limit : ℕ) (rooms : Rooms) (l : List ℕ) (q : Outcome) (s p
   pub rest : List ℕ
   pub got-it : readOf limit rooms l ≡ got (described a zs ns ds cs) rest
   pub splines : s ≡ length ns
-  pub points : p ≡ sum ns
+  pub points : p ≡ pointsOf ns
   pub counts : q .counts ≡ padded (rooms .counts) 0 ns
-  pub starts : q .starts ≡ padded (rooms .starts) zeroF32 (map whole zs)
+  pub starts : q .starts ≡ padded (rooms .starts) zeroF32 (map f32Of zs)
   pub deltas : q .deltas ≡ padded (rooms .deltas) (pos 0) ds
   pub coefficients : q .coefficients ≡ padded (rooms .coefficients) (pos 0) cs
 
-pub done-read : (configured pixels : ℕ) (rooms : Rooms) (l : List ℕ) (q : Outcome) (s p : ℕ) (a : ℤ) → q ≡ readOutcome configured pixels rooms l
+pub done-read : (configured pixels : ℕ) (rooms : ListRooms) (l : List ℕ) (q : Outcome) (s p : ℕ) (a : ℤ) → q ≡ readOutcome configured pixels rooms l
     → q .answer ≡ ReadAnswer.Done s p a → Taken (limitOf configured pixels) rooms l q s p a
 done-read configured pixels rooms l q s p a r e =
     go (readOf (limitOf configured pixels) rooms l) refl r (sym (ap (λ (u : Outcome). u .answer) r) ∙ e)
@@ -121,7 +121,7 @@ done-read configured pixels rooms l q s p a r e =
     go (stop c k) g r e = let z : _≡_ {A = ℕ} 0 1 = cc in absurd (omega arith)
     go (got (described b zs ns ds cs) rest) g r e =
         let x : length ns ≡ s = cc in
-        let y : sum ns ≡ p = cc in
+        let y : pointsOf ns ≡ p = cc in
         let z : b ≡ a = cc in
         record {
           zs = zs;
@@ -139,7 +139,7 @@ done-read configured pixels rooms l q s p a r e =
         }
 
 -- the list that a description was read from is written from it, every value, and zeros after it
-pub read-then-written : (configured pixels : ℕ) (rooms : Rooms) (l : List ℕ) (q : Outcome) (s p : ℕ) (a : ℤ) → q ≡ readOutcome configured pixels rooms l
+pub read-then-written : (configured pixels : ℕ) (rooms : ListRooms) (l : List ℕ) (q : Outcome) (s p : ℕ) (a : ℤ) → q ≡ readOutcome configured pixels rooms l
     → q .answer ≡ ReadAnswer.Done s p a → (room : ℕ) → length l ≤ room → (o : WriteOutcome)
     → o ≡ writeOf (take s (q .counts)) (take (2 * s) (q .starts)) (take (2 * p) (q .deltas)) (take (128 * s) (q .coefficients)) a configured pixels room
     → o ≡ leaves (WriteAnswer.Done (length l)) (l ++ replicate (room - length l) 0)
@@ -149,9 +149,9 @@ read-then-written configured pixels rooms l q s p a r e room h o w =
     let limit = limitOf configured pixels in
     let v = read-is-valid limit rooms l a (t .zs) (t .ns) (t .ds) (t .cs) (t .rest) (t .got-it) in
     let list = read-is-written limit rooms l a (t .zs) (t .ns) (t .ds) (t .cs) (t .rest) (t .got-it) in
-    let ss = map whole (t .zs) in
+    let ss = map f32Of (t .zs) in
     let ns-is : take s (q .counts) ≡ t .ns = ap (take s) (t .counts) ∙ take-at (t .ns) _ s (sym (t .splines)) in
-    let ss-is : take (2 * s) (q .starts) ≡ ss = ap (take (2 * s)) (t .starts) ∙ take-at ss _ (2 * s) (length-map (t .zs) whole ∙ omega (arith, v .starts, t .splines)) in
+    let ss-is : take (2 * s) (q .starts) ≡ ss = ap (take (2 * s)) (t .starts) ∙ take-at ss _ (2 * s) (length-map (t .zs) f32Of ∙ omega (arith, v .starts, t .splines)) in
     let ds-is : take (2 * p) (q .deltas) ≡ t .ds = ap (take (2 * p)) (t .deltas) ∙ take-at (t .ds) _ (2 * p) (omega (arith, v .deltas, t .points)) in
     let cs-is : take (128 * s) (q .coefficients) ≡ t .cs
     = ap (take (128 * s)) (t .coefficients) ∙ take-at (t .cs) _ (128 * s) (omega (arith, v .coefficients, t .splines)) in

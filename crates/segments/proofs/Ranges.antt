@@ -14,7 +14,7 @@ use lib.Ieee.Positive.{num, den}
 use Rattle.numbers.specs.Whole.{half}
 use Rattle.numbers.proofs.Zero.{two-to, null}
 use Rattle.numbers.proofs.Wholes.{half-id, half-nil, digits}
-use Rattle.segments.specs.Ranges.{Bound, under, at, over, rounded, positive, clip, past, rowPastOf, columnPastOf, beginsBy, lastsTo, hasRow, hasColumn, rowFirst, rowPast, columnFirst, columnPast}
+use Rattle.segments.specs.Ranges.{Bound, under, at, over, rounded, orZero, clip, past, rowPastOf, columnPastOf, beginsBy, lastsTo, hasRow, hasColumn, rowFirst, rowPast, columnFirst, columnPast}
 use Rattle.segments.specs.declared.Segment.{Segment}
 
 -- ---- half-away rounding of a fraction, against a whole number
@@ -248,7 +248,7 @@ row-past-above (fin false m e) a b = absurd (some (m * up e) (down e) (nltb→le
     some n d h k = omega arith
 
 -- the limit and above: nothing, at either limit
-past-none : (h : ℕ) (x : Float) → T (not (lt x (two-to h))) → T (not (ne x x)) → 0 ≡ past (2 ^ h) (positive (rounded x))
+past-none : (h : ℕ) (x : Float) → T (not (lt x (two-to h))) → T (not (ne x x)) → 0 ≡ past (2 ^ h) (orZero (rounded x))
 unfolding lt ne eq rounded
 past-none h nan a b = absurd b
 past-none h (inf true) a b = absurd a
@@ -272,7 +272,7 @@ pub row-past-none : (x : Float) → T (not (lt x (two-to 63))) → T (not (ne x 
 unfolding rowPastOf
 row-past-none x a b = past-none 63 x a b ∙ same (rounded x) (past-none 63 x a b)
   where
-    same : (r : Bound) → 0 ≡ past (2 ^ 63) (positive r) → past (2 ^ 63) (positive r) ≡ past (2 ^ 63) r
+    same : (r : Bound) → 0 ≡ past (2 ^ 63) (orZero r) → past (2 ^ 63) (orZero r) ≡ past (2 ^ 63) r
     same under h = absurd (go h)
       where
         go : _≡_ {A = ℕ} 0 1 → ⊥
@@ -305,14 +305,14 @@ nan-past (fin s m e) a = absurd (self s (m * up e * down e) a)
         both false t = t
 
 -- below 2 ^ 64
-column-some : (x : Float) → T (fits binary32 x) → T (lt x (two-to 64)) → suc (clip (rounded x)) ≡ past (2 ^ 64) (positive (rounded x))
+column-some : (x : Float) → T (fits binary32 x) → T (lt x (two-to 64)) → suc (clip (rounded x)) ≡ past (2 ^ 64) (orZero (rounded x))
 unfolding lt rounded
 column-some nan F a = absurd a
 column-some (inf true) F a = refl
 column-some (inf false) F a = absurd a
 column-some (fin true m e) F a = left (half (m * up e) (down e))
   where
-    left : (h : ℕ) → suc (clip (at (negℤ (pos h)))) ≡ past (2 ^ 64) (positive (at (negℤ (pos h))))
+    left : (h : ℕ) → suc (clip (at (negℤ (pos h)))) ≡ past (2 ^ 64) (orZero (at (negℤ (pos h))))
     left zero = refl
     left (suc h) = refl
 column-some (fin false m e) F a = limit-yes (half (m * up e) (down e)) (2 ^ 64) (under-limit 64 m e (lit≤ tt) F a)
@@ -356,7 +356,7 @@ lasts limit (at (negsuc n)) y h = sym (leb·suc-zero y)
 lasts limit over y h = sym (leb·suc-zero y)
 
 -- the clip of R0 is that of R
-clip-positive : (b : Bound) → clip (positive b) ≡ clip b
+clip-positive : (b : Bound) → clip (orZero b) ≡ clip b
 clip-positive under = refl
 clip-positive (at (pos n)) = refl
 clip-positive (at (negsuc n)) = refl
@@ -373,8 +373,8 @@ pub has-column : (s : Segment) (x : ℕ) → x < 2 ^ 24 → hasColumn s x ≡ le
 unfolding hasColumn columnPastOf
 has-column s x h =
     let l = rounded (sub binary32 (s .«center_x») (s .«maximum_distance»)) in
-    let a = begins (positive l) x h in
-    let b = lasts (2 ^ 64) (positive (rounded (add binary32 (s .«center_x») (s .«maximum_distance»)))) x h in
+    let a = begins (orZero l) x h in
+    let b = lasts (2 ^ 64) (orZero (rounded (add binary32 (s .«center_x») (s .«maximum_distance»)))) x h in
     rw (a, b, clip-positive l)
 
 -- Assumes nothing.

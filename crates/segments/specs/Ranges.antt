@@ -23,11 +23,11 @@ rounded (inf s) = cond s under over
 rounded (fin s m e) = at (cond s (negℤ (pos (half (m * up e) (down e)))) (pos (half (m * up e) (down e))))
 
 -- R0: negatives made 0
-abbrev pub positive : Bound → Bound
-positive under = at (pos 0)
-positive (at (pos n)) = at (pos n)
-positive (at (negsuc n)) = at (pos 0)
-positive over = over
+abbrev pub orZero : Bound → Bound
+orZero under = at (pos 0)
+orZero (at (pos n)) = at (pos n)
+orZero (at (negsuc n)) = at (pos 0)
+orZero over = over
 
 abbrev pub beginsBy : Bound → ℕ → Bool
 beginsBy under y = true
@@ -48,8 +48,8 @@ hasRow s y =
 
 unfoldable pub hasColumn : Segment → ℕ → Bool
 hasColumn s x =
-    beginsBy (positive (rounded (s .«center_x» ⊖ s .«maximum_distance»))) x
-    && lastsTo (2 ^ 64) (positive (rounded (s .«center_x» ⊕ s .«maximum_distance»))) x
+    beginsBy (orZero (rounded (s .«center_x» ⊖ s .«maximum_distance»))) x
+    && lastsTo (2 ^ 64) (orZero (rounded (s .«center_x» ⊕ s .«maximum_distance»))) x
 
 -- ---- the same as half-open ranges of whole numbers, cut at 2^24, which no image reaches
 
@@ -69,7 +69,7 @@ unfoldable pub rowPastOf : Float → ℕ
 rowPastOf x = past (2 ^ 63) (rounded x)
 
 unfoldable pub columnPastOf : Float → ℕ
-columnPastOf x = past (2 ^ 64) (positive (rounded x))
+columnPastOf x = past (2 ^ 64) (orZero (rounded x))
 
 abbrev pub rowFirst : Segment → ℕ
 rowFirst s = clip (rounded (s .«center_y» ⊖ s .«maximum_distance»))

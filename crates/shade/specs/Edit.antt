@@ -15,8 +15,8 @@ unfoldable pub edit : (ℕ → Float → Float) → List Float → List Float
 edit f xs = editFrom f 0 xs
 
 -- f at the cells below n, and nothing at the others
-abbrev pub below : ℕ → (ℕ → Float → Float) → ℕ → Float → Float
-below n f k v = cond (ltb k n) (f k v) v
+abbrev pub firstCells : ℕ → (ℕ → Float → Float) → ℕ → Float → Float
+firstCells n f k v = cond (ltb k n) (f k v) v
 
 -- whether k is one of the n numbers from a on
 abbrev pub inside : ℕ → ℕ → ℕ → Bool

@@ -46,8 +46,8 @@ shaded s y x c v = shade s y x c ⊕ v
 
 -- ---- the same by what the code has at hand: the distance, or the square of the distance in y
 
-unfoldable pub addedAt : Segment → Float → ℕ → Float → Float
-addedAt s distance c v = colorOf s c ⊗ intensityAt s distance ⊕ v
+unfoldable pub shadedByDistance : Segment → Float → ℕ → Float → Float
+shadedByDistance s distance c v = colorOf s c ⊗ intensityAt s distance ⊕ v
 
-abbrev pub added : Segment → Float → ℕ → ℕ → Float → Float
-added s dy2 x c v = addedAt s (sqrtOf binary32 (sqd (s .«center_x») dy2 x)) c v
+abbrev pub shadedBySquare : Segment → Float → ℕ → ℕ → Float → Float
+shadedBySquare s dy2 x c v = shadedByDistance s (sqrtOf binary32 (sqd (s .«center_x») dy2 x)) c v

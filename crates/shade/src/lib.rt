@@ -9,8 +9,8 @@ ghost use lib.Ieee.{nan, neg, binary32, ofInt};
 ghost use Rattle.numbers.specs.Root.{sqrtOf};
 ghost use Rattle.numbers.specs.Erf.{erfCore, fastErff};
 ghost use Rattle.shade.specs.Alike.{Alike};
-ghost use Rattle.shade.specs.Edit.{edit, below};
-ghost use Rattle.shade.specs.Shade.{sqd, intensityAt, addedAt, added, shaded};
+ghost use Rattle.shade.specs.Edit.{edit, firstCells};
+ghost use Rattle.shade.specs.Shade.{sqd, intensityAt, shadedByDistance, shadedBySquare, shaded};
 use segments::Segment;
 
 // A row or a column as a float, by way of a signed number, for which the machine has a vector instruction.
@@ -24,7 +24,7 @@ fn float_of(n: u32) -> f32
 // The squares of the distances of m columns from x on.
 fn squares(v: &mut [f32; 32], m: usize, x: u32, center_x: f32, dy2: f32)
     requires { ⌜ (m ≤ 32) × (length (now v) ≡ 32) × (x + m ≤ 2 ^ 23) ⌝ }
-    ensures { λ _. ⌜ now (v .exit) ≡ edit (below m (λ k w. sqd «center_x» dy2 (x + k))) (now (v .entry)) ⌝ }
+    ensures { λ _. ⌜ now (v .exit) ≡ edit (firstCells m (λ k w. sqd «center_x» dy2 (x + k))) (now (v .entry)) ⌝ }
 {
     let mut k: usize = 0;
     while k < m {
@@ -37,7 +37,7 @@ fn squares(v: &mut [f32; 32], m: usize, x: u32, center_x: f32, dy2: f32)
 // The roots of the first m numbers.
 fn roots(v: &mut [f32; 32], m: usize, table: &[u64; 128])
     requires { ⌜ (m ≤ 32) × (length (now v) ≡ 32) ⌝ }
-    ensures { λ _. ⌜ now (v .exit) ≡ edit (below m (λ k w. sqrtOf binary32 w)) (now (v .entry)) ⌝ }
+    ensures { λ _. ⌜ now (v .exit) ≡ edit (firstCells m (λ k w. sqrtOf binary32 w)) (now (v .entry)) ⌝ }
 {
     let mut k: usize = 0;
     while k < m {
@@ -70,8 +70,8 @@ fn turned(turn: bool, x: f32) -> f32
 fn erf(x: f32) -> f32
     ensures { λ r. ⌜ Alike r (fastErff x) ⌝ }
 {
-    let below = x < 0.0;
-    turned(below, erf_core(turned(below, x)))
+    let firstCells = x < 0.0;
+    turned(firstCells, erf_core(turned(firstCells, x)))
 }
 
 // What a segment adds at a distance, before its colours.
@@ -87,9 +87,9 @@ fn intensity(segment: Segment, distance: f32) -> f32
 // Adds a segment to at most 32 pixels, by their distances.
 fn add(segment: Segment, distances: &[f32; 32], r0: &mut [f32], r1: &mut [f32], r2: &mut [f32])
     requires { ⌜ (length (now r0) ≤ 32) × (length (now r1) ≡ length (now r0)) × (length (now r2) ≡ length (now r0)) ⌝ }
-    ensures { λ _. ⌜ now (r0 .exit) ≡ edit (λ k v. addedAt segment (getD (now (distances .entry)) k nan) 0 v) (now (r0 .entry)) ⌝ }
-    ensures { λ _. ⌜ now (r1 .exit) ≡ edit (λ k v. addedAt segment (getD (now (distances .entry)) k nan) 1 v) (now (r1 .entry)) ⌝ }
-    ensures { λ _. ⌜ now (r2 .exit) ≡ edit (λ k v. addedAt segment (getD (now (distances .entry)) k nan) 2 v) (now (r2 .entry)) ⌝ }
+    ensures { λ _. ⌜ now (r0 .exit) ≡ edit (λ k v. shadedByDistance segment (getD (now (distances .entry)) k nan) 0 v) (now (r0 .entry)) ⌝ }
+    ensures { λ _. ⌜ now (r1 .exit) ≡ edit (λ k v. shadedByDistance segment (getD (now (distances .entry)) k nan) 1 v) (now (r1 .entry)) ⌝ }
+    ensures { λ _. ⌜ now (r2 .exit) ≡ edit (λ k v. shadedByDistance segment (getD (now (distances .entry)) k nan) 2 v) (now (r2 .entry)) ⌝ }
 {
     let mut k: usize = 0;
     while k < r0.len() {
@@ -112,9 +112,9 @@ fn block(
     table: &[u64; 128],
 )
     requires { ⌜ (length (now r0) ≤ 32) × (length (now r1) ≡ length (now r0)) × (length (now r2) ≡ length (now r0)) × (x + length (now r0) ≤ 2 ^ 23) ⌝ }
-    ensures { λ _. ⌜ now (r0 .exit) ≡ edit (λ k v. added segment dy2 (x + k) 0 v) (now (r0 .entry)) ⌝ }
-    ensures { λ _. ⌜ now (r1 .exit) ≡ edit (λ k v. added segment dy2 (x + k) 1 v) (now (r1 .entry)) ⌝ }
-    ensures { λ _. ⌜ now (r2 .exit) ≡ edit (λ k v. added segment dy2 (x + k) 2 v) (now (r2 .entry)) ⌝ }
+    ensures { λ _. ⌜ now (r0 .exit) ≡ edit (λ k v. shadedBySquare segment dy2 (x + k) 0 v) (now (r0 .entry)) ⌝ }
+    ensures { λ _. ⌜ now (r1 .exit) ≡ edit (λ k v. shadedBySquare segment dy2 (x + k) 1 v) (now (r1 .entry)) ⌝ }
+    ensures { λ _. ⌜ now (r2 .exit) ≡ edit (λ k v. shadedBySquare segment dy2 (x + k) 2 v) (now (r2 .entry)) ⌝ }
 {
     let m = r0.len();
     let mut v = [0.0f32; 32];

@@ -14,7 +14,7 @@ use Rattle.dequantize.specs.declared.control_points.Pair.{Pair}
 use Rattle.dequantize.specs.declared.Spline.{Spline}
 use Rattle.curve.specs.Curve as Curve
 use Rattle.curve.specs.Curve.{pathOf}
-use Rattle.walk.specs.Walk.{walkIn, lengthOf, lastMultiplier, flat}
+use Rattle.walk.specs.Walk.{walkIn, walkLength, lastMultiplier, flat}
 use Rattle.walk.proofs.Answers.{Taken, taken-last}
 use Rattle.walk.proofs.Walking.{length-flat}
 use Rattle.points.specs.Points.{addSegmentsFromPoints, filledOf, FilledOn}
@@ -26,11 +26,11 @@ use Rattle.strand.specs.Strand.{walkSegments, flatSegments, afterWalk, s
 -- ---- a walk
 
 -- by the length: none, or all
-pub flat-none : (s : Spline) (high : Bool) (walk : List Float) {l : Float} → l ≡ lengthOf (length walk / 3) (getD walk (3 * (length walk / 3) - 1) nan) → le l (f 0) ≡ true → flatSegments s high walk ≡ []
+pub flat-none : (s : Spline) (high : Bool) (walk : List Float) {l : Float} → l ≡ walkLength (length walk / 3) (getD walk (3 * (length walk / 3) - 1) nan) → le l (f 0) ≡ true → flatSegments s high walk ≡ []
 unfolding flatSegments
 flat-none s high walk e t = rw (← e, t)
 
-pub flat-all : (s : Spline) (high : Bool) (walk : List Float) {l : Float} → l ≡ lengthOf (length walk / 3) (getD walk (3 * (length walk / 3) - 1) nan) → le l (f 0) ≡ false
+pub flat-all : (s : Spline) (high : Bool) (walk : List Float) {l : Float} → l ≡ walkLength (length walk / 3) (getD walk (3 * (length walk / 3) - 1) nan) → le l (f 0) ≡ false
     → flatSegments s high walk ≡ addSegmentsFromPoints s walk l high
 unfolding flatSegments
 flat-all s high walk e t = rw (← e, t)

@@ -12,7 +12,7 @@ use Rattle.dequantize.specs.declared.Spline.{Spline}
 use Rattle.segments.specs.declared.Segment.{Segment}
 use Rattle.curve.specs.Curve as Curve
 use Rattle.curve.specs.Curve.{pathOf}
-use Rattle.walk.specs.Walk.{PointToDraw, Walk, More, Ended, walkIn, lengthOf, lastMultiplier, flat}
+use Rattle.walk.specs.Walk.{PointToDraw, Walk, More, Ended, walkIn, walkLength, lastMultiplier, flat}
 use Rattle.points.specs.declared.Filled.{Filled}
 use Rattle.points.specs.declared.Filled.the-variants.{Room}
 use Rattle.points.specs.Points.{addSegmentsFromPoints, filledOf}
@@ -20,7 +20,7 @@ use Rattle.points.specs.Points.{addSegmentsFromPoints, filledOf}
 -- the segments of points_to_draw; a length of 0 or less skips the spline
 unfoldable pub walkSegments : Spline → Bool → List PointToDraw → List Segment
 walkSegments s high points =
-    let l = lengthOf (length points) (lastMultiplier points) in
+    let l = walkLength (length points) (lastMultiplier points) in
     cond (le l (f 0)) [] (addSegmentsFromPoints s (flat points) l high)
 
 -- what a spline gives: its segments, or no room for its path or its walk
@@ -32,14 +32,10 @@ abbrev pub afterWalk : Spline → Bool → Walk → Strand
 afterWalk s high More = NoRoom
 afterWalk s high (Ended points) = Segments (walkSegments s high points)
 
-abbrev pub pickStrand : Bool → Strand → Strand
-pickStrand true s = s
-pickStrand false s = NoRoom
-
 -- the spline that begins at start and has the double deltas ds, where a path may have pathRoom points and a walk walkRoom points
 unfoldable pub strandOf : ℕ → ℕ → Pair → List ℤ → Spline → Bool → Strand
 strandOf pathRoom walkRoom start ds s high =
-    pickStrand (leb (length (pathOf start ds)) pathRoom) (afterWalk s high (walkIn walkRoom (Curve.flat (pathOf start ds))))
+    cond (leb (length (pathOf start ds)) pathRoom) (afterWalk s high (walkIn walkRoom (Curve.flat (pathOf start ds)))) NoRoom
 
 -- ---- in a lent buffer
 
@@ -56,5 +52,5 @@ strandFilled room from (Segments segs) = filledOf room from segs
 unfoldable pub flatSegments : Spline → Bool → List Float → List Segment
 flatSegments s high walk =
     let n = length walk / 3 in
-    let l = lengthOf n (getD walk (3 * n - 1) nan) in
+    let l = walkLength n (getD walk (3 * n - 1) nan) in
     cond (le l (f 0)) [] (addSegmentsFromPoints s walk l high)

@@ -11,7 +11,7 @@ use lib.ListN.{length, getD, drop, drop-of-length-le}
 use lib.Seq.{drop-cons}
 use borrow.Author.Tests.{leb-true, eqb-true, eqb-false, eq-eqb, ne-eqb}
 use Rattle.codes.specs.declared.Code.the-variants as Code
-use Rattle.dequantize.specs.Judge.{Description, Shaped, sum, judgeOf}
+use Rattle.dequantize.specs.Judge.{Description, Shaped, pointsOf, judgeOf}
 use Rattle.dequantize.specs.declared.Given.{Given}
 use Rattle.dequantize.specs.declared.judge.Judged.the-variants.{Fine}
 use Rattle.table.specs.Table.{sized, shaped, orRefused, verdictOf}
@@ -26,15 +26,15 @@ area-fits w h a b =
     omega arith
 
 -- the sum of what is left of the counts
-pub sum-turn : (ns : List ℕ) (i : ℕ) → i < length ns → sum (drop i ns) ≡ getD ns i 0 + sum (drop (i + 1) ns)
+pub sum-turn : (ns : List ℕ) (i : ℕ) → i < length ns → pointsOf (drop i ns) ≡ getD ns i 0 + pointsOf (drop (i + 1) ns)
 sum-turn ns i h = rw (add-one, drop-cons ns i 0)
 
-pub sum-end : (ns : List ℕ) (i : ℕ) → length ns ≤ i → sum (drop i ns) ≡ 0
+pub sum-end : (ns : List ℕ) (i : ℕ) → length ns ≤ i → pointsOf (drop i ns) ≡ 0
 sum-end ns i h = rw (drop-of-length-le ns h)
 
-pub sum-left : (ns : List ℕ) (points left : ℕ) → left ≤ points → 0 + (points - left) ≡ sum ns → eqb left 0 ≡ eqb (sum ns) points
-sum-left ns points zero h e = sym (eq-eqb (sum ns) points (omega arith))
-sum-left ns points (suc left) h e = ne-eqb (suc left) 0 (λ s. omega arith) ∙ sym (ne-eqb (sum ns) points (λ s. omega arith))
+pub sum-left : (ns : List ℕ) (points left : ℕ) → left ≤ points → 0 + (points - left) ≡ pointsOf ns → eqb left 0 ≡ eqb (pointsOf ns) points
+sum-left ns points zero h e = sym (eq-eqb (pointsOf ns) points (omega arith))
+sum-left ns points (suc left) h e = ne-eqb (suc left) 0 (λ s. omega arith) ∙ sym (ne-eqb (pointsOf ns) points (λ s. omega arith))
 
 -- ---- SHAPE
 
@@ -48,9 +48,9 @@ module _ (d : Description) where
   unfolding shaped
   off-starts h = rw (ne-eqb (length (d .starts)) (2 * length (d .counts)) h)
 
-  pub off-deltas : (length (d .deltas) ≡ 2 * sum (d .counts) → ⊥) → false ≡ shaped d
+  pub off-deltas : (length (d .deltas) ≡ 2 * pointsOf (d .counts) → ⊥) → false ≡ shaped d
   unfolding shaped
-  off-deltas h = simp (ne-eqb (length (d .deltas)) (2 * sum (d .counts)) h, and-false)
+  off-deltas h = simp (ne-eqb (length (d .deltas)) (2 * pointsOf (d .counts)) h, and-false)
 
   pub off-coefficients : (length (d .coefficients) ≡ 128 * length (d .counts) → ⊥) → false ≡ shaped d
   unfolding shaped
@@ -58,24 +58,24 @@ module _ (d : Description) where
 
   -- where the other lengths agree, the sum decides
   pub by-sum : (points : ℕ) → length (d .starts) ≡ 2 * length (d .counts) → length (d .coefficients) ≡ 128 * length (d .counts) → length (d .deltas) ≡ 2 * points
-      → eqb (sum (d .counts)) points ≡ shaped d
+      → eqb (pointsOf (d .counts)) points ≡ shaped d
   unfolding shaped
-  by-sum points a b e = go (eqb (sum (d .counts)) points) refl
+  by-sum points a b e = go (eqb (pointsOf (d .counts)) points) refl
     where
-      go : (t : Bool) → eqb (sum (d .counts)) points ≡ t → t ≡ shaped d
+      go : (t : Bool) → eqb (pointsOf (d .counts)) points ≡ t → t ≡ shaped d
       go true q =
-          let n : length (d .deltas) ≡ 2 * sum (d .counts) = omega (arith, eqb-true (sum (d .counts)) points q) in
-          rw (eq-eqb (length (d .starts)) (2 * length (d .counts)) a, eq-eqb (length (d .deltas)) (2 * sum (d .counts)) n, eq-eqb (length (d .coefficients)) (128 * length (d .counts)) b)
-      go false q = off-deltas (λ n. eqb-false (sum (d .counts)) points q (omega arith))
+          let n : length (d .deltas) ≡ 2 * pointsOf (d .counts) = omega (arith, eqb-true (pointsOf (d .counts)) points q) in
+          rw (eq-eqb (length (d .starts)) (2 * length (d .counts)) a, eq-eqb (length (d .deltas)) (2 * pointsOf (d .counts)) n, eq-eqb (length (d .coefficients)) (128 * length (d .counts)) b)
+      go false q = off-deltas (λ n. eqb-false (pointsOf (d .counts)) points q (omega arith))
 
   pub agreed : shaped d ≡ true → Shaped d
   unfolding shaped
   agreed e =
-      let a = both (eqb (length (d .starts)) (2 * length (d .counts))) (eqb (length (d .deltas)) (2 * sum (d .counts)) && eqb (length (d .coefficients)) (128 * length (d .counts))) e in
-      let b = both (eqb (length (d .deltas)) (2 * sum (d .counts))) (eqb (length (d .coefficients)) (128 * length (d .counts))) (a .1) in
+      let a = both (eqb (length (d .starts)) (2 * length (d .counts))) (eqb (length (d .deltas)) (2 * pointsOf (d .counts)) && eqb (length (d .coefficients)) (128 * length (d .counts))) e in
+      let b = both (eqb (length (d .deltas)) (2 * pointsOf (d .counts))) (eqb (length (d .coefficients)) (128 * length (d .counts))) (a .1) in
       record {
         starts = eqb-true (length (d .starts)) (2 * length (d .counts)) (a .0);
-        deltas = eqb-true (length (d .deltas)) (2 * sum (d .counts)) (b .0);
+        deltas = eqb-true (length (d .deltas)) (2 * pointsOf (d .counts)) (b .0);
         coefficients = eqb-true (length (d .coefficients)) (128 * length (d .counts)) (b .1);
       }
 

@@ -27,7 +27,7 @@ use Rattle.rows.specs.declared.Listed.the-variants as Listed
 use Rattle.rows.specs.Rows.{Outcome, outcome, inRow, built}
 use Rattle.rows.proofs.Table.{rest-same}
 use Rattle.table.specs.declared.BuildAnswer.the-variants.{Done, Refused}
-use Rattle.table.specs.Table.{Rooms, Image, givenOf, leaves, zeros, padded, refusedWith, verdictOf, afterRows, afterPaint, buildOf}
+use Rattle.table.specs.Table.{BuildRooms, Setting, givenOf, leaves, zeros, padded, refusedWith, verdictOf, afterRows, afterPaint, buildOf}
 
 -- ---- a buffer that is cleared behind what it keeps
 
@@ -36,7 +36,7 @@ kept o n h e = e ∙ rw (length-take-le n o h)
 
 -- ---- the rows
 
-module _ (r : Rooms) (estimate count : ℕ) (numbers : List Float) (o : Outcome) {a : Listed} {starts entries : List ℕ} (e : outcome a starts entries ≡ o) where
+module _ (r : BuildRooms) (estimate count : ℕ) (numbers : List Float) (o : Outcome) {a : Listed} {starts entries : List ℕ} (e : outcome a starts entries ≡ o) where
   pub rows-room : a ≡ Listed.Room → refusedWith r Code.Room 0 ≡ afterRows r estimate count numbers o
   rows-room q = rw (← e, q)
 
@@ -55,7 +55,7 @@ pub painted-fits : (o e : List Float) (p : Painted) → DrawnOn p o e → (n : �
 painted-fits o e (NoRoomAt k) h n q = absurd (let z : _≡_ {A = ℕ} 0 1 = cc in omega arith)
 painted-fits o e (All segs) h n q = let m : length segs ≡ n = cc in omega (arith, h .1)
 
-module _ (r : Rooms) (height estimate : ℕ) where
+module _ (r : BuildRooms) (height estimate : ℕ) where
   pub painted-none : (p : Painted) (k : ℕ) → drawnOf p ≡ Drawn.Room k → refusedWith r Code.Room k ≡ afterPaint r height estimate p
   painted-none (NoRoomAt j) k q = let m : k ≡ j = cc in ap (refusedWith r Code.Room) m
   painted-none (All segs) k q = absurd (let z : _≡_ {A = ℕ} 0 1 = cc in omega arith)
@@ -72,7 +72,7 @@ module _ (r : Rooms) (height estimate : ℕ) where
 
 -- ---- the whole build
 
-module _ (d : Description) (i : Image) (r : Rooms) {g : Given} {v : Judged} (given : g ≡ givenOf i) (e : v ≡ verdictOf d g (i .width) (i .height) (r .starts)) where
+module _ (d : Description) (i : Setting) (r : BuildRooms) {g : Given} {v : Judged} (given : g ≡ givenOf i) (e : v ≡ verdictOf d g (i .width) (i .height) (r .starts)) where
   pub build-refused : {code : Code} {k : ℕ} → v ≡ Judged.Refused code k → refusedWith r code k ≡ buildOf d i r
   unfolding buildOf
   build-refused q = rw (← given, ← e, q)

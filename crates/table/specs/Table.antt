@@ -13,7 +13,7 @@ use Rattle.dequantize.specs.declared.Given.{Given}
 use Rattle.dequantize.specs.declared.judge.Judged.{Judged}
 use Rattle.dequantize.specs.declared.judge.Judged.the-variants as Judged
 use Rattle.dequantize.specs.Limits.{splineAreaLimit}
-use Rattle.dequantize.specs.Judge.{Description, sum, judgeOf}
+use Rattle.dequantize.specs.Judge.{Description, pointsOf, judgeOf}
 use Rattle.curve.specs.Curve.{pathRoom}
 use Rattle.walk.specs.Walk.{walkRoom}
 use Rattle.points.specs.Points.{segmentRoom, eights}
@@ -27,14 +27,14 @@ use Rattle.table.specs.declared.BuildAnswer.the-variants.{Done, Refused}
 -- ---- what a build is given
 
 -- the lengths of the lent buffers
-pub record Rooms : Type 0 where
+pub record BuildRooms : Type 0 where
   pub path : ℕ
   pub walk : ℕ
   pub segments : ℕ
   pub starts : ℕ
   pub entries : ℕ
 
-abbrev pub roomsOf : List Float → List Float → List Float → List ℕ → List ℕ → Rooms
+abbrev pub roomsOf : List Float → List Float → List Float → List ℕ → List ℕ → BuildRooms
 roomsOf path walk segments starts entries = record {
   path = length path;
   walk = length walk;
@@ -44,7 +44,7 @@ roomsOf path walk segments starts entries = record {
 }
 
 -- the numbers beside the description
-pub record Image : Type 0 where
+pub record Setting : Type 0 where
   pub adjustment : ℤ
   pub width : ℕ
   pub height : ℕ
@@ -53,8 +53,8 @@ pub record Image : Type 0 where
   pub high : Bool
   pub level10 : Bool
 
-abbrev pub imageOf : ℤ → ℕ → ℕ → Float → Float → Bool → Bool → Image
-imageOf adjustment width height ytox ytob high level10 = record {
+abbrev pub settingOf : ℤ → ℕ → ℕ → Float → Float → Bool → Bool → Setting
+settingOf adjustment width height ytox ytob high level10 = record {
   adjustment = adjustment;
   width = width;
   height = height;
@@ -64,7 +64,7 @@ imageOf adjustment width height ytox ytob high level10 = record {
   level10 = level10;
 }
 
-abbrev pub givenOf : Image → Given
+abbrev pub givenOf : Setting → Given
 givenOf i = record { adjustment = i .adjustment; «y_to_x» = i .ytox; «y_to_b» = i .ytob; limit = splineAreaLimit (i .level10) (i .width * i .height) }
 
 -- ---- what a build answers and leaves
@@ -83,7 +83,7 @@ toldOf (Done s n a) = record { number = 0; place = 0; segments = s; entries = n;
 toldOf (Refused c p) = record { number = numberOf c; place = p; segments = 0; entries = 0; estimate = 0 }
 
 -- the answer, what it tells, and the five lent buffers
-pub record Table : Type 0 where
+pub record BuildOutcome : Type 0 where
   pub answer : BuildAnswer
   pub told : Told
   pub path : List Float
@@ -92,7 +92,7 @@ pub record Table : Type 0 where
   pub starts : List ℕ
   pub entries : List ℕ
 
-abbrev pub leaves : BuildAnswer → List Float → List Float → List Float → List ℕ → List ℕ → Table
+abbrev pub leaves : BuildAnswer → List Float → List Float → List Float → List ℕ → List ℕ → BuildOutcome
 leaves r path walk segments starts entries = record {
   answer = r;
   told = toldOf r;
@@ -111,7 +111,7 @@ abbrev pub padded : ℕ → List Float → List Float
 padded n xs = xs ++ zeros (n - length xs)
 
 -- every lent cell zero
-unfoldable pub refusedWith : Rooms → Code → ℕ → Table
+unfoldable pub refusedWith : BuildRooms → Code → ℕ → BuildOutcome
 refusedWith r code place =
     leaves (Refused code place) (zeros (r .path)) (zeros (r .walk)) (zeros (r .segments)) (replicate (r .starts) 0) (replicate (r .entries) 0)
 
@@ -124,7 +124,7 @@ sized width height = leb width (2 ^ 23) && leb height (2 ^ 23)
 unfoldable pub shaped : Description → Bool
 shaped d =
     eqb (length (d .starts)) (2 * length (d .counts))
-    && (eqb (length (d .deltas)) (2 * sum (d .counts)) && eqb (length (d .coefficients)) (128 * length (d .counts)))
+    && (eqb (length (d .deltas)) (2 * pointsOf (d .counts)) && eqb (length (d .coefficients)) (128 * length (d .counts)))
 
 abbrev pub orRefused : Bool → Code → Judged → Judged
 orRefused true code rest = rest
@@ -141,24 +141,24 @@ verdictOf d g width height rows =
 -- ---- the build
 
 -- ROOM for the entries, or the table of so many segments, whose numbers are given
-abbrev pub afterRows : Rooms → ℕ → ℕ → List Float → Outcome → Table
+abbrev pub afterRows : BuildRooms → ℕ → ℕ → List Float → Outcome → BuildOutcome
 afterRows r estimate count numbers o = go (o .answer)
   where
-    go : Listed → Table
+    go : Listed → BuildOutcome
     go Listed.Room = refusedWith r Code.Room 0
     go (Listed.Entries n) = leaves (Done count n estimate) (zeros (r .path)) (zeros (r .walk)) (padded (r .segments) numbers) (o .starts) (o .entries)
 
-abbrev pub afterPaint : Rooms → ℕ → ℕ → Painted → Table
+abbrev pub afterPaint : BuildRooms → ℕ → ℕ → Painted → BuildOutcome
 afterPaint r height estimate (NoRoomAt k) = refusedWith r Code.Room k
 afterPaint r height estimate (All segs) =
     afterRows r estimate (length segs) (eights segs) (built (inRow (eights segs)) (length segs) height (r .starts) (r .entries))
 
-abbrev pub afterJudge : Rooms → ℕ → Judged → Painted → Table
+abbrev pub afterJudge : BuildRooms → ℕ → Judged → Painted → BuildOutcome
 afterJudge r height (Judged.Refused code k) painted = refusedWith r code k
 afterJudge r height (Judged.Fine estimate) painted = afterPaint r height estimate painted
 
 -- the checks and all splines judged, then every spline drawn, then ROOM for the entries
-unfoldable pub buildOf : Description → Image → Rooms → Table
+unfoldable pub buildOf : Description → Setting → BuildRooms → BuildOutcome
 buildOf d i r =
     afterJudge r (i .height) (verdictOf d (givenOf i) (i .width) (i .height) (r .starts))
     (paintOf d (givenOf i) (i .high) (pathRoom (r .path)) (walkRoom (r .walk)) (segmentRoom (r .segments)))

@@ -4,13 +4,13 @@ ghost use mathlib.Core.Path.{_≡_};
 ghost use Prim.Native.Nat.{_*_, _≤_, _<_, _^_};
 ghost use lib.Dec.{eqb};
 ghost use lib.ListN.{length, take};
-ghost use Rattle.dequantize.specs.Judge.{Shaped, descriptionOf, sum};
+ghost use Rattle.dequantize.specs.Judge.{Shaped, descriptionOf, pointsOf};
 ghost use Rattle.curve.specs.Curve.{pathRoom};
 ghost use Rattle.walk.specs.Walk.{walkRoom};
 ghost use Rattle.points.specs.Points.{segmentRoom};
 ghost use Rattle.painting.specs.Painting.{Passed, paintOf};
 ghost use Rattle.rows.specs.Rows.{inRow, built};
-ghost use Rattle.table.specs.Table.{roomsOf, imageOf, givenOf, leaves, refusedWith, sized, shaped, verdictOf, afterRows, afterPaint, buildOf};
+ghost use Rattle.table.specs.Table.{roomsOf, settingOf, givenOf, leaves, refusedWith, sized, shaped, verdictOf, afterRows, afterPaint, buildOf};
 use codes::Code;
 use dequantize::Given;
 use dequantize::judge::Judged;
@@ -32,7 +32,7 @@ fn given_of(
     high_precision: bool,
     level10: bool,
 ) -> Given
-    ensures { λ r. ⌜ r ≡ givenOf (imageOf adjustment width height «y_to_x» «y_to_b» «high_precision» level10) ⌝ }
+    ensures { λ r. ⌜ r ≡ givenOf (settingOf adjustment width height «y_to_x» «y_to_b» «high_precision» level10) ⌝ }
 {
     let area = (width as u64) * (height as u64);
     let limit = dequantize::limits::spline_area_limit(level10, area);
@@ -55,7 +55,7 @@ fn size_good(width: u32, height: u32) -> bool
 
 // Whether the counts sum to just so many points: the sum itself may be too large to hold, so points are taken away instead.
 fn sum_is(counts: &[u32], points: usize) -> bool
-    ensures { λ r. ⌜ r ≡ eqb (sum (now (counts .entry))) points ⌝ }
+    ensures { λ r. ⌜ r ≡ eqb (pointsOf (now (counts .entry))) points ⌝ }
 {
     let mut left = points;
     let mut i = 0;
@@ -223,7 +223,7 @@ pub fn build(
     entries: &mut [u32],
 ) -> BuildAnswer
     ensures { λ r. ⌜ leaves r (now (path .exit)) (now (walk .exit)) (now (segments .exit)) (now («row_starts» .exit)) (now (entries .exit))
-        ≡ buildOf (descriptionOf (now (counts .entry)) (now (starts .entry)) (now (deltas .entry)) (now (coefficients .entry))) (imageOf adjustment width height «y_to_x» «y_to_b» «high_precision» level10) (roomsOf (now (path .entry)) (now (walk .entry)) (now (segments .entry)) (now («row_starts» .entry)) (now (entries .entry))) ⌝ }
+        ≡ buildOf (descriptionOf (now (counts .entry)) (now (starts .entry)) (now (deltas .entry)) (now (coefficients .entry))) (settingOf adjustment width height «y_to_x» «y_to_b» «high_precision» level10) (roomsOf (now (path .entry)) (now (walk .entry)) (now (segments .entry)) (now («row_starts» .entry)) (now (entries .entry))) ⌝ }
 {
     let given = given_of(
         adjustment,

@@ -1,4 +1,4 @@
--- One turn of the inner loop, by what the code makes of the point i: each law opens `reachIn` once.
+-- One turn of the inner loop, by what the code makes of the point i: each law opens `stretchIn` once.
 use mathlib.Core.Path.{_≡_}
 use mathlib.Core.Bool.{true, false}
 use mathlib.Core.List.{List}
@@ -8,12 +8,12 @@ use lib.Ieee.{Float, le}
 use Rattle.numbers.specs.Arith.{_⊕_, _⊖_, _⊘_}
 use Rattle.curve.specs.declared.Point.{Point}
 use Rattle.curve.specs.Points.{addPoint, subPoint, mulPoint}
-use Rattle.walk.specs.declared.Reach.the-variants.{Ends, Emits}
-use Rattle.walk.specs.Walk.{one, distanceOf, pointAt, reachIn}
+use Rattle.walk.specs.declared.Stretch.the-variants.{Ends, Emits}
+use Rattle.walk.specs.Walk.{oneF32, distanceOf, pointAt, stretchIn}
 
 module _ (path : List Float) (n i : ℕ) (p : Point) (d : Float) where
-  pub reach-end : n ≤ i → reachIn (n - i) path i p d ≡ Ends p d
-  unfolding reachIn
+  pub reach-end : n ≤ i → stretchIn (n - i) path i p d ≡ Ends p d
+  unfolding stretchIn
   reach-end h = let e : n - i ≡ 0 = omega arith in rw e
 
   one-more : i < n → n - i ≡ suc (n - (i + 1))
@@ -21,12 +21,12 @@ module _ (path : List Float) (n i : ℕ) (p : Point) (d : Float) where
 
   -- q, v and l are what the code makes of the point i
   module _ {q v : Point} {l : Float} (eq : q ≡ pointAt path i) (ev : v ≡ subPoint q p) (el : l ≡ distanceOf v) (h : i < n) where
-    pub reach-emit : {u r : Point} → u ≡ mulPoint v ((one ⊖ d) ⊘ l) → r ≡ addPoint p u → le one (d ⊕ l) ≡ true → reachIn (n - i) path i p d ≡ Emits r i
-    unfolding reachIn
+    pub reach-emit : {u r : Point} → u ≡ mulPoint v ((oneF32 ⊖ d) ⊘ l) → r ≡ addPoint p u → le oneF32 (d ⊕ l) ≡ true → stretchIn (n - i) path i p d ≡ Emits r i
+    unfolding stretchIn
     reach-emit eu er t = rw (one-more h, er, eu, el, ev, eq, rw (el, ev, eq) at t)
 
-    pub reach-pass : le one (d ⊕ l) ≡ false → reachIn (n - i) path i p d ≡ reachIn (n - (i + 1)) path (i + 1) q (d ⊕ l)
-    unfolding reachIn
+    pub reach-pass : le oneF32 (d ⊕ l) ≡ false → stretchIn (n - i) path i p d ≡ stretchIn (n - (i + 1)) path (i + 1) q (d ⊕ l)
+    unfolding stretchIn
     reach-pass t = rw (one-more h, el, ev, eq, rw (el, ev, eq) at t)
 
 -- Assumes nothing.

@@ -8,8 +8,8 @@ use lib.IntN.{pos, negsuc}
 use lib.Ieee.{Float, fin, add, sub, mul, div, le, ofInt, ofBits}
 use Rattle.numbers.specs.Root.{sqrtOf}
 use Rattle.curve.specs.declared.Point.{Point}
-use Rattle.walk.specs.declared.Reach.the-variants.{Emits}
-use Rattle.walk.specs.Walk.{Ended, More, PointToDraw, toDraw, before, distanceOf, pointAt, reachIn, reachOf, walkFrom, walkIn, lengthOf}
+use Rattle.walk.specs.declared.Stretch.the-variants.{Emits}
+use Rattle.walk.specs.Walk.{Ended, More, PointToDraw, toDraw, before, distanceOf, pointAt, stretchIn, stretchOf, walkFrom, walkIn, walkLength}
 
 abbrev o : Float
 o = fin false 0 (pos 0)
@@ -24,21 +24,21 @@ at x m = toDraw (record { x = x; y = o }) m
 -- (0, 0), (2.5, 0): four points, multipliers 1, 1, 1, 0.5
 pub four : walkIn 8388608 (o ∷ o ∷ fin false 5 (negsuc 0) ∷ o ∷ [])
     ≡ Ended (at o one ∷ at one one ∷ at (fin false 1 (pos 1)) one ∷ at (fin false 5 (negsuc 0)) (fin false 1 (negsuc 0)) ∷ [])
-unfolding walkIn walkFrom reachOf reachIn pointAt distanceOf sqrtOf add sub mul div le ofBits
+unfolding walkIn walkFrom stretchOf stretchIn pointAt distanceOf sqrtOf add sub mul div le ofBits
 four = refl
 
 -- (0, 0), (1, 0): three points, the last multiplier 0
 pub three : walkIn 8388608 (o ∷ o ∷ one ∷ o ∷ []) ≡ Ended (at o one ∷ at one one ∷ at one o ∷ [])
-unfolding walkIn walkFrom reachOf reachIn pointAt distanceOf sqrtOf add sub mul div le ofBits
+unfolding walkIn walkFrom stretchOf stretchIn pointAt distanceOf sqrtOf add sub mul div le ofBits
 three = refl
 
 -- one point: two points, and a length of 0
 pub two : walkIn 8388608 (o ∷ o ∷ []) ≡ Ended (at o one ∷ at o o ∷ [])
-unfolding walkIn walkFrom reachOf reachIn pointAt distanceOf sqrtOf add sub mul div le ofBits
+unfolding walkIn walkFrom stretchOf stretchIn pointAt distanceOf sqrtOf add sub mul div le ofBits
 two = refl
 
-pub no-length : lengthOf 2 o ≡ o
-unfolding lengthOf add mul ofInt ofBits
+pub no-length : walkLength 2 o ≡ o
+unfolding walkLength add mul ofInt ofBits
 no-length = refl
 
 -- ---- a walk that never ends: from 16777216 a step of 1 towards 16777218 rounds away
@@ -49,8 +49,8 @@ far = fin false 1 (pos 24) ∷ o ∷ fin false 8388609 (pos 1) ∷ o ∷ []
 abbrev still : Point
 still = record { x = fin false 1 (pos 24); y = o }
 
-stays : (i : ℕ) → i < 2 → reachOf far i still ≡ Emits still 1
-unfolding reachOf reachIn pointAt distanceOf sqrtOf add sub mul div le ofBits
+stays : (i : ℕ) → i < 2 → stretchOf far i still ≡ Emits still 1
+unfolding stretchOf stretchIn pointAt distanceOf sqrtOf add sub mul div le ofBits
 stays zero h = refl
 stays (suc zero) h = refl
 stays (suc (suc i)) h = absurd (omega arith)

@@ -1,7 +1,7 @@
 -- `for_each_equally_spaced_point` at a distance of 1: the points that it calls its closure with, and what a lent buffer then holds. Definitions only.
 -- 0x3f800000 is 1. The walk need not end (a step of 1 can round away), so it is said for at most k points; the laws on k are in proofs/Fuel.
 use mathlib.Core.Path.{_≡_}
-use mathlib.Core.Bool.{Bool, true, false}
+use mathlib.Core.Bool.{Bool, true, false, cond}
 use mathlib.Core.List.{List, [], _∷_, _++_}
 use Prim.Native.Nat.{ℕ, zero, suc, _+_, _-_, _*_, _/_, min}
 use lib.ListN.{length, getD}
@@ -12,13 +12,13 @@ use Rattle.numbers.specs.Root.{sqrtOf}
 use Rattle.buffers.specs.Onto.{onto}
 use Rattle.curve.specs.declared.Point.{Point}
 use Rattle.curve.specs.Points.{addPoint, subPoint, mulPoint}
-use Rattle.walk.specs.declared.Reach.{Reach}
-use Rattle.walk.specs.declared.Reach.the-variants.{Ends, Emits}
+use Rattle.walk.specs.declared.Stretch.{Stretch}
+use Rattle.walk.specs.declared.Stretch.the-variants.{Ends, Emits}
 use Rattle.walk.specs.declared.Walked.{Walked}
 use Rattle.walk.specs.declared.Walked.the-variants.{Points, Room}
 
-abbrev pub one : Float
-one = f 0x3f800000
+abbrev pub oneF32 : Float
+oneF32 = f 0x3f800000
 
 -- ---- one unit of length
 
@@ -30,23 +30,19 @@ distanceOf delta = sqrtOf binary32 (delta .x ⊗ delta .x ⊕ delta .y ⊗ delta
 unfoldable pub pointAt : List Float → ℕ → Point
 pointAt path i = record { x = getD path (2 * i) nan; y = getD path (2 * i + 1) nan }
 
-abbrev pub pick : Bool → Reach → Reach → Reach
-pick true a b = a
-pick false a b = b
-
 -- The inner loop: d was walked since the last point, previous is where it led, and k points are left, i the next.
-unfoldable pub reachIn : ℕ → List Float → ℕ → Point → Float → Reach
-reachIn zero path i previous d = Ends previous d
-reachIn (suc k) path i previous d =
+unfoldable pub stretchIn : ℕ → List Float → ℕ → Point → Float → Stretch
+stretchIn zero path i previous d = Ends previous d
+stretchIn (suc k) path i previous d =
     let q = pointAt path i in
     let delta = subPoint q previous in
     let l = distanceOf delta in
-    let rest = reachIn k path (i + 1) q (d ⊕ l) in
-    pick (le one (d ⊕ l)) (Emits (addPoint previous (mulPoint delta ((one ⊖ d) ⊘ l))) i) rest
+    let rest = stretchIn k path (i + 1) q (d ⊕ l) in
+    cond (le oneF32 (d ⊕ l)) (Emits (addPoint previous (mulPoint delta ((oneF32 ⊖ d) ⊘ l))) i) rest
 
 -- from current, which lies before point i
-unfoldable pub reachOf : List Float → ℕ → Point → Reach
-reachOf path i current = reachIn (length path / 2 - i) path i current (f 0)
+unfoldable pub stretchOf : List Float → ℕ → Point → Stretch
+stretchOf path i current = stretchIn (length path / 2 - i) path i current (f 0)
 
 -- ---- the walk
 
@@ -68,23 +64,23 @@ before xs More = More
 before xs (Ended ys) = Ended (xs ++ ys)
 
 -- the path's end is the last point; a point that is emitted has others behind it
-abbrev pub afterReach : Reach → (Point → ℕ → Walk) → Walk
-afterReach (Ends q d) rest = Ended (toDraw q d ∷ [])
-afterReach (Emits q i) rest = before (toDraw q one ∷ []) (rest q i)
+abbrev pub afterStretch : Stretch → (Point → ℕ → Walk) → Walk
+afterStretch (Ends q d) rest = Ended (toDraw q d ∷ [])
+afterStretch (Emits q i) rest = before (toDraw q oneF32 ∷ []) (rest q i)
 
 -- the outer loop, in at most k points
 unfoldable pub walkFrom : ℕ → List Float → ℕ → Point → Walk
 walkFrom zero path i current = More
-walkFrom (suc k) path i current = afterReach (reachOf path i current) (λ q j. walkFrom k path j q)
+walkFrom (suc k) path i current = afterStretch (stretchOf path i current) (λ q j. walkFrom k path j q)
 
 -- the walk along a path of one point or more, in at most k points
 unfoldable pub walkIn : ℕ → List Float → Walk
 walkIn zero path = More
-walkIn (suc k) path = before (toDraw (pointAt path 0) one ∷ []) (walkFrom k path 0 (pointAt path 0))
+walkIn (suc k) path = before (toDraw (pointAt path 0) oneF32 ∷ []) (walkFrom k path 0 (pointAt path 0))
 
 -- `length`, of a walk of n points with the last multiplier
-unfoldable pub lengthOf : ℕ → Float → Float
-lengthOf n last = ofInt binary32 (pos n -ℤ pos 2) ⊗ one ⊕ last
+unfoldable pub walkLength : ℕ → Float → Float
+walkLength n last = ofInt binary32 (pos n -ℤ pos 2) ⊗ oneF32 ⊕ last
 
 -- points_to_draw[points_to_draw.len() - 1].1
 unfoldable pub lastMultiplier : List PointToDraw → Float

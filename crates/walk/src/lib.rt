@@ -2,11 +2,11 @@
 ghost use mathlib.Core.Path.{_≡_};
 ghost use Prim.Native.Nat.{_+_, _*_, _≤_};
 ghost use lib.ListN.{length};
-ghost use Rattle.walk.specs.Walk.{distanceOf, pointAt, reachOf, walkIn, walkRoom, walkedOf, WalkedOn, lengthOf};
+ghost use Rattle.walk.specs.Walk.{distanceOf, pointAt, stretchOf, walkIn, walkRoom, walkedOf, WalkedOn, walkLength};
 use curve::Point;
 
 // Where a unit of length leads: to the path's end with what was walked until there, or to a point before the path's point at the index.
-enum Reach {
+enum Stretch {
     Ends(Point, f32),
     Emits(Point, usize),
 }
@@ -36,8 +36,8 @@ fn point_at(path: &[f32], i: usize) -> Point
 }
 
 // One unit of length on, from a point that lies before the path's point next.
-fn onward(path: &[f32], next: usize, from: Point) -> Reach
-    ensures { λ r. ⌜ r ≡ reachOf (now (path .entry)) next from ⌝ }
+fn onward(path: &[f32], next: usize, from: Point) -> Stretch
+    ensures { λ r. ⌜ r ≡ stretchOf (now (path .entry)) next from ⌝ }
 {
     let n = path.len() / 2;
     let mut i = next;
@@ -48,13 +48,13 @@ fn onward(path: &[f32], next: usize, from: Point) -> Reach
         let delta = q.sub(previous);
         let l = distance(delta);
         if walked + l >= 1.0 {
-            return Reach::Emits(previous.add(delta.scale((1.0 - walked) / l)), i);
+            return Stretch::Emits(previous.add(delta.scale((1.0 - walked) / l)), i);
         }
         walked = walked + l;
         previous = q;
         i += 1;
     }
-    Reach::Ends(previous, walked)
+    Stretch::Ends(previous, walked)
 }
 
 // How many points a walk may have in a buffer of len numbers.
@@ -81,11 +81,11 @@ pub fn walk(path: &[f32], out: &mut [f32]) -> Walked
     let mut n = 1;
     while n < room {
         match onward(path, next, current) {
-            Reach::Ends(q, d) => {
+            Stretch::Ends(q, d) => {
                 buffers::put3(out, 3 * n, q.x, q.y, d);
                 return Walked::Points(n + 1);
             }
-            Reach::Emits(q, i) => {
+            Stretch::Emits(q, i) => {
                 buffers::put3(out, 3 * n, q.x, q.y, 1.0);
                 current = q;
                 next = i;
@@ -99,7 +99,7 @@ pub fn walk(path: &[f32], out: &mut [f32]) -> Walked
 // The length of a walk of n points, by the last one's multiplier.
 pub fn length_of(n: usize, last: f32) -> f32
     requires { ⌜ (2 ≤ n) × (n ≤ 8388608) ⌝ }
-    ensures { λ r. ⌜ r ≡ lengthOf n last ⌝ }
+    ensures { λ r. ⌜ r ≡ walkLength n last ⌝ }
 {
     ((n - 2) as f32) * 1.0 + last
 }

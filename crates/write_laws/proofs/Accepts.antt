@@ -12,8 +12,8 @@ use lib.Ieee.Exact.{HasValue}
 use lib.Ieee.Back.{round-whole, positive-back, negative-back}
 use borrow.Author.Tests.{le-ltb, lt-leb, ltb-false, leb-false}
 use Rattle.codes.specs.declared.Code.the-variants.{Coord, Points, Delta}
-use Rattle.list.specs.List.{posLimit, deltaLimit, beyond, sum, Near, Tame, Valid}
-use Rattle.list.specs.Steps.{whole}
+use Rattle.list.specs.List.{posLimit, deltaLimit, beyond, pointsOf, Near, Tame, Valid}
+use Rattle.list.specs.Steps.{f32Of}
 use Rattle.writer.specs.Write.{firstFault, unfit, unfitAs, startChecks, deltaChecks, splineChecks, contentChecks, wholeOf}
 use Rattle.writer.specs.declared.Verdict.the-variants.{Fine}
 use Rattle.writer.proofs.Checks.{neither, passed, fine-before, both-fine, agree, agreed, well-counted, counted, content-rest, content-fine}
@@ -48,19 +48,19 @@ not-below (inf s) n v = absurd v
 not-below (fin true m e) n v = absurd (subst T (v .0) tt)
 not-below (fin false m e) n v = le-ltb (m * up e * 1) (0 * down e) (omega arith)
 
-whole-not-below : (n : ℕ) → n < 2 ^ 23 → lt (whole (pos n)) (ofBits binary32 0) ≡ false
-unfolding whole ofInt
+whole-not-below : (n : ℕ) → n < 2 ^ 23 → lt (f32Of (pos n)) (ofBits binary32 0) ≡ false
+unfolding f32Of ofInt
 whole-not-below n h = not-below (round binary32 false n 1) n (round-whole binary32 false n (omega arith))
 
-whole-is-fit : (z : ℤ) → natAbs z < 2 ^ 23 → unfit (whole z) ≡ false
-unfolding whole
+whole-is-fit : (z : ℤ) → natAbs z < 2 ^ 23 → unfit (f32Of z) ≡ false
+unfolding f32Of
 whole-is-fit z h = whole-fit z h
 
-whole-first : (z : ℤ) → natAbs z < 2 ^ 23 → pos (natAbs z) ≡ z → unfitAs true (whole z) ≡ false
+whole-first : (z : ℤ) → natAbs z < 2 ^ 23 → pos (natAbs z) ≡ z → unfitAs true (f32Of z) ≡ false
 unfolding unfitAs
 whole-first z h g = rw (whole-is-fit z h, ← g, whole-not-below (natAbs z) h)
 
-whole-later : (z : ℤ) → natAbs z < 2 ^ 23 → unfitAs false (whole z) ≡ false
+whole-later : (z : ℤ) → natAbs z < 2 ^ 23 → unfitAs false (f32Of z) ≡ false
 unfolding unfitAs
 whole-later z h = whole-is-fit z h
 
@@ -69,7 +69,7 @@ small-pair x y e =
     let n = neither (leb posLimit (natAbs x)) (leb posLimit (natAbs y)) e in
     (leb-false posLimit (natAbs x) (n .0), leb-false posLimit (natAbs y) (n .1))
 
-near-fine : (first : Bool) (p : ℕ) (zs : List ℤ) → Near first zs → firstFault (startChecks first p (map whole zs)) ≡ Fine
+near-fine : (first : Bool) (p : ℕ) (zs : List ℤ) → Near first zs → firstFault (startChecks first p (map f32Of zs)) ≡ Fine
 unfolding startChecks firstFault
 near-fine first p [] w = refl
 near-fine first p (x ∷ []) w = refl
@@ -81,12 +81,12 @@ near-fine false p (x ∷ y ∷ zs) w =
     rw (whole-later x (s .0), whole-later y (s .1)) (near-fine false (p + 2) zs (w .1))
 
 -- the whole number of a whole number's f32
-whole-back : (z : ℤ) → natAbs z < 2 ^ 23 → wholeOf (whole z) ≡ z
-unfolding whole inFloat
+whole-back : (z : ℤ) → natAbs z < 2 ^ 23 → wholeOf (f32Of z) ≡ z
+unfolding f32Of inFloat
 whole-back (pos n) h = positive-back binary32 31 n (le→leb n (2 ^ 24) (omega arith)) (omega arith) .1
 whole-back (negsuc n) h = negative-back binary32 31 n (lt→ltb n (2 ^ 24) (omega arith)) (omega arith) .1
 
-pub wholes-back : (k : ℕ) (first : Bool) (zs : List ℤ) → length zs ≡ 2 * k → Near first zs → map wholeOf (map whole zs) ≡ zs
+pub wholes-back : (k : ℕ) (first : Bool) (zs : List ℤ) → length zs ≡ 2 * k → Near first zs → map wholeOf (map f32Of zs) ≡ zs
 wholes-back k first [] h w = refl
 wholes-back zero first (x ∷ zs) h w = absurd (omega arith)
 wholes-back (suc k) first (x ∷ []) h w = absurd (omega arith)
@@ -98,11 +98,11 @@ wholes-back (suc k) false (x ∷ y ∷ zs) h w =
     rw (whole-back x (s .0), whole-back y (s .1), wholes-back k false zs (omega arith) (w .1))
 
 -- the f32 of a fit number's whole number
-float-back : (x : Float) → T (fits binary32 x) → unfit x ≡ false → whole (wholeOf x) ≡ x
-unfolding whole
+float-back : (x : Float) → T (fits binary32 x) → unfit x ≡ false → f32Of (wholeOf x) ≡ x
+unfolding f32Of
 float-back x f u = fit-back x f u
 
-pub floats-back : (k : ℕ) (first : Bool) (p : ℕ) (ss : List Float) → length ss ≡ 2 * k → Floats ss → firstFault (startChecks first p ss) ≡ Fine → map whole (map wholeOf ss) ≡ ss
+pub floats-back : (k : ℕ) (first : Bool) (p : ℕ) (ss : List Float) → length ss ≡ 2 * k → Floats ss → firstFault (startChecks first p ss) ≡ Fine → map f32Of (map wholeOf ss) ≡ ss
 unfolding startChecks
 floats-back k first p [] h f e = refl
 floats-back zero first p (x ∷ ss) h f e = absurd (omega arith)
@@ -150,8 +150,8 @@ tame-split (suc n) (x ∷ y ∷ ds) w =
 
 -- ---- splines
 
-pub fine-splines : (limit total p : ℕ) (ns : List ℕ) (ds : List ℤ) → total ≤ limit → length ds ≡ 2 * sum ns
-    → firstFault (splineChecks limit total p ns ds) ≡ Fine → (total + sum ns ≤ limit) × Tame ds
+pub fine-splines : (limit total p : ℕ) (ns : List ℕ) (ds : List ℤ) → total ≤ limit → length ds ≡ 2 * pointsOf ns
+    → firstFault (splineChecks limit total p ns ds) ≡ Fine → (total + pointsOf ns ≤ limit) × Tame ds
 unfolding splineChecks
 fine-splines limit total p [] [] u h e = (omega arith, tt)
 fine-splines limit total p [] (x ∷ ds) u h e = absurd (omega arith)
@@ -162,7 +162,7 @@ fine-splines limit total p (n ∷ ns) ds u h e =
     let ih = fine-splines limit (total + n) (p + (2 * n + 129)) ns (drop (2 * n) ds) under (length-drop (2 * n) ds ∙ omega arith) (b .1) in
     (omega (arith, ih .0), tame-join n ds (omega arith) (fine-tame (p + 1) (take (2 * n) ds) (b .0)) (ih .1))
 
-pub splines-fine : (limit total p : ℕ) (ns : List ℕ) (ds : List ℤ) → total + sum ns ≤ limit → Tame ds → firstFault (splineChecks limit total p ns ds) ≡ Fine
+pub splines-fine : (limit total p : ℕ) (ns : List ℕ) (ds : List ℤ) → total + pointsOf ns ≤ limit → Tame ds → firstFault (splineChecks limit total p ns ds) ≡ Fine
 unfolding splineChecks firstFault
 splines-fine limit total p [] ds u w = refl
 splines-fine limit total p (n ∷ ns) ds u w =
@@ -192,11 +192,11 @@ fine-valid limit ns ss ds cs e =
     }
 
 -- and what has a list is accepted
-pub valid-fine : (limit : ℕ) (zs : List ℤ) (ns : List ℕ) (ds cs : List ℤ) → Valid limit zs ns ds cs → firstFault (contentChecks ns (map whole zs) ds cs limit) ≡ Fine
+pub valid-fine : (limit : ℕ) (zs : List ℤ) (ns : List ℕ) (ds cs : List ℤ) → Valid limit zs ns ds cs → firstFault (contentChecks ns (map f32Of zs) ds cs limit) ≡ Fine
 valid-fine limit zs ns ds cs v =
-    let shaped = sym (agree ns (map whole zs) ds cs (length-map zs whole ∙ v .starts) (v .deltas) (v .coefficients)) in
+    let shaped = sym (agree ns (map f32Of zs) ds cs (length-map zs f32Of ∙ v .starts) (v .deltas) (v .coefficients)) in
     let few = well-counted limit (length ns) (λ z. omega (arith, v .some, z)) (v .count) in
-    content-rest ns (map whole zs) ds cs limit shaped few (near-fine true 1 zs (v .near))
+    content-rest ns (map f32Of zs) ds cs limit shaped few (near-fine true 1 zs (v .near))
     ∙ splines-fine limit 0 (2 * length ns + 2) ns ds (omega (arith, v .total)) (v .tame)
 
 -- Assumes nothing.

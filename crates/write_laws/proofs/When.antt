@@ -13,13 +13,13 @@ use lib.Ieee.{Float}
 use borrow.Author.Tests.{lt-ltb, le-ltb, ltb-true, ltb-false}
 use Rattle.codes.specs.declared.Code.{Code}
 use Rattle.codes.specs.declared.Code.the-variants.{Splines, Coord, Points, Delta, Room, Shape}
-use Rattle.list.specs.List.{deltaLimit, beyond, limitOf, sum, Tame}
+use Rattle.list.specs.List.{deltaLimit, beyond, limitOf, pointsOf, Tame}
 use Rattle.writer.specs.Write.{Check, check, firstFault, misshapen, miscounted, unfitAs, startChecks, deltaChecks, splineChecks, contentChecks, valuesOf, WriteOutcome, outcome, writeOf}
 use Rattle.writer.specs.declared.Verdict.{Verdict}
 use Rattle.writer.specs.declared.Verdict.the-variants.{Fine, Fault}
 use Rattle.writer.specs.declared.WriteAnswer.the-variants.{Done, Refused}
 use Rattle.writer.proofs.Checks.{fails, passes, passed, faults-before, fine-before, both-fine, agreed, content-shape, content-count, content-start, content-rest, content-fine}
-use Rattle.write_laws.specs.Given.{unfitPair, FitPairs, wildPair, pointsBefore, valuesBefore, SplineGiven, points, delta, Given, shape, splines, coord, spline, room, Accepted}
+use Rattle.write_laws.specs.Refusals.{unfitPair, FitPairs, wildPair, pointsBefore, valuesBefore, SplineRefusal, points, delta, WriteRefusal, shape, splines, coord, spline, room, Accepted}
 use Rattle.write_laws.proofs.Accepts.{fine-tame, tame-fine, fine-splines, splines-fine}
 
 none : firstFault [] ≡ Fine
@@ -172,7 +172,7 @@ take-front n j ds h = take-take (2 * j) (2 * n) ds (omega arith)
 module _ (limit : ℕ) where
   -- the first spline at fault is the first
   spline-here : (total place n : ℕ) (ns : List ℕ) (ds : List ℤ) → total ≤ limit → 2 * n ≤ length ds → (c : Code) (q : ℕ) → total + n ≤ limit
-      → DeltaAt (place + 1) (take (2 * n) ds) c q → SplineGiven limit total place (n ∷ ns) ds c q
+      → DeltaAt (place + 1) (take (2 * n) ds) c q → SplineRefusal limit total place (n ∷ ns) ds c q
   spline-here total place n ns ds u h c q under t =
       let long = length-take-le (2 * n) ds h in
       let inside : t .j < n = omega (arith, t .within) in
@@ -180,25 +180,25 @@ module _ (limit : ℕ) where
       let j-is : 0 + t .j ≡ t .j = omega arith in
       let tame : Tame (take (2 * (0 + t .j)) ds) = rw (j-is, ← take-front n (t .j) ds (omega arith)) (t .tame) in
       let wild : wildPair ds (0 + t .j) ≡ true = rw (j-is, ← wild-take n (t .j) ds h inside) (t .wild) in
-      subst (λ (k : ℕ). SplineGiven limit total place (n ∷ ns) ds c k) at
+      subst (λ (k : ℕ). SplineRefusal limit total place (n ∷ ns) ds c k) at
       (rw (t .code) (delta 0 (t .j) (omega arith) inside (omega arith) tame wild))
 
   -- or one behind it
   spline-behind : (total place n : ℕ) (ns : List ℕ) (ds : List ℤ) → 2 * n ≤ length ds → Tame (take (2 * n) ds) → (c : Code) (q : ℕ)
-      → SplineGiven limit (total + n) (place + (2 * n + 129)) ns (drop (2 * n) ds) c q → SplineGiven limit total place (n ∷ ns) ds c q
+      → SplineRefusal limit (total + n) (place + (2 * n + 129)) ns (drop (2 * n) ds) c q → SplineRefusal limit total place (n ∷ ns) ds c q
   spline-behind total place n ns ds h v c q (points k inside before after tame) =
       let at : place + valuesBefore (suc k) (n ∷ ns) ≡ place + (2 * n + 129) + valuesBefore k ns = omega arith in
-      subst (λ (m : ℕ). SplineGiven limit total place (n ∷ ns) ds Points m) at
+      subst (λ (m : ℕ). SplineRefusal limit total place (n ∷ ns) ds Points m) at
       (points (suc k) (omega arith) (omega arith) (omega arith) (tame-front n (pointsBefore k ns) ds h v tame))
   spline-behind total place n ns ds h v c q (delta k j inside low before tame wild) =
       let at : place + valuesBefore (suc k) (n ∷ ns) + (1 + 2 * j) ≡ place + (2 * n + 129) + valuesBefore k ns + (1 + 2 * j) = omega arith in
       let s : n + pointsBefore k ns + j ≡ n + (pointsBefore k ns + j) = omega arith in
-      subst (λ (m : ℕ). SplineGiven limit total place (n ∷ ns) ds Delta m) at
+      subst (λ (m : ℕ). SplineRefusal limit total place (n ∷ ns) ds Delta m) at
       (delta (suc k) j (omega arith) low (omega arith)
       (rw s (tame-front n (pointsBefore k ns + j) ds h v tame)) (rw s (wild-drop n (pointsBefore k ns + j) ds ∙ wild)))
 
-  splines-to : (total place : ℕ) (ns : List ℕ) (ds : List ℤ) → total ≤ limit → length ds ≡ 2 * sum ns → (c : Code) (q : ℕ)
-      → firstFault (splineChecks limit total place ns ds) ≡ Fault c q → SplineGiven limit total place ns ds c q
+  splines-to : (total place : ℕ) (ns : List ℕ) (ds : List ℤ) → total ≤ limit → length ds ≡ 2 * pointsOf ns → (c : Code) (q : ℕ)
+      → firstFault (splineChecks limit total place ns ds) ≡ Fault c q → SplineRefusal limit total place ns ds c q
   unfolding splineChecks firstFault
   splines-to total place [] ds u h c q e = let z : _≡_ {A = ℕ} 0 1 = cc in absurd (omega arith)
   splines-to total place (n ∷ ns) ds u h c q e =
@@ -211,8 +211,8 @@ module _ (limit : ℕ) where
       others : List Check
       others = splineChecks limit (total + n) (place + (2 * n + 129)) ns (drop (2 * n) ds)
 
-      after : (total + n ≤ limit) → (firstFault others ≡ Fault c q → SplineGiven limit (total + n) (place + (2 * n + 129)) ns (drop (2 * n) ds) c q)
-          → (v : Verdict) → firstFault mine ≡ v → firstFault (mine ++ others) ≡ Fault c q → SplineGiven limit total place (n ∷ ns) ds c q
+      after : (total + n ≤ limit) → (firstFault others ≡ Fault c q → SplineRefusal limit (total + n) (place + (2 * n + 129)) ns (drop (2 * n) ds) c q)
+          → (v : Verdict) → firstFault mine ≡ v → firstFault (mine ++ others) ≡ Fault c q → SplineRefusal limit total place (n ∷ ns) ds c q
       after under ih Fine f e = spline-behind total place n ns ds (omega arith) (fine-tame (place + 1) (take (2 * n) ds) f) c q (ih (sym (fine-before mine others f) ∙ e))
       after under ih (Fault d r) f e =
           let same = sym (faults-before mine others d r f) ∙ e in
@@ -220,18 +220,18 @@ module _ (limit : ℕ) where
           let r-is : r ≡ q = cc in
           spline-here total place n ns ds u (omega arith) c q under (deltas-to (place + 1) (take (2 * n) ds) c q (f ∙ same))
 
-      go : (total + n ≤ limit → firstFault others ≡ Fault c q → SplineGiven limit (total + n) (place + (2 * n + 129)) ns (drop (2 * n) ds) c q)
-          → (b : Bool) → ltb limit (total + n) ≡ b → firstFault (check b Points place ∷ (mine ++ others)) ≡ Fault c q → SplineGiven limit total place (n ∷ ns) ds c q
+      go : (total + n ≤ limit → firstFault others ≡ Fault c q → SplineRefusal limit (total + n) (place + (2 * n + 129)) ns (drop (2 * n) ds) c q)
+          → (b : Bool) → ltb limit (total + n) ≡ b → firstFault (check b Points place ∷ (mine ++ others)) ≡ Fault c q → SplineRefusal limit total place (n ∷ ns) ds c q
       go ih true b e =
           let c-is : Points ≡ c = cc in
           let q-is : place ≡ q = cc in
           let at : place + valuesBefore 0 (n ∷ ns) ≡ q = omega (arith, q-is) in
-          subst (λ (m : ℕ). SplineGiven limit total place (n ∷ ns) ds c m) at
+          subst (λ (m : ℕ). SplineRefusal limit total place (n ∷ ns) ds c m) at
           (rw (← c-is) (points 0 (omega arith) (omega arith) (omega (arith, ltb-true limit (total + n) b)) tt))
       go ih false b e = after (ltb-false limit (total + n) b) (ih (ltb-false limit (total + n) b)) (firstFault mine) refl e
 
-  splines-from : (total place : ℕ) (ns : List ℕ) (ds : List ℤ) → length ds ≡ 2 * sum ns → (c : Code) (q : ℕ)
-      → SplineGiven limit total place ns ds c q → firstFault (splineChecks limit total place ns ds) ≡ Fault c q
+  splines-from : (total place : ℕ) (ns : List ℕ) (ds : List ℤ) → length ds ≡ 2 * pointsOf ns → (c : Code) (q : ℕ)
+      → SplineRefusal limit total place ns ds c q → firstFault (splineChecks limit total place ns ds) ≡ Fault c q
   unfolding splineChecks
   splines-from total place [] ds h c q (points k inside before after tame) = absurd (omega arith)
   splines-from total place [] ds h c q (delta k j inside low before tame wild) = absurd (omega arith)
@@ -273,7 +273,7 @@ pub record Exactly (A B : Type 0) : Type 0 where
 
 module _ (ns : List ℕ) (ss : List Float) (ds cs : List ℤ) (limit size rooms : ℕ) where
   abbrev Here : Code → ℕ → Type 0
-  Here c p = Given ns ss ds cs limit size rooms c p
+  Here c p = WriteRefusal ns ss ds cs limit size rooms c p
 
   abbrev content : List Check
   content = contentChecks ns ss ds cs limit
@@ -304,7 +304,7 @@ module _ (ns : List ℕ) (ss : List Float) (ds cs : List ℤ) (limit size rooms 
         let t = fine-splines limit 0 (2 * length ns + 2) ns ds (omega arith) (h .1) g in
         at-room (ltb rooms size) refl (sym (fine-before content last (content-rest ns ss ds cs limit shaped few f ∙ g)) ∙ e) (starts-fit (length ns) true 1 ss f) (t .0) (t .1)
       where
-        at-room : (b : Bool) → ltb rooms size ≡ b → firstFault (check b Room rooms ∷ []) ≡ Fault c p → FitPairs true (length ns) ss → 0 + sum ns ≤ limit → Tame ds → Here c p
+        at-room : (b : Bool) → ltb rooms size ≡ b → firstFault (check b Room rooms ∷ []) ≡ Fault c p → FitPairs true (length ns) ss → 0 + pointsOf ns ≤ limit → Tame ds → Here c p
         at-room true b e f u w = moved (sym (fails true Room rooms [] refl) ∙ e) (room shaped few f (omega arith) w (ltb-true rooms size b))
         at-room false b e f u w = let z : _≡_ {A = ℕ} 0 1 = cc (passes false Room rooms [] refl, none) in absurd (omega arith)
 
@@ -361,7 +361,7 @@ module _ (ns : List ℕ) (ss : List Float) (ds cs : List ℤ) (a : ℤ) (configu
   verdict = firstFault (contentChecks ns ss ds cs (limitOf configured pixels) ++ check (ltb rooms size) Room rooms ∷ [])
 
   pub refused-exactly-when : (c : Code) (p : ℕ)
-      → Exactly (writeOf ns ss ds cs a configured pixels rooms .answer ≡ Refused c p) (Given ns ss ds cs (limitOf configured pixels) size rooms c p)
+      → Exactly (writeOf ns ss ds cs a configured pixels rooms .answer ≡ Refused c p) (WriteRefusal ns ss ds cs (limitOf configured pixels) size rooms c p)
   unfolding writeOf
   refused-exactly-when c p =
       record {

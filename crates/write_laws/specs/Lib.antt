@@ -1,3 +1,3 @@
 -- The definitions of the crate `write_laws`.
 pub mod Floats
-pub mod Given
+pub mod Refusals

@@ -9,7 +9,7 @@ use lib.ListN.{length, take, drop, set, getD, replicate, length-set, length-drop
 use lib.Seq.{drop-cons, drop-drop, sets, length-sets, sets-eq, length-take-le}
 use lib.IntN.{ℤ, pos, natAbs, _-ℤ_}
 use lib.Ieee.{Float, nan}
-use Rattle.list.specs.List.{packSigned, sum, startsList, splineList, splinesList}
+use Rattle.list.specs.List.{packSigned, pointsOf, startsList, splineList, splinesList}
 use Rattle.writer.specs.Write.{firstFault, unfit, startChecks, wholeOf, valuesOf}
 use Rattle.writer.specs.Steps.{laterList}
 use Rattle.writer.specs.declared.Verdict.the-variants.{Fine}
@@ -133,12 +133,12 @@ spline-stored l o1 o2 o3 at n first after ds cs f g p q r =
 pub record Rows (ns : List ℕ) (ds cs : List ℤ) (l₀ : List ℕ) (at : ℕ) (l : List ℕ) (place from row i : ℕ) : Type 0 where
   pub turns : i ≤ length ns
   pub room : length l ≡ length l₀
-  pub part : from + 2 * sum (drop i ns) ≡ length ds
+  pub part : from + 2 * pointsOf (drop i ns) ≡ length ds
   pub cells : row ≡ 128 * i
   pub stands : place ≡ at + from + 129 * i
   pub so : sets l place (splinesList (drop i ns) (drop from ds) (drop row cs)) ≡ sets l₀ at (splinesList ns ds cs)
 
-pub rows-begin : (ns : List ℕ) (ds cs : List ℤ) (l : List ℕ) (at : ℕ) → length ds ≡ 2 * sum ns → Rows ns ds cs l at l at 0 0 0
+pub rows-begin : (ns : List ℕ) (ds cs : List ℤ) (l : List ℕ) (at : ℕ) → length ds ≡ 2 * pointsOf ns → Rows ns ds cs l at l at 0 0 0
 rows-begin ns ds cs l at h = record { turns = omega arith; room = refl; part = omega arith; cells = refl; stands = omega arith; so = refl }
 
 module _ (ns : List ℕ) (ds cs : List ℤ) (l₀ : List ℕ) (at : ℕ) (l : List ℕ) (place from row i : ℕ) (now : Rows ns ds cs l₀ at l place from row i) where
@@ -187,7 +187,7 @@ starts-length (suc k) first x y (a ∷ []) h = absurd (omega arith)
 starts-length (suc k) true x y (a ∷ b ∷ zs) h = ap (λ (n : ℕ). suc (suc n)) (starts-length k false a b zs (omega arith))
 starts-length (suc k) false x y (a ∷ b ∷ zs) h = ap (λ (n : ℕ). suc (suc n)) (starts-length k false a b zs (omega arith))
 
-splines-length : (ns : List ℕ) (ds cs : List ℤ) → length ds ≡ 2 * sum ns → length cs ≡ 128 * length ns → length (splinesList ns ds cs) ≡ 129 * length ns + length ds
+splines-length : (ns : List ℕ) (ds cs : List ℤ) → length ds ≡ 2 * pointsOf ns → length cs ≡ 128 * length ns → length (splinesList ns ds cs) ≡ 129 * length ns + length ds
 splines-length [] ds cs d c = omega arith
 splines-length (n ∷ ns) ds cs d c =
     let one = length-map (take (2 * n) ds) packSigned ∙ length-take-le (2 * n) ds (omega arith) in
@@ -202,7 +202,7 @@ module _ (ns : List ℕ) (ss : List Float) (ds cs : List ℤ) (a : ℤ) (hs : le
   pub list-starts : length (startsList true (pos 0) (pos 0) (map wholeOf ss)) ≡ length ss
   list-starts = starts-length (length ns) true (pos 0) (pos 0) (map wholeOf ss) (length-map ss wholeOf ∙ hs) ∙ length-map ss wholeOf
 
-  pub list-length : length ds ≡ 2 * sum ns → length cs ≡ 128 * length ns → length (valuesOf ns ss ds cs a) ≡ 131 * length ns + length ds + 2
+  pub list-length : length ds ≡ 2 * pointsOf ns → length cs ≡ 128 * length ns → length (valuesOf ns ss ds cs a) ≡ 131 * length ns + length ds + 2
   unfolding valuesOf
   list-length d c =
       ap suc (length-append (startsList true (pos 0) (pos 0) (map wholeOf ss)) (packSigned a ∷ splinesList ns ds cs))

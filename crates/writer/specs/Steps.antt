@@ -6,7 +6,7 @@ use Prim.Native.Nat.{ℕ, _+_, _-_, _*_, _^_, _≤_, _<_}
 use lib.ListN.{length, drop, getD}
 use lib.IntN.{ℤ}
 use lib.Ieee.{Float, nan}
-use Rattle.list.specs.List.{startsList, sum}
+use Rattle.list.specs.List.{startsList, pointsOf}
 use Rattle.writer.specs.Write.{firstFault, startChecks, wholeOf}
 use Rattle.writer.specs.declared.Verdict.the-variants.{Fine}
 
@@ -19,7 +19,7 @@ pub record Writable (counts : List ℕ) (starts : List Float) (deltas coefficien
   pub some : 0 < length counts
   pub few : length counts < 2 ^ 32
   pub pairs : length starts ≡ 2 * length counts
-  pub points : length deltas ≡ 2 * sum counts
+  pub points : length deltas ≡ 2 * pointsOf counts
   pub rows : length coefficients ≡ 128 * length counts
   pub fit : firstFault (startChecks true 1 starts) ≡ Fine
   pub fits : 131 * length counts + length deltas + 2 ≤ room

@@ -10,7 +10,7 @@ use lib.Ieee.{Float, nan, inf, fin, binary32, ofBits, up, down, lt, toSigned}
 use Rattle.codes.specs.Codes.{numberOf}
 use Rattle.codes.specs.declared.Code.{Code}
 use Rattle.codes.specs.declared.Code.the-variants.{Splines, Coord, Points, Delta, Room, Shape}
-use Rattle.list.specs.List.{described, listOf, limitOf, posLimit, deltaLimit, beyond, sum}
+use Rattle.list.specs.List.{described, listOf, limitOf, posLimit, deltaLimit, beyond, pointsOf}
 use Rattle.writer.specs.declared.Verdict.{Verdict}
 use Rattle.writer.specs.declared.Verdict.the-variants.{Fine, Fault}
 use Rattle.writer.specs.declared.WriteAnswer.{WriteAnswer}
@@ -30,7 +30,7 @@ firstFault (check false c p ∷ rest) = firstFault rest
 unfoldable pub misshapen : List ℕ → List Float → List ℤ → List ℤ → Bool
 misshapen counts starts deltas coefficients =
     not (eqb (length starts) (2 * length counts))
-    || (not (eqb (length deltas) (2 * sum counts)) || not (eqb (length coefficients) (128 * length counts)))
+    || (not (eqb (length deltas) (2 * pointsOf counts)) || not (eqb (length coefficients) (128 * length counts)))
 
 -- no spline, or more than the limit
 unfoldable pub miscounted : ℕ → ℕ → Bool

@@ -11,7 +11,7 @@ ghost use lib.Dec.{eqb, leb};
 ghost use lib.ListN.{length, getD};
 ghost use lib.Seq.{sets};
 ghost use lib.IntN.{pos, natAbs, _-ℤ_};
-ghost use Rattle.list.specs.List.{packSigned, deltaLimit, sum, startsList, splinesList};
+ghost use Rattle.list.specs.List.{packSigned, deltaLimit, pointsOf, startsList, splinesList};
 ghost use Rattle.writer.specs.Steps.{laterList, Writable};
 ghost use Rattle.writer.specs.Write.{firstFault, misshapen, unfit, unfitAs, startChecks, deltaChecks, splineChecks, contentChecks, wholeOf, valuesOf, leaves, writeOf};
 
@@ -28,7 +28,7 @@ pub enum Verdict {
 
 // Whether the counts sum to just so many points: the sum itself may be too large to hold, so points are taken away instead.
 fn sum_is(counts: &[u32], points: usize) -> bool
-    ensures { λ r. ⌜ r ≡ eqb (sum (now (counts .entry))) points ⌝ }
+    ensures { λ r. ⌜ r ≡ eqb (pointsOf (now (counts .entry))) points ⌝ }
 {
     let mut left = points;
     let mut i = 0;
@@ -99,7 +99,7 @@ fn judge_deltas(deltas: &[i32], place: usize) -> Verdict
 
 // The first fault of the splines, whose first point count stands behind the starts and the adjustment.
 fn judge_splines(counts: &[u32], deltas: &[i32], limit: u32) -> Verdict
-    requires { ⌜ (length (now counts) < 2 ^ 32) × (length (now deltas) ≡ 2 * sum (now counts)) ⌝ }
+    requires { ⌜ (length (now counts) < 2 ^ 32) × (length (now deltas) ≡ 2 * pointsOf (now counts)) ⌝ }
     ensures { λ r. ⌜ r ≡ firstFault (splineChecks limit 0 (2 * length (now (counts .entry)) + 2) (now (counts .entry)) (now (deltas .entry))) ⌝ }
 {
     let mut left = limit;
@@ -261,7 +261,7 @@ fn put_spline(n: u32, deltas: &[i32], coefficients: &[i32], list: &mut [u32], at
 
 // All splines, from a place on.
 fn put_splines(counts: &[u32], deltas: &[i32], coefficients: &[i32], list: &mut [u32], at: usize)
-    requires { ⌜ (length (now deltas) ≡ 2 * sum (now counts)) × (length (now coefficients) ≡ 128 * length (now counts)) × (at + length (now deltas) + 129 * length (now counts) ≤ length (now list)) ⌝ }
+    requires { ⌜ (length (now deltas) ≡ 2 * pointsOf (now counts)) × (length (now coefficients) ≡ 128 * length (now counts)) × (at + length (now deltas) + 129 * length (now counts) ≤ length (now list)) ⌝ }
     ensures { λ _. ⌜ now (list .exit) ≡ sets (now (list .entry)) at (splinesList (now (counts .entry)) (now (deltas .entry)) (now (coefficients .entry))) ⌝ }
 {
     let mut place = at;

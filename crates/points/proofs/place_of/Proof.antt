@@ -3,7 +3,7 @@ use native.Mathlib.Omega.{arith}
 use borrow.Author.Needs.{needs}
 use lib.Dec.{le→leb}
 use lib.Ieee.{inFloat}
-use Rattle.points.specs.Points.{placeOf}
+use Rattle.points.specs.Points.{curveTime}
 use Rattle.points.proofs.place_of.Statement.{statement}
 use Rattle.points.proofs.place_of.Tie as tie
 
@@ -15,7 +15,7 @@ min-requires : tie.Need-min-requires
 min-requires c κs = search needs
 
 returns : tie.Need-returns
-unfolding placeOf
+unfolding curveTime
 returns c = rw (c .min .ensures)
 
 pub place-of-spec : {M : Type 1} → statement M

@@ -4,8 +4,8 @@ use Prim.Native.Nat.{_-_, _≤_}
 use native.Mathlib.Omega.{arith}
 use lib.ListN.{length, getD, length-set}
 use lib.Ieee.{nan}
-use Rattle.shade.specs.Edit.{edit, below}
-use Rattle.shade.specs.Shade.{addedAt}
+use Rattle.shade.specs.Edit.{edit, firstCells}
+use Rattle.shade.specs.Shade.{shadedByDistance}
 use Rattle.shade.proofs.Edits.{edit-none, edit-all, stored}
 use Rattle.shade.proofs.add.Statement.{statement}
 use Rattle.shade.proofs.add.Tie as tie
@@ -13,9 +13,9 @@ use Rattle.shade.proofs.add.Tie as tie
 abbrev Inv-loop : tie.InvT-loop
 Inv-loop segment distances r0₀ r1₀ r2₀ k₀ r0 r1 r2 k =
     (k ≤ length r0₀) × (length r0₀ ≤ 32) × (length r0 ≡ length r0₀) × (length r1 ≡ length r0₀) × (length r2 ≡ length r0₀)
-    × (r0 ≡ edit (below k (λ j v. addedAt segment (getD distances j nan) 0 v)) r0₀)
-    × (r1 ≡ edit (below k (λ j v. addedAt segment (getD distances j nan) 1 v)) r1₀)
-    × (r2 ≡ edit (below k (λ j v. addedAt segment (getD distances j nan) 2 v)) r2₀)
+    × (r0 ≡ edit (firstCells k (λ j v. shadedByDistance segment (getD distances j nan) 0 v)) r0₀)
+    × (r1 ≡ edit (firstCells k (λ j v. shadedByDistance segment (getD distances j nan) 1 v)) r1₀)
+    × (r2 ≡ edit (firstCells k (λ j v. shadedByDistance segment (getD distances j nan) 2 v)) r2₀)
 
 abbrev μ-loop : tie.MeasureT-loop
 μ-loop segment distances r0₀ r1₀ r2₀ k₀ r0 r1 r2 k = length r0₀ - k
@@ -75,7 +75,7 @@ loop-less : tie.Need-loop-less Inv-loop μ-loop
 loop-less c = omega arith
 
 loop-again : tie.Need-loop-again Inv-loop μ-loop
-unfolding addedAt
+unfolding shadedByDistance
 loop-again c =
     let l = c .before .before .before .before .before .before .before .before .before .loop in
     let g = c .before .before .before .before .before .before .intensity .ensures in (

@@ -4,7 +4,7 @@ use Prim.Native.Nat.{_+_, _-_, _≤_, _^_}
 use native.Mathlib.Omega.{arith}
 use lib.ListN.{length}
 use borrow.Author.Needs.{needs}
-use Rattle.shade.specs.Edit.{edit, below}
+use Rattle.shade.specs.Edit.{edit, firstCells}
 use Rattle.shade.specs.Shade.{dy2, shaded}
 use Rattle.shade.proofs.Edits.{length-edit, edit-none, edit-all}
 use Rattle.shade.proofs.Blocks.{block-turn}
@@ -14,9 +14,9 @@ use Rattle.shade.proofs.add_segment.Tie as tie
 abbrev Inv-loop : tie.InvT-loop
 Inv-loop segment y x r0₀ r1₀ r2₀ table dy dy2′ n a₀ r0 r1 r2 a =
     (a ≤ n) × (n ≡ length r0₀) × (x + n ≤ 2 ^ 23) × (length r0 ≡ n) × (length r1 ≡ n) × (length r2 ≡ n) × (dy2′ ≡ dy2 (segment .«center_y») y)
-    × (r0 ≡ edit (below a (λ k v. shaded segment y (x + k) 0 v)) r0₀)
-    × (r1 ≡ edit (below a (λ k v. shaded segment y (x + k) 1 v)) r1₀)
-    × (r2 ≡ edit (below a (λ k v. shaded segment y (x + k) 2 v)) r2₀)
+    × (r0 ≡ edit (firstCells a (λ k v. shaded segment y (x + k) 0 v)) r0₀)
+    × (r1 ≡ edit (firstCells a (λ k v. shaded segment y (x + k) 1 v)) r1₀)
+    × (r2 ≡ edit (firstCells a (λ k v. shaded segment y (x + k) 2 v)) r2₀)
 
 abbrev μ-loop : tie.MeasureT-loop
 μ-loop segment y x r0₀ r1₀ r2₀ table dy dy2′ n a₀ r0 r1 r2 a = n - a

@@ -5,14 +5,14 @@ use native.Mathlib.Omega.{arith}
 use lib.ListN.{length, length-set}
 use lib.Ieee.{binary32}
 use Rattle.numbers.specs.Root.{sqrtOf}
-use Rattle.shade.specs.Edit.{edit, below}
+use Rattle.shade.specs.Edit.{edit, firstCells}
 use Rattle.shade.proofs.Edits.{edit-none, edit-until, stored}
 use Rattle.shade.proofs.roots.Statement.{statement}
 use Rattle.shade.proofs.roots.Tie as tie
 
 abbrev Inv-loop : tie.InvT-loop
 Inv-loop v₀ m table k₀ v k =
-    (k ≤ m) × (length v ≡ 32) × (length v₀ ≡ 32) × (v ≡ edit (below k (λ j w. sqrtOf binary32 w)) v₀)
+    (k ≤ m) × (length v ≡ 32) × (length v₀ ≡ 32) × (v ≡ edit (firstCells k (λ j w. sqrtOf binary32 w)) v₀)
 
 abbrev μ-loop : tie.MeasureT-loop
 μ-loop v₀ m table k₀ v k = m - k

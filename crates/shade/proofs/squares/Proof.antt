@@ -3,7 +3,7 @@ use mathlib.Core.Path.{_≡_}
 use Prim.Native.Nat.{_+_, _-_, _≤_}
 use native.Mathlib.Omega.{arith}
 use lib.ListN.{length, length-set}
-use Rattle.shade.specs.Edit.{edit, below}
+use Rattle.shade.specs.Edit.{edit, firstCells}
 use Rattle.shade.specs.Shade.{sqd}
 use Rattle.shade.proofs.Edits.{edit-none, edit-until, stored}
 use Rattle.shade.proofs.squares.Statement.{statement}
@@ -11,7 +11,7 @@ use Rattle.shade.proofs.squares.Tie as tie
 
 abbrev Inv-loop : tie.InvT-loop
 Inv-loop v₀ m x center-x dy2 k₀ v k =
-    (k ≤ m) × (length v ≡ 32) × (length v₀ ≡ 32) × (v ≡ edit (below k (λ j w. sqd center-x dy2 (x + j))) v₀)
+    (k ≤ m) × (length v ≡ 32) × (length v₀ ≡ 32) × (v ≡ edit (firstCells k (λ j w. sqd center-x dy2 (x + j))) v₀)
 
 abbrev μ-loop : tie.MeasureT-loop
 μ-loop v₀ m x center-x dy2 k₀ v k = m - k

@@ -5,7 +5,7 @@ use mir.Syntax.{w32}
 use mir.Facts.{toZ-ofZ}
 use mir.Val.{toZ, ofZ}
 use Rattle.dequantize.specs.Judge.{Description, descriptionOf}
-use Rattle.table.specs.Table.{Rooms, roomsOf, Image, imageOf}
+use Rattle.table.specs.Table.{BuildRooms, roomsOf, Setting, settingOf}
 use Rattle.table.proofs.Checks.{ready}
 use Rattle.table.proofs.Placing.{build-refused, build-painted}
 use Rattle.table.proofs.build.Statement.{statement}
@@ -14,10 +14,10 @@ use Rattle.table.proofs.build.Tie as tie
 abbrev described : tie.Start → Description
 described s = descriptionOf (s .args .counts .now) (s .args .starts .now) (s .args .deltas .now) (s .args .coefficients .now)
 
-abbrev image : tie.Start → Image
-image s = imageOf (s .args .adjustment) (s .args .width) (s .args .height) (s .args .y-to-x) (s .args .y-to-b) (s .args .high-precision) (s .args .level10)
+abbrev image : tie.Start → Setting
+image s = settingOf (s .args .adjustment) (s .args .width) (s .args .height) (s .args .y-to-x) (s .args .y-to-b) (s .args .high-precision) (s .args .level10)
 
-abbrev rooms : tie.Start → Rooms
+abbrev rooms : tie.Start → BuildRooms
 rooms s = roomsOf (s .args .path .now) (s .args .walk .now) (s .args .segments .now) (s .args .row-starts .now) (s .args .entries .now)
 
 -- the adjustment as it was lent

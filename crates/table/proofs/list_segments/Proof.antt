@@ -6,13 +6,13 @@ use lib.ListN.{length, take}
 use lib.Ieee.{Float, binary32, ofBits}
 use borrow.Author.Needs.{needs}
 use Rattle.rows.specs.Rows.{Outcome, inRow, built}
-use Rattle.table.specs.Table.{Rooms, roomsOf}
+use Rattle.table.specs.Table.{BuildRooms, roomsOf}
 use Rattle.rows.proofs.Counts.{cleared}
 use Rattle.table.proofs.Placing.{kept, rows-room, rows-done}
 use Rattle.table.proofs.list_segments.Statement.{statement}
 use Rattle.table.proofs.list_segments.Tie as tie
 
-abbrev rooms : tie.Start → Rooms
+abbrev rooms : tie.Start → BuildRooms
 rooms s = roomsOf (s .args .path .now) (s .args .walk .now) (s .args .segments .now) (s .args .row-starts .now) (s .args .entries .now)
 
 -- the numbers of the segments

@@ -8,12 +8,12 @@ use Rattle.curve.specs.Curve.{pathRoom}
 use Rattle.walk.specs.Walk.{walkRoom}
 use Rattle.points.specs.Points.{segmentRoom}
 use Rattle.painting.specs.Painting.{Painted, paintOf}
-use Rattle.table.specs.Table.{Rooms, roomsOf}
+use Rattle.table.specs.Table.{BuildRooms, roomsOf}
 use Rattle.table.proofs.Placing.{painted-fits, painted-none, painted-all}
 use Rattle.table.proofs.paint.Statement.{statement}
 use Rattle.table.proofs.paint.Tie as tie
 
-abbrev rooms : tie.Start → Rooms
+abbrev rooms : tie.Start → BuildRooms
 rooms s = roomsOf (s .args .path .now) (s .args .walk .now) (s .args .segments .now) (s .args .row-starts .now) (s .args .entries .now)
 
 abbrev painted : tie.Start → Painted

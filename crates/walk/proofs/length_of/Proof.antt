@@ -7,7 +7,7 @@ use borrow.Author.Tests.{le-ltb}
 use lib.Dec.{le→leb}
 use lib.IntN.{pos, _-ℤ_}
 use lib.Ieee.{inFloat}
-use Rattle.walk.specs.Walk.{lengthOf}
+use Rattle.walk.specs.Walk.{walkLength}
 use Rattle.walk.proofs.length_of.Statement.{statement}
 use Rattle.walk.proofs.length_of.Tie as tie
 
@@ -22,7 +22,7 @@ unfolding inFloat
 int-to-float-result c = le→leb (c .before .args .n - 2) 16777216 (omega arith)
 
 returns : tie.Need-returns
-unfolding lengthOf
+unfolding walkLength
 returns c = rw (less-two (c .before .args .n) (omega arith))
 
 pub length-of-spec : {M : Type 1} → statement M

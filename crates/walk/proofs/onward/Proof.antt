@@ -4,13 +4,13 @@ use Prim.Native.Nat.{_-_, _/_, _^_, _<_}
 use native.Mathlib.Omega.{arith}
 use borrow.Author.Needs.{needs}
 use lib.ListN.{length}
-use Rattle.walk.specs.Walk.{reachIn, reachOf}
+use Rattle.walk.specs.Walk.{stretchIn, stretchOf}
 use Rattle.walk.proofs.Reaches.{reach-end, reach-emit, reach-pass}
 use Rattle.walk.proofs.onward.Statement.{statement}
 use Rattle.walk.proofs.onward.Tie as tie
 
 abbrev Inv-loop : tie.InvT-loop
-Inv-loop path next n i₀ p₀ d₀ i p d = (n ≡ length path / 2) × (length path < 2 ^ 62) × (reachIn (n - i₀) path i₀ p₀ d₀ ≡ reachIn (n - i) path i p d)
+Inv-loop path next n i₀ p₀ d₀ i p d = (n ≡ length path / 2) × (length path < 2 ^ 62) × (stretchIn (n - i₀) path i₀ p₀ d₀ ≡ stretchIn (n - i) path i p d)
 
 abbrev μ-loop : tie.MeasureT-loop
 μ-loop path next n i₀ p₀ d₀ i p d = n - i
@@ -34,7 +34,7 @@ add-requires : tie.Need-add-requires Inv-loop μ-loop
 add-requires c κs = search needs
 
 returns : tie.Need-returns Inv-loop μ-loop
-unfolding reachOf
+unfolding stretchOf
 returns c =
     let l = c .before .before .before .before .before .before .before .loop in
     sym
@@ -58,7 +58,7 @@ loop-again c =
     )
 
 returns-2 : tie.Need-returns-2 Inv-loop μ-loop
-unfolding reachOf
+unfolding stretchOf
 returns-2 c =
     let l = c .before .loop in
     sym (l .inv .2 ∙ reach-end _ _ (l .i) (l .previous) (l .walked) (omega arith))

@@ -4,7 +4,7 @@ use Prim.Native.Nat.{_+_, _-_, _*_, _≤_}
 use native.Mathlib.Omega.{arith}
 use borrow.Author.Needs.{needs}
 use lib.ListN.{length, drop, getD}
-use Rattle.list.specs.List.{sum}
+use Rattle.list.specs.List.{pointsOf}
 use Rattle.writer.specs.Write.{firstFault, splineChecks}
 use Rattle.writer.proofs.Checks.{length-part, sum-turn, spline-over, spline-wild, spline-pass, splines-end}
 use Rattle.writer.proofs.judge_splines.Statement.{statement}
@@ -12,7 +12,7 @@ use Rattle.writer.proofs.judge_splines.Tie as tie
 
 abbrev Inv-loop : tie.InvT-loop
 Inv-loop counts deltas limit left₀ place₀ from₀ i₀ left place from i =
-    (i ≤ length counts) × (left ≤ limit) × (from + 2 * sum (drop i counts) ≡ length deltas) × (place ≡ 2 * length counts + 2 + 129 * i + from)
+    (i ≤ length counts) × (left ≤ limit) × (from + 2 * pointsOf (drop i counts) ≡ length deltas) × (place ≡ 2 * length counts + 2 + 129 * i + from)
     × (firstFault (splineChecks limit 0 (2 * length counts + 2) counts deltas)
     ≡ firstFault (splineChecks limit (limit - left) place (drop i counts) (drop from deltas)))
 

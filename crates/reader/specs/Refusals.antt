@@ -1,5 +1,5 @@
 -- The codes of reading, and when each is given: the table of codes, for the list.
--- `Due` says what comes next, `Reached` how reading gets there with a rest of the list, and `Given` is the table.
+-- `Due` says what comes next, `Reached` how reading gets there with a rest of the list, and `DueRefusal` is the table.
 -- That a call refuses exactly so is `refused-exactly` and `given-exactly` of proofs/Promises.antt.
 use mathlib.Core.Path.{_≡_}
 use mathlib.Core.Bool.{Bool, true, false, cond}
@@ -10,7 +10,7 @@ use lib.ListN.{length}
 use lib.IntN.{ℤ, pos}
 use Rattle.codes.specs.Codes.{numberOf}
 use Rattle.codes.specs.declared.Code.{Code}
-use Rattle.list.specs.List.{unpackSigned, posLimit, deltaLimit, beyond, Rooms, coordinate, lacking}
+use Rattle.list.specs.List.{unpackSigned, posLimit, deltaLimit, beyond, ListRooms, coordinate, lacking}
 
 -- what the list holds next
 pub data Due : Type 0 where
@@ -43,7 +43,7 @@ wants (coefficients s used zero) = 0
 wants (coefficients s used (suc n)) = 1
 wants nothing = 0
 
-module _ (limit : ℕ) (rooms : Rooms) where
+module _ (limit : ℕ) (rooms : ListRooms) where
   -- reading the list l, with no refusal so far, comes to what is due, with r left
   pub data Reached (l : List ℕ) : Due → List ℕ → Type 0 where
     begin : Reached l count l
@@ -63,32 +63,32 @@ module _ (limit : ℕ) (rooms : Rooms) where
     all-pointed : {used : ℕ} {r : List ℕ} → Reached l (points zero used) r → Reached l nothing r
 
   -- the table: a code, what is due, and what is left of the list
-  pub data Given : Code → Due → List ℕ → Type 0 where
+  pub data DueRefusal : Code → Due → List ℕ → Type 0 where
     -- 1: the list ends before the next value
-    short : {d : Due} {r : List ℕ} → length r < wants d → Given Code.Short d r
+    short : {d : Due} {r : List ℕ} → length r < wants d → DueRefusal Code.Short d r
     -- 2: spline count above the limit
-    many-splines : {v : ℕ} {r : List ℕ} → limit < v + 1 → Given Code.Splines count (v ∷ r)
+    many-splines : {v : ℕ} {r : List ℕ} → limit < v + 1 → DueRefusal Code.Splines count (v ∷ r)
     -- 3: a start with a coordinate of magnitude 2^23 or more
     far-start : {s n : ℕ} {first : Bool} {x y : ℤ} {a b : ℕ} {r : List ℕ} → beyond posLimit (coordinate first x a) (coordinate first y b) ≡ true
-        → Given Code.Coord (starts s (suc n) first x y) (a ∷ b ∷ r)
+        → DueRefusal Code.Coord (starts s (suc n) first x y) (a ∷ b ∷ r)
     -- 4: running total of points above the limit
-    many-points : {s used n : ℕ} {r : List ℕ} → limit < used + n → Given Code.Points (points (suc s) used) (n ∷ r)
+    many-points : {s used n : ℕ} {r : List ℕ} → limit < used + n → DueRefusal Code.Points (points (suc s) used) (n ∷ r)
     -- 5: a double delta of magnitude 2^30 or more
-    far-delta : {s used n a b : ℕ} {r : List ℕ} → beyond deltaLimit (unpackSigned a) (unpackSigned b) ≡ true → Given Code.Delta (deltas s used (suc n)) (a ∷ b ∷ r)
+    far-delta : {s used n a b : ℕ} {r : List ℕ} → beyond deltaLimit (unpackSigned a) (unpackSigned b) ≡ true → DueRefusal Code.Delta (deltas s used (suc n)) (a ∷ b ∷ r)
     -- 6: values left over
-    left-over : {a : ℕ} {r : List ℕ} → Given Code.Trail nothing (a ∷ r)
+    left-over : {a : ℕ} {r : List ℕ} → DueRefusal Code.Trail nothing (a ∷ r)
     -- 7: no room for counts, starts or coefficients, at the count; no room for double deltas, at a point count
-    no-room : {v : ℕ} {r : List ℕ} → v + 1 ≤ limit → lacking rooms (v + 1) ≡ true → Given Code.Room count (v ∷ r)
-    no-deltas : {s used n : ℕ} {r : List ℕ} → used + n ≤ limit → rooms .deltas < 2 * (used + n) → Given Code.Room (points (suc s) used) (n ∷ r)
+    no-room : {v : ℕ} {r : List ℕ} → v + 1 ≤ limit → lacking rooms (v + 1) ≡ true → DueRefusal Code.Room count (v ∷ r)
+    no-deltas : {s used n : ℕ} {r : List ℕ} → used + n ≤ limit → rooms .deltas < 2 * (used + n) → DueRefusal Code.Room (points (suc s) used) (n ∷ r)
 
 -- the place: the list's length for SHORT, which is number 1, else the index of what is left
 abbrev pub placeOf : Code → ℕ → List ℕ → ℕ
 placeOf c total r = cond (eqb (numberOf c) 1) total (total - length r)
 
 -- a code is given at a place: reading reaches a point where the table has it
-pub record Refusal (limit : ℕ) (rooms : Rooms) (l : List ℕ) (c : Code) (p : ℕ) : Type 0 where
+pub record ReadRefusal (limit : ℕ) (rooms : ListRooms) (l : List ℕ) (c : Code) (p : ℕ) : Type 0 where
   pub due : Due
   pub rest : List ℕ
   pub reached : Reached limit rooms l due rest
-  pub given : Given limit rooms c due rest
+  pub given : DueRefusal limit rooms c due rest
   pub place : p ≡ placeOf c (length l) rest

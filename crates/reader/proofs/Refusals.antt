@@ -12,9 +12,9 @@ use lib.ListN.{length}
 use lib.IntN.{ℤ, pos}
 use borrow.Author.Tests.{lt-ltb, le-ltb, ltb-true, ltb-false}
 use Rattle.codes.specs.declared.Code.{Code}
-use Rattle.list.specs.List.{unpackSigned, posLimit, deltaLimit, beyond, Rooms, Got, got, stop, Spline, spline, Splines, splines, Described, andThen, onto, coordinate, startsOf, deltasOf, coefficientsOf, splineOf, ontoSplines, splinesOf, describe, ended, afterStarts, lacking, readOf}
+use Rattle.list.specs.List.{unpackSigned, posLimit, deltaLimit, beyond, ListRooms, Got, got, stop, Spline, spline, Splines, splines, Described, andThen, onto, coordinate, startsOf, deltasOf, coefficientsOf, splineIn, ontoSplines, splinesOf, describe, ended, afterStarts, lacking, readOf}
 use Rattle.list.specs.List as L
-use Rattle.reader.specs.Given.{Due, count, starts, adjustment, points, deltas, coefficients, nothing, wants, Reached, begin, counted, started, all-started, adjusted, pointed, moved, all-moved, weighed, all-weighed, all-pointed, Given, short, many-splines, far-start, many-points, far-delta, left-over, no-room, no-deltas, placeOf, Refusal}
+use Rattle.reader.specs.Refusals.{Due, count, starts, adjustment, points, deltas, coefficients, nothing, wants, Reached, begin, counted, started, all-started, adjusted, pointed, moved, all-moved, weighed, all-weighed, all-pointed, DueRefusal, short, many-splines, far-start, many-points, far-delta, left-over, no-room, no-deltas, placeOf, ReadRefusal}
 
 -- what becomes of reading
 data Fate : Type 0 where
@@ -49,7 +49,7 @@ fate-then : {A B : Type 0} (g : Got A) (f : A → List ℕ → Got B) (h : List 
 fate-then (got a l) f h e = e a l
 fate-then (stop c p) f h e = refl
 
-module _ (limit : ℕ) (rooms : Rooms) (t : ℕ) where
+module _ (limit : ℕ) (rooms : ListRooms) (t : ℕ) where
   abbrev end : List ℕ → Fate
   end [] = done
   end (a ∷ r) = at Code.Trail (t - length (a ∷ r))
@@ -109,7 +109,7 @@ module _ (limit : ℕ) (rooms : Rooms) (t : ℕ) where
       (cond (ltb (rooms .deltas - 2 * used) (2 * n)) (at Code.Room (t - length (n ∷ r))) (deltasFrom s (used + n) n r))
 
   points-step : (s used n : ℕ) (r : List ℕ) → splinesFrom (suc s) used (n ∷ r) ≡ pointsFrom s used n r
-  unfolding splinesOf splineOf
+  unfolding splinesOf splineIn
   points-step s used n r = test (ltb (limit - used) n) (ltb (rooms .deltas - 2 * used) (2 * n))
     where
       others : Spline → List ℕ → Got Splines
@@ -157,7 +157,7 @@ module _ (limit : ℕ) (rooms : Rooms) (t : ℕ) where
   -- ---- what the table says is what becomes of reading there
 
   ends : (d : Due) (r : List ℕ) → length r < wants d → from d r ≡ at Code.Short t
-  unfolding startsOf deltasOf coefficientsOf splinesOf splineOf
+  unfolding startsOf deltasOf coefficientsOf splinesOf splineIn
   ends count [] h = refl
   ends count (a ∷ r) h = absurd (omega arith)
   ends (starts s zero first x y) r h = absurd (not-suc-le-zero h)
@@ -201,7 +201,7 @@ module _ (limit : ℕ) (rooms : Rooms) (t : ℕ) where
   under (all-weighed q) = under q
   under (all-pointed q) = tt
 
-  given-at : {c : Code} {d : Due} {r : List ℕ} → Under d → Given limit rooms c d r → from d r ≡ at c (placeOf c t r)
+  given-at : {c : Code} {d : Due} {r : List ℕ} → Under d → DueRefusal limit rooms c d r → from d r ≡ at c (placeOf c t r)
   unfolding startsOf deltasOf coefficientsOf
   given-at u (short {d} {r} h) = ends d r h
   given-at u (many-splines {v} {r} h) = rw (lt-ltb limit (v + 1) h)
@@ -241,7 +241,7 @@ module _ (limit : ℕ) (rooms : Rooms) (t : ℕ) where
       rw (sub-zero limit, sub-zero (rooms .deltas))
       (fate-then (splinesOf t limit (rooms .deltas) s l) (λ x l1. ended t (describe (unpackSigned u) zs x) l1) end (λ x l1. ended-fate (describe (unpackSigned u) zs x) l1))
 
-read-fate : (limit : ℕ) (rooms : Rooms) (l : List ℕ) → fate (readOf limit rooms l) ≡ countFrom limit rooms (length l) l
+read-fate : (limit : ℕ) (rooms : ListRooms) (l : List ℕ) → fate (readOf limit rooms l) ≡ countFrom limit rooms (length l) l
 unfolding readOf
 read-fate limit rooms [] = refl
 read-fate limit rooms (v ∷ l) =
@@ -260,7 +260,7 @@ read-fate limit rooms (v ∷ l) =
         (adjustmentFrom limit rooms (length (v ∷ l)) (v + 1)) (λ zs l1. after-fate limit rooms (length (v ∷ l)) (v + 1) zs l1)
 
 -- what the table says is given
-pub given-exactly : (limit : ℕ) (rooms : Rooms) (l : List ℕ) (c : Code) (d : Due) (r : List ℕ) → Reached limit rooms l d r → Given limit rooms c d r
+pub given-exactly : (limit : ℕ) (rooms : ListRooms) (l : List ℕ) (c : Code) (d : Due) (r : List ℕ) → Reached limit rooms l d r → DueRefusal limit rooms c d r
     → readOf limit rooms l ≡ stop c (placeOf c (length l) r)
 given-exactly limit rooms l c d r q g =
     fate-stop (readOf limit rooms l) c (placeOf c (length l) r) (read-fate limit rooms l ∙ reached-from limit rooms (length l) q ∙ given-at limit rooms (length l) (under limit rooms (length l) q) g)
@@ -268,15 +268,15 @@ given-exactly limit rooms l c d r q g =
 -- ---- what is given is in the table
 
 -- what is met at the end of reading: its end, or a refusal of the table
-abbrev Met : ℕ → Rooms → List ℕ → Fate → Type 0
+abbrev Met : ℕ → ListRooms → List ℕ → Fate → Type 0
 Met limit rooms l done = Reached limit rooms l nothing []
-Met limit rooms l (at c p) = Refusal limit rooms l c p
+Met limit rooms l (at c p) = ReadRefusal limit rooms l c p
 
-module _ (limit : ℕ) (rooms : Rooms) (l : List ℕ) (f : Fate) where
+module _ (limit : ℕ) (rooms : ListRooms) (l : List ℕ) (f : Fate) where
   abbrev t : ℕ
   t = length l
 
-  stopped : {c : Code} (d : Due) (r : List ℕ) → Reached limit rooms l d r → Given limit rooms c d r → from limit rooms t d r ≡ f → Met limit rooms l f
+  stopped : {c : Code} (d : Due) (r : List ℕ) → Reached limit rooms l d r → DueRefusal limit rooms c d r → from limit rooms t d r ≡ f → Met limit rooms l f
   stopped d r q g e =
       subst (Met limit rooms l) (sym (given-at limit rooms t (under limit rooms t q) g) ∙ e)
       (record { due = d; rest = r; reached = q; given = g; place = refl })
@@ -350,14 +350,14 @@ module _ (limit : ℕ) (rooms : Rooms) (l : List ℕ) (f : Fate) where
           (rw (h, w) at e)
 
 -- what is given is said by the table
-pub refused-exactly : (limit : ℕ) (rooms : Rooms) (l : List ℕ) (c : Code) (p : ℕ) → readOf limit rooms l ≡ stop c p → Refusal limit rooms l c p
+pub refused-exactly : (limit : ℕ) (rooms : ListRooms) (l : List ℕ) (c : Code) (p : ℕ) → readOf limit rooms l ≡ stop c p → ReadRefusal limit rooms l c p
 refused-exactly limit rooms l c p e = find-count limit rooms l (at c p) l begin (sym (read-fate limit rooms l) ∙ ap fate e)
 
 -- a list is read exactly when reading reaches its end
-pub read-reached : (limit : ℕ) (rooms : Rooms) (l : List ℕ) (x : Described) (r : List ℕ) → readOf limit rooms l ≡ got x r → Reached limit rooms l nothing []
+pub read-reached : (limit : ℕ) (rooms : ListRooms) (l : List ℕ) (x : Described) (r : List ℕ) → readOf limit rooms l ≡ got x r → Reached limit rooms l nothing []
 read-reached limit rooms l x r e = find-count limit rooms l done l begin (sym (read-fate limit rooms l) ∙ ap fate e)
 
-pub reached-read : (limit : ℕ) (rooms : Rooms) (l : List ℕ) → Reached limit rooms l nothing [] → (x : Described) × (r : List ℕ) × (readOf limit rooms l ≡ got x r)
+pub reached-read : (limit : ℕ) (rooms : ListRooms) (l : List ℕ) → Reached limit rooms l nothing [] → (x : Described) × (r : List ℕ) × (readOf limit rooms l ≡ got x r)
 reached-read limit rooms l q = go (readOf limit rooms l) (read-fate limit rooms l ∙ reached-from limit rooms (length l) q)
   where
     go : (g : Got Described) → fate g ≡ done → (x : Described) × (r : List ℕ) × (g ≡ got x r)

@@ -8,7 +8,7 @@ use lib.IntN.{ℤ}
 use lib.Ieee.{Float}
 use Rattle.codes.specs.declared.Code.{Code}
 use Rattle.codes.specs.declared.Code.the-variants.{Splines, Coord, Points, Delta, Room, Shape}
-use Rattle.list.specs.List.{deltaLimit, beyond, sum, Tame}
+use Rattle.list.specs.List.{deltaLimit, beyond, pointsOf, Tame}
 use Rattle.writer.specs.Write.{misshapen, miscounted, unfitAs}
 
 -- pair k of the starts holds a number that can't be written
@@ -34,47 +34,47 @@ wildPair (x ∷ y ∷ ds) (suc k) = wildPair ds k
 
 -- the points of the first k splines
 abbrev pub pointsBefore : ℕ → List ℕ → ℕ
-pointsBefore k ns = sum (take k ns)
+pointsBefore k ns = pointsOf (take k ns)
 
 -- from the first point count to that of spline k: double deltas, 128 coefficients and a count for each spline before it
 abbrev pub valuesBefore : ℕ → List ℕ → ℕ
 valuesBefore k ns = 2 * pointsBefore k ns + 129 * k
 
 -- a code and a place that the splines give, under a limit, with the points before them and the place of the first point count
-pub data SplineGiven (limit total place : ℕ) (ns : List ℕ) (ds : List ℤ) : Code → ℕ → Type 0 where
+pub data SplineRefusal (limit total place : ℕ) (ns : List ℕ) (ds : List ℤ) : Code → ℕ → Type 0 where
   -- 4: the running total passes the limit at spline k's count, and no double delta before it is wild
   points : (k : ℕ) → k < length ns → total + pointsBefore k ns ≤ limit → limit < total + pointsBefore (suc k) ns
       → Tame (take (2 * pointsBefore k ns) ds)
-      → SplineGiven limit total place ns ds Points (place + valuesBefore k ns)
+      → SplineRefusal limit total place ns ds Points (place + valuesBefore k ns)
   -- 5: pair j of spline k is wild, the running total is within the limit there, and no double delta before it is wild
   delta : (k j : ℕ) → k < length ns → j < getD ns k 0 → total + pointsBefore (suc k) ns ≤ limit
       → Tame (take (2 * (pointsBefore k ns + j)) ds) → wildPair ds (pointsBefore k ns + j) ≡ true
-      → SplineGiven limit total place ns ds Delta (place + valuesBefore k ns + (1 + 2 * j))
+      → SplineRefusal limit total place ns ds Delta (place + valuesBefore k ns + (1 + 2 * j))
 
 -- a code and a place that a description gives, under a limit, where its list has so many values and so many cells are lent
-pub data Given (ns : List ℕ) (ss : List Float) (ds cs : List ℤ) (limit size room : ℕ) : Code → ℕ → Type 0 where
+pub data WriteRefusal (ns : List ℕ) (ss : List Float) (ds cs : List ℤ) (limit size room : ℕ) : Code → ℕ → Type 0 where
   -- 9: lengths disagree
-  shape : misshapen ns ss ds cs ≡ true → Given ns ss ds cs limit size room Shape 0
+  shape : misshapen ns ss ds cs ≡ true → WriteRefusal ns ss ds cs limit size room Shape 0
   -- 2: a count of 0 or above the limit
-  splines : misshapen ns ss ds cs ≡ false → miscounted limit (length ns) ≡ true → Given ns ss ds cs limit size room Splines 0
+  splines : misshapen ns ss ds cs ≡ false → miscounted limit (length ns) ≡ true → WriteRefusal ns ss ds cs limit size room Splines 0
   -- 3: pair k of the starts is the first that can't be written
   coord : misshapen ns ss ds cs ≡ false → miscounted limit (length ns) ≡ false
       → (k : ℕ) → FitPairs true k ss → unfitPair true ss k ≡ true
-      → Given ns ss ds cs limit size room Coord (1 + 2 * k)
+      → WriteRefusal ns ss ds cs limit size room Coord (1 + 2 * k)
   -- 4 and 5: all starts can be written, and the splines give the code
   spline : misshapen ns ss ds cs ≡ false → miscounted limit (length ns) ≡ false → FitPairs true (length ns) ss
-      → {c : Code} {p : ℕ} → SplineGiven limit 0 (2 * length ns + 2) ns ds c p
-      → Given ns ss ds cs limit size room c p
+      → {c : Code} {p : ℕ} → SplineRefusal limit 0 (2 * length ns + 2) ns ds c p
+      → WriteRefusal ns ss ds cs limit size room c p
   -- 7: nothing else is given, and the list is too short
-  room : misshapen ns ss ds cs ≡ false → miscounted limit (length ns) ≡ false → FitPairs true (length ns) ss → sum ns ≤ limit → Tame ds → room < size
-      → Given ns ss ds cs limit size room Room room
+  room : misshapen ns ss ds cs ≡ false → miscounted limit (length ns) ≡ false → FitPairs true (length ns) ss → pointsOf ns ≤ limit → Tame ds → room < size
+      → WriteRefusal ns ss ds cs limit size room Room room
 
 -- 0: nothing is given, and so many values are written
 pub record Accepted (ns : List ℕ) (ss : List Float) (ds cs : List ℤ) (limit size room values : ℕ) : Type 0 where
   pub shaped : misshapen ns ss ds cs ≡ false
   pub counted : miscounted limit (length ns) ≡ false
   pub fit : FitPairs true (length ns) ss
-  pub within : sum ns ≤ limit
+  pub within : pointsOf ns ≤ limit
   pub tame : Tame ds
   pub held : size ≤ room
   pub all : values ≡ size
