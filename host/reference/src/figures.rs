@@ -216,18 +216,16 @@ impl Touched {
         for (pixel, value) in there.iter().enumerate() {
             let is = touched(value);
             let agree = |rung: &&Picture| touched(&rung[pixel]) == is;
-            let late = rungs.iter().rev().take_while(agree).count();
-            if late == rungs.len() {
+            if agree(&&rungs[0]) {
                 self.both += u64::from(is);
-            } else {
-                let rule = first_rule + rungs.len() - 1 - late;
-                let rule = if late == 0 { RULES.len() - 1 } else { rule };
-                *(if is {
-                    &mut self.there[rule]
-                } else {
-                    &mut self.here[rule]
-                }) += 1;
+                continue;
             }
+            let rule = match rungs.iter().rev().take_while(agree).count() {
+                0 => RULES.len() - 1,
+                late => first_rule + rungs.len() - 1 - late,
+            };
+            let side = if is { &mut self.there } else { &mut self.here };
+            side[rule] += 1;
         }
     }
 }

@@ -85,6 +85,12 @@ impl Orders {
 
 type Point = [f32; 2];
 
+/// The k whose multiples of π/32 part.
+pub fn parted_turns() -> Vec<usize> {
+    let parted = |&k: &usize| Orders::NONE.turn(k) != Orders::ALL.turn(k);
+    (0..32).filter(parted).collect()
+}
+
 /// A segment as both sides keep it.
 pub struct Piece {
     center: Point,

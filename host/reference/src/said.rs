@@ -2,7 +2,7 @@
 
 use crate::figures::{alone, changed, ladder, touched, Apart, Figures, Touched, RULES};
 use crate::files::File;
-use crate::rules::Picture;
+use crate::rules::{parted_turns, Picture};
 use std::fmt::Write;
 
 /// The table of all files.
@@ -57,7 +57,7 @@ fn differences(total: &Figures) -> String {
     for (alone, apart) in alone().iter().zip(&total.alone) {
         line(&format!("alone: {}", alone.name), apart);
     }
-    text
+    text + &format!("multiples of pi/32 that part: {:?}\n", parted_turns())
 }
 
 /// A line for each kind of file.
