@@ -21,7 +21,7 @@ type Bare = (&'static [[i32; 2]], &'static [i32]);
 
 const DOT: Bare = (&[[0, 0]], &[1]);
 #[rustfmt::skip]
-const LINES: [Line; 15] = [
+const LINES: [Line; 19] = [
     ("starts", [2, 1], &[(&[[0, 0], [1, 0]], &[1])], [DONE, DONE, "Too many control points: 2"]),
     ("points", [2, 1], &[(&[[0, 0], [1, 0], [2, 0]], &[1])], ["Points", "Points", "Too many control points: 3"]),
     ("splines", [2, 1], &[DOT, DOT], ["Splines", "Splines", "Too many splines: 2"]),
@@ -35,6 +35,10 @@ const LINES: [Line; 15] = [
     ("coincide", [8, 1], &[(&[[0, 0], [1, 0], [1, 0]], &[1])], ["Coincide", "Coincide", "identical successive control points in spline 0"]),
     ("covered", [4, 1], &[(&[[0, 0], [1, 0]], &[58])], [DONE; 3]),
     ("over", [4, 1], &[(&[[0, 0], [1, 0]], &[59])], [DONE, DONE, COVERED]),
+    ("wider", [64, 64], &[(&[[0, 0], [1, 0]], &[83])], [DONE; 3]),
+    ("wider-over", [64, 64], &[(&[[0, 0], [1, 0]], &[84])], [DONE, DONE, COVERED]),
+    ("none-made", [4, 1], &[(&[[0, 0], [16397, 0]], &[])], [DONE; 3]),
+    ("none-over", [4, 1], &[(&[[0, 0], [16398, 0]], &[])], [DONE, DONE, COVERED]),
     // Coefficient 3 takes back what coefficient 1 gives where the three points of the walk lie.
     ("taken-back", [4, 1], &[(&[[0, 0], [1, 0]], &[0, 4076, 0, -4115])], [DONE; 3]),
     ("one-more", [4, 1], &[(&[[0, 0], [1, 0]], &[0, 4076, 0, -4116])], ["Area", DONE, DONE]),

@@ -1,8 +1,8 @@
 //! Splines drawn by rules that can be changed one by one: with none changed as spline.rs draws them, with all changed as libjxl 0.7 does.
 //!
-//! The rules of libjxl were read in the machine code of Debian's library for Arm. Both ends are held against the real thing:
-//! with no rule changed the picture must be that of spline.rs, bit for bit; how near it comes to that of djxl with all
-//! changed is a figure of the run.
+//! Both ends are held against the real thing: with no rule changed the picture must be that of spline.rs, bit for bit; how
+//! near it comes to that of djxl with all changed is a figure of the run. That no float is left apart is what the rules of
+//! libjxl rest on; where to look for them was seen in the machine code of Debian's library for Arm.
 
 use cases::{Description, Given};
 use oracle::{Dequantized, Outcome};
