@@ -1,16 +1,18 @@
 -- What drawing one segment answers and leaves, by its checks. A segment is the first of its own eight floats, so the laws of drawing from a flat list speak of it.
-use mathlib.Core.Path.{_≡_, refl, ap, _∙_}
-use mathlib.Core.Bool.{Bool, true, false}
+use mathlib.Core.Path.{_≡_, refl, sym, ap, _∙_}
+use mathlib.Core.Bool.{Bool, true, false, _&&_}
 use mathlib.Core.List.{List}
-use Prim.Native.Nat.{ℕ, _+_, _*_, _/_, _^_, _<_, _≤_}
+use Prim.Native.Nat.{ℕ, _+_, _-_, _*_, _/_, _^_, _<_, _≤_}
 use native.Mathlib.Nat.{zero-add}
 use native.Mathlib.Omega.{arith}
-use lib.Dec.{ltb}
-use lib.ListN.{length, getD}
-use lib.Ieee.{Float}
-use borrow.Author.Tests.{lt-ltb, le-ltb}
+use lib.Dec.{leb, ltb}
+use lib.ListN.{length, getD, take, drop, length-drop}
+use lib.Seq.{getD-drop}
+use lib.Ieee.{Float, nan}
+use borrow.Author.Tests.{ltb-true, leb-true, lt-ltb, le-ltb, lt-leb, le-leb}
+use borrow.Rule.Slice.PartAt.{part-to-end}
 use Rattle.codes.specs.declared.Code.{Code}
-use Rattle.segments.specs.Segment.{segmentAt, eightOf}
+use Rattle.segments.specs.Segment.{field, segmentAt, eightOf}
 use Rattle.segments.specs.Ranges.{hasColumn, columnsOf}
 use Rattle.segments.specs.declared.Segment.{Segment}
 use Rattle.segments.specs.declared.Range.{Range}
@@ -18,8 +20,9 @@ use Rattle.shade.specs.Edit.{edit}
 use Rattle.shade.specs.Shade.{shaded}
 use Rattle.draw.specs.declared.DrawAnswer.the-variants.{Done, Refused}
 use Rattle.draw.specs.Draw.{between, count, spanGood, three, Channels, leaves}
+use Rattle.draw.proofs.Entries.{and-left, and-right}
 use Rattle.draw.proofs.Columns.{ranged, count-columns, draw-columns}
-use Rattle.records.specs.Records.{zeroSegment, recordOf, recordsOf, drawnChannelAlone, judgeRecord, drawAlone, drawRecordOf}
+use Rattle.records.specs.Records.{zeroSegment, recordOf, recordsOf, drawnChannelAlone, judgeRecord, drawAlone, drawRecordOf, isKnown, drawNumberOf}
 use Rattle.records.proofs.Fills.{length-listFrom, listFrom-at}
 
 module _ (s : Segment) (x0 n : ℕ) (r : Range) (q : r ≡ columnsOf s) (h : x0 + n ≤ 2 ^ 23) where
@@ -63,5 +66,56 @@ module _ (xs : List Float) (c m i : ℕ) (in-count : i < c) (in-records : i < m)
       ap (λ (k : ℕ). drawAlone (ltb i k) (getD (recordsOf xs c m) i zeroSegment) y x0 n a) (length-listFrom (recordOf xs c) 0 m)
       ∙ ap (λ (known : Bool). drawAlone known (getD (recordsOf xs c m) i zeroSegment) y x0 n a) (lt-ltb i m in-records)
       ∙ ap (λ (s : Segment). drawAlone true s y x0 n a) filled
+
+-- ---- a segment by its number
+
+and-no : (t : Bool) → t && false ≡ false
+and-no true = refl
+and-no false = refl
+
+module _ (xs : List Float) (c i : ℕ) where
+  pub known-here : i < c → 8 * c ≤ length xs → isKnown xs c i ≡ true
+  unfolding isKnown
+  known-here p q = rw (lt-ltb i c p, le-leb (8 * c) (length xs) q) refl
+
+  pub not-counted : c ≤ i → isKnown xs c i ≡ false
+  unfolding isKnown
+  not-counted p = rw (le-ltb i c p) refl
+
+  pub not-fitting : length xs < 8 * c → isKnown xs c i ≡ false
+  unfolding isKnown
+  not-fitting p = rw (lt-leb (8 * c) (length xs) p) (and-no (ltb i c))
+
+-- what a known number says
+pub record Known (xs : List Float) (c i : ℕ) : Type 0 where
+  pub counted : i < c
+  pub fits : 8 * c ≤ length xs
+
+pub known-facts : (xs : List Float) (c i : ℕ) → isKnown xs c i ≡ true → Known xs c i
+unfolding isKnown
+known-facts xs c i e = record { counted = ltb-true i c (and-left (ltb i c) (leb (8 * c) (length xs)) e); fits = leb-true (8 * c) (length xs) (and-right (ltb i c) (leb (8 * c) (length xs)) e) }
+
+-- a segment of the floats from segment b on is a segment of them all
+module _ (xs : List Float) (b j i : ℕ) (e : b + j ≡ i) where
+  field-from : (k : ℕ) → field (drop (8 * b) xs) j k ≡ field xs i k
+  field-from k = getD-drop (8 * b) xs (8 * j + k) nan ∙ ap (λ (m : ℕ). getD xs m nan) (omega arith)
+
+  pub segment-from : segmentAt (drop (8 * b) xs) j ≡ segmentAt xs i
+  unfolding segmentAt
+  segment-from = rw (field-from 0, field-from 1, field-from 2, field-from 3, field-from 4, field-from 5, field-from 6, field-from 7) refl
+
+-- a known number among the 16 from b on: drawing its record of those 16 is drawing the number
+pub in-16 : (xs : List Float) (c i b y x0 n : ℕ) (a : Channels) → isKnown xs c i ≡ true → b ≤ i → i < b + 16
+    → drawRecordOf (recordsOf (take (length xs - 8 * b) (drop (8 * b) xs)) (c - b) 16) (i - b) y x0 n a ≡ drawNumberOf xs c i y x0 n a
+in-16 xs c i b y x0 n a e l u =
+    let k = known-facts xs c i e in
+    let fits : 8 * (i - b) + 8 ≤ length (drop (8 * b) xs) = rw (length-drop (8 * b) xs) (omega (arith, k .counted, k .fits)) in
+    let here : i - b < c - b = omega (arith, k .counted) in
+    let few : i - b < 16 = omega arith in
+    let at : b + (i - b) ≡ i = omega arith in
+    ap (λ (zs : List Float). drawRecordOf (recordsOf zs (c - b) 16) (i - b) y x0 n a) (part-to-end xs (8 * b))
+    ∙ filled-drawn (drop (8 * b) xs) (c - b) 16 (i - b) here few fits y x0 n a
+    ∙ ap (λ (s : Segment). drawAlone true s y x0 n a) (segment-from xs b (i - b) i at)
+    ∙ ap (λ (known : Bool). drawAlone known (segmentAt xs i) y x0 n a) (sym e)
 
 -- Assumes nothing.

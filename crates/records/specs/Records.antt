@@ -1,8 +1,8 @@
 -- Segments as records in a slice: what a flat slice of eight floats a segment says of the record at an index, a list of such records, and one record drawn. Definitions only.
 use mathlib.Core.Bool.{Bool, cond, _&&_}
 use mathlib.Core.List.{List, [], _∷_}
-use Prim.Native.Nat.{ℕ, zero, suc, _+_, _/_, _^_}
-use lib.Dec.{ltb}
+use Prim.Native.Nat.{ℕ, zero, suc, _+_, _*_, _/_, _^_}
+use lib.Dec.{leb, ltb}
 use lib.ListN.{length, getD}
 use lib.Ieee.{Float}
 use Rattle.numbers.specs.Arith.{f}
@@ -66,3 +66,13 @@ drawAlone known s y x0 n a = outcomeAlone (judgeRecord known y x0 n (length (a .
 -- what drawing the record i of a list answers and leaves
 abbrev pub drawRecordOf : List Segment → ℕ → ℕ → ℕ → ℕ → Channels → DrawOutcome
 drawRecordOf records i y x0 n a = drawAlone (ltb i (length records)) (getD records i zeroSegment) y x0 n a
+
+-- ---- a segment of a flat list, by its number
+
+-- a number is known when it is below the count, and the count fits the floats
+unfoldable pub isKnown : List Float → ℕ → ℕ → Bool
+isKnown xs c i = ltb i c && leb (8 * c) (length xs)
+
+-- what drawing number i of c flat segments answers and leaves
+abbrev pub drawNumberOf : List Float → ℕ → ℕ → ℕ → ℕ → ℕ → Channels → DrawOutcome
+drawNumberOf xs c i y x0 n a = drawAlone (isKnown xs c i) (segmentAt xs i) y x0 n a

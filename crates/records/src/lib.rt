@@ -2,7 +2,7 @@
 ghost use mathlib.Core.Path.{_≡_};
 ghost use lib.ListN.{length, getD};
 ghost use Rattle.draw.specs.Draw.{three, leaves};
-ghost use Rattle.records.specs.Records.{zeroSegment, recordOf, recordsOf, drawAlone, drawRecordOf};
+ghost use Rattle.records.specs.Records.{zeroSegment, recordOf, recordsOf, drawAlone, drawRecordOf, isKnown, drawNumberOf};
 use codes::Code;
 use draw::DrawAnswer;
 use segments::Segment;
@@ -119,8 +119,8 @@ pub fn draw_record(
     draw_alone(known, segment, y, x0, n, r0, r1, r2)
 }
 
-// Draws the record i of the first 16 that a flat slice fills: its parameters are plain, so its callers need no walk.
-pub fn draw_by_records(
+// Draws the record i of 16 that a flat slice fills: its parameters are plain, so its callers need no walk.
+fn draw_in_16(
     flat: &[f32],
     count: usize,
     i: usize,
@@ -138,4 +138,52 @@ pub fn draw_by_records(
     let mut records = [zero; 16];
     fill_records(flat, count, &mut records);
     draw_record(&records, i, y, x0, n, r0, r1, r2)
+}
+
+// ---- a segment of a flat slice, by its number
+
+// Whether a number is below the count, and the count fits the floats.
+fn is_known(flat: &[f32], count: usize, i: usize) -> bool
+    ensures { λ r. ⌜ r ≡ isKnown (now (flat .entry)) count i ⌝ }
+{
+    if count <= i {
+        return false;
+    }
+    if flat.len() / 8 < count {
+        return false;
+    }
+    true
+}
+
+// Draws number i of `count` flat segments by way of records. There may be any number of segments: 16 records are filled, from the multiple of 16 on that is i or comes before it.
+// A number that is not below the count, and every number of a count that the floats do not hold, is TABLE.
+pub fn draw_by_records(
+    flat: &[f32],
+    count: usize,
+    i: usize,
+    y: u32,
+    x0: u32,
+    n: u32,
+    r0: &mut [f32],
+    r1: &mut [f32],
+    r2: &mut [f32],
+) -> DrawAnswer
+    ensures { λ r. ⌜ leaves r (three (now (r0 .exit)) (now (r1 .exit)) (now (r2 .exit)))
+        ≡ drawNumberOf (now (flat .entry)) count i y x0 n (three (now (r0 .entry)) (now (r1 .entry)) (now (r2 .entry))) ⌝ }
+{
+    if !is_known(flat, count, i) {
+        return DrawAnswer::Refused(Code::Table, 0);
+    }
+    let first = i / 16 * 16;
+    draw_in_16(
+        &flat[8 * first..],
+        count - first,
+        i - first,
+        y,
+        x0,
+        n,
+        r0,
+        r1,
+        r2,
+    )
 }

@@ -1,0 +1,28 @@
+-- What a number of a flat segment comes to, on both sides of the count. proofs/Numbers.antt proves each statement. Definitions only.
+use mathlib.Core.Path.{_≡_}
+use mathlib.Core.Bool.{true}
+use mathlib.Core.Logic.{_⊎_}
+use mathlib.Core.List.{List, [], _∷_}
+use Prim.Native.Nat.{ℕ, _*_, _<_, _≤_}
+use lib.ListN.{length}
+use lib.Ieee.{Float}
+use Rattle.codes.specs.declared.Code.{Code}
+use Rattle.segments.specs.Segment.{segmentAt}
+use Rattle.draw.specs.declared.Verdict.the-variants.{Fine}
+use Rattle.draw.specs.declared.DrawAnswer.the-variants.{Refused}
+use Rattle.draw.specs.Draw.{Table, rowOf, judgeOf, Channels, leaves, drawOf}
+use Rattle.records.specs.Records.{drawAlone, drawNumberOf}
+
+-- a number below the count, where the count fits the floats, is drawn as the flat segment there
+abbrev pub KnownIsDrawn : Type 0
+KnownIsDrawn = (xs : List Float) (c i y x0 n : ℕ) (a : Channels) → i < c → 8 * c ≤ length xs → drawNumberOf xs c i y x0 n a ≡ drawAlone true (segmentAt xs i) y x0 n a
+
+-- any other number is TABLE, and the channels are as they were
+abbrev pub UnknownIsRefused : Type 0
+UnknownIsRefused = (xs : List Float) (c i y x0 n : ℕ) (a : Channels) → (c ≤ i) ⊎ (length xs < 8 * c) → drawNumberOf xs c i y x0 n a ≡ leaves (Refused Code.Table 0) a
+
+-- where a row of a table passes the checks and lists one number alone, drawing the row is drawing that number
+abbrev pub RowOfOneIsItsNumber : Type 0
+RowOfOneIsItsNumber =
+    (t : Table) (i y x0 n : ℕ) (a : Channels) → judgeOf t y x0 n (length (a .r0)) (length (a .r1)) (length (a .r2)) ≡ Fine → rowOf t y ≡ i ∷ []
+    → drawOf t y x0 n a ≡ drawNumberOf (t .segments) (t .segmentCount) i y x0 n a
