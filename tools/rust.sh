@@ -14,7 +14,7 @@ export SPLINE_SRC
 
 if [ "$(uname -m)" != x86_64 ]; then
     rust_linker=x86_64-linux-gnu-gcc
-    rust_runner='qemu-x86_64 -L /usr/x86_64-linux-gnu'
+    rust_runner=qemu-x86_64
     export CARGO_TARGET_X86_64_UNKNOWN_LINUX_GNU_RUNNER="$rust_runner"
 fi
 
