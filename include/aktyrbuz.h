@@ -7,7 +7,7 @@
  * A buffer is a pointer and a length in cells; a length of 0 may come with any pointer but NULL. Buffers of one call do not overlap.
  * Nothing is kept between calls and nothing is allocated, so calls on different buffers may run at the same time.
  *
- * Nothing proves that these declarations are those of the library: keep the header and libaktyrbuz.a of one version together.
+ * tools/boundary holds these declarations to the source of the library; nothing checks what is linked: keep the header and libaktyrbuz.a of one version together.
  */
 #ifndef AKTYRBUZ_H
 #define AKTYRBUZ_H
