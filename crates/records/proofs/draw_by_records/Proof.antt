@@ -1,6 +1,5 @@
 -- An unknown number is refused; a known one is drawn among 16 records, which begin at its multiple of 16.
 use mathlib.Core.Path.{sym, _∙_}
-use Prim.Native.Nat.{_*_, _/_}
 use native.Mathlib.Omega.{arith}
 use borrow.Author.Needs.{needs}
 use borrow.Author.Tests.{not-true, not-false}
@@ -75,7 +74,7 @@ returns-2 c =
     let A = c .before .before .before .before .before .before .before .before .before .before .before .before .before .before .before .before .before .args in
     let e = sym (c .before .before .before .before .before .before .before .before .before .before .before .before .is-known .ensures) ∙ not-false _ (c .before .before .before .before .before .before .before .before .before .before .before .if1 .left) in
     c .before .before .before .before .before .before .draw-in-16 .ensures
-    ∙ in-16 (A .flat .now) (A .count) (A .i) (A .i / 16 * 16) (A .y) (A .x0) (A .n) (three (A .r0 .now) (A .r1 .now) (A .r2 .now)) e (omega arith) (omega arith)
+    ∙ in-16 (A .flat .now) (A .count) (A .i) _ (A .y) (A .x0) (A .n) (three (A .r0 .now) (A .r1 .now) (A .r2 .now)) e (omega arith) (omega arith)
 
 pub draw-by-records-spec : {M : Type 1} → statement M
 draw-by-records-spec =
