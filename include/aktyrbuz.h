@@ -4,7 +4,7 @@
  * AKTYRBUZ_DONE or a refusal, and fills five numbers: the place, then the counts that are named with the call, then zeros. A success has
  * place 0, a refusal counts 0. Where several codes apply, the first in the order of the checks is given.
  *
- * A buffer is a pointer and a length in cells; a length of 0 may come with any pointer but NULL. Buffers of one call do not overlap.
+ * A buffer is a pointer and a length in cells; a length of 0 may come with any pointer, NULL too. Buffers of one call do not overlap.
  * Nothing is kept between calls and nothing is allocated, so calls on different buffers may run at the same time.
  *
  * tools/boundary holds these declarations to the source of the library; nothing checks what is linked: keep the header and libaktyrbuz.a of one version together.

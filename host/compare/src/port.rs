@@ -7,6 +7,7 @@ pub mod great;
 pub mod guarded;
 pub mod lent;
 pub mod ln;
+pub mod null;
 pub mod pages;
 pub mod read;
 pub mod tally;

@@ -1,11 +1,11 @@
 //! The port through its C interface on fixed cases: reading and writing with both round trips, building, drawing whole and in parts,
-//! reach, and the logarithm; every cell of every lent buffer, and each buffer against an inaccessible page.
+//! reach, and the logarithm; every cell of every lent buffer, and each buffer against an inaccessible page. Before that, empty buffers by NULL.
 //!
 //! `compare-port` runs the standing cases, `compare-port --long` more than a million of other seeds, with lines of progress.
 //! Prints a table; ends with 1, and the smallest input, where an answer differs.
 
 use compare::port::tally::Tally;
-use compare::port::{build, draw, ln, pages, read, write};
+use compare::port::{build, draw, ln, null, pages, read, write};
 use std::process::ExitCode;
 
 /// A call's name, and what runs its cases.
@@ -36,6 +36,7 @@ fn main() -> ExitCode {
         cases::set_seeds(LONG_FIRST_SEED, LONG_TIMES);
     }
     pages::check_guards();
+    null::check();
     oracle::set_ln(port::ln);
     model::set_ln(port::ln);
     compare(long)

@@ -1,0 +1,419 @@
+//! Empty slices by NULL, as an empty C++ vector hands them over: each call, with any of its slices emptied, tells and leaves the same by NULL as by a pointer that is not.
+
+use port::{symbols, Answer};
+use std::ptr;
+
+/// What is told and left: the code, the answer, and the bits of every cell that may be written.
+#[derive(Debug, PartialEq)]
+struct Told {
+    code: u32,
+    answer: Answer,
+    cells: Vec<u32>,
+}
+
+/// Lends the slices of one call in their order: those of `emptied`, a bit each, with length 0, by NULL or by another pointer.
+struct Lender {
+    emptied: u32,
+    null: bool,
+    slices: u32,
+}
+
+impl Lender {
+    fn lend<T>(&mut self, cells: &mut Vec<T>) -> (*mut T, usize) {
+        if self.emptied >> self.slices & 1 == 1 {
+            cells.clear();
+        }
+        self.slices += 1;
+        let by_null = self.null && cells.is_empty();
+        let first = if by_null {
+            ptr::null_mut()
+        } else {
+            cells.as_mut_ptr()
+        };
+        (first, cells.len())
+    }
+}
+
+/// A call that makes its own slices, each with cells, and lends them.
+type Call = fn(&mut Lender) -> Told;
+
+const CALLS: [(&str, Call); 9] = [
+    ("read", read),
+    ("write", write),
+    ("build", build),
+    ("build of nothing", build_nothing),
+    ("draw", draw),
+    ("draw of no columns", draw_no_columns),
+    ("draw of no segments", draw_no_segments),
+    ("reach", reach),
+    ("reach of no segments", reach_no_segments),
+];
+
+/// Every set of slices of every call. A call without an emptied one is done, so that all of it is gone through.
+pub fn check() {
+    for (name, call) in CALLS {
+        let mut slices = 1;
+        let mut emptied = 0;
+        while emptied < 1 << slices {
+            let [by_null, by_another] = [true, false].map(|null| {
+                let mut lender = Lender {
+                    emptied,
+                    null,
+                    slices: 0,
+                };
+                let told = call(&mut lender);
+                slices = lender.slices;
+                told
+            });
+            assert_eq!(
+                by_null, by_another,
+                "{name} tells or leaves another thing where the slices {emptied:#b} are NULL"
+            );
+            assert!(
+                emptied != 0 || by_null.code == 0,
+                "{name} is refused with all its cells: {by_null:?}"
+            );
+            emptied += 1;
+        }
+    }
+}
+
+/// The pixels along each side of the image.
+const SIDE: u32 = 64;
+const LIMIT: u32 = 1 << 20;
+const UNFILLED: Answer = [i64::MIN; 5];
+
+fn bits(floats: &[f32]) -> impl Iterator<Item = u32> + '_ {
+    floats.iter().map(|float| float.to_bits())
+}
+
+fn unsigned(numbers: &[i32]) -> impl Iterator<Item = u32> + '_ {
+    numbers.iter().map(|&number| number as u32)
+}
+
+/// A description of one spline.
+struct Spline {
+    counts: Vec<u32>,
+    starts: Vec<f32>,
+    deltas: Vec<i32>,
+    coefficients: Vec<i32>,
+}
+
+impl Spline {
+    fn new() -> Spline {
+        let mut coefficients = vec![0; 128];
+        (coefficients[32], coefficients[96]) = (100, 4);
+        Spline {
+            counts: vec![2],
+            starts: vec![20.0, 20.0],
+            deltas: vec![8, 4, 2, -3],
+            coefficients,
+        }
+    }
+
+    fn none() -> Spline {
+        Spline {
+            counts: Vec::new(),
+            starts: Vec::new(),
+            deltas: Vec::new(),
+            coefficients: Vec::new(),
+        }
+    }
+}
+
+fn read(lender: &mut Lender) -> Told {
+    let Spline {
+        counts,
+        starts,
+        deltas,
+        coefficients,
+    } = Spline::new();
+    let mut list = vec![0; 256];
+    let parts = port::Parts {
+        counts: &counts,
+        starts: &starts,
+        deltas: &deltas,
+        coefficients: &coefficients,
+        adjustment: 0,
+    };
+    let (_, written) = port::write(&parts, LIMIT, LIMIT, &mut list);
+    list.truncate(written[1] as usize);
+    let (mut counts, mut starts) = (vec![7; 2], vec![7.0; 4]);
+    let (mut deltas, mut coefficients) = (vec![7; 6], vec![7; 256]);
+    let mut answer = UNFILLED;
+    let (list_at, list_len) = lender.lend(&mut list);
+    let (counts_at, counts_len) = lender.lend(&mut counts);
+    let (starts_at, starts_len) = lender.lend(&mut starts);
+    let (deltas_at, deltas_len) = lender.lend(&mut deltas);
+    let (coefficients_at, coefficients_len) = lender.lend(&mut coefficients);
+    // SAFETY: each pointer comes with its vector's length, and where that is 0 may be NULL.
+    let code = unsafe {
+        symbols::aktyrbuz_read(
+            list_at,
+            list_len,
+            LIMIT,
+            LIMIT,
+            counts_at,
+            counts_len,
+            starts_at,
+            starts_len,
+            deltas_at,
+            deltas_len,
+            coefficients_at,
+            coefficients_len,
+            &mut answer,
+        )
+    };
+    let left = counts.iter().copied().chain(bits(&starts));
+    let left = left.chain(unsigned(&deltas)).chain(unsigned(&coefficients));
+    Told {
+        code,
+        answer,
+        cells: left.collect(),
+    }
+}
+
+fn write(lender: &mut Lender) -> Told {
+    let mut spline = Spline::new();
+    let (counts_at, counts_len) = lender.lend(&mut spline.counts);
+    let (starts_at, starts_len) = lender.lend(&mut spline.starts);
+    let (deltas_at, deltas_len) = lender.lend(&mut spline.deltas);
+    let (coefficients_at, coefficients_len) = lender.lend(&mut spline.coefficients);
+    let mut list = vec![7; 256];
+    let (list_at, list_len) = lender.lend(&mut list);
+    let mut answer = UNFILLED;
+    // SAFETY: as above.
+    let code = unsafe {
+        symbols::aktyrbuz_write(
+            counts_at,
+            counts_len,
+            starts_at,
+            starts_len,
+            deltas_at,
+            deltas_len,
+            coefficients_at,
+            coefficients_len,
+            0,
+            LIMIT,
+            LIMIT,
+            list_at,
+            list_len,
+            &mut answer,
+        )
+    };
+    Told {
+        code,
+        answer,
+        cells: list,
+    }
+}
+
+/// The buffers of a build, with room for the spline above.
+struct Rooms {
+    path: Vec<f32>,
+    walk: Vec<f32>,
+    segments: Vec<f32>,
+    row_starts: Vec<u32>,
+    entries: Vec<u32>,
+}
+
+impl Rooms {
+    fn new() -> Rooms {
+        Rooms {
+            path: vec![7.0; 256],
+            walk: vec![7.0; 256],
+            segments: vec![7.0; 1024],
+            row_starts: vec![7; SIDE as usize + 1],
+            entries: vec![7; 4096],
+        }
+    }
+}
+
+fn build_in(lender: &mut Lender, mut spline: Spline, rooms: &mut Rooms) -> (u32, Answer) {
+    let (counts_at, counts_len) = lender.lend(&mut spline.counts);
+    let (starts_at, starts_len) = lender.lend(&mut spline.starts);
+    let (deltas_at, deltas_len) = lender.lend(&mut spline.deltas);
+    let (coefficients_at, coefficients_len) = lender.lend(&mut spline.coefficients);
+    let (path_at, path_len) = lender.lend(&mut rooms.path);
+    let (walk_at, walk_len) = lender.lend(&mut rooms.walk);
+    let (segments_at, segments_len) = lender.lend(&mut rooms.segments);
+    let (row_starts_at, row_starts_len) = lender.lend(&mut rooms.row_starts);
+    let (entries_at, entries_len) = lender.lend(&mut rooms.entries);
+    let mut answer = UNFILLED;
+    // SAFETY: as above.
+    let code = unsafe {
+        symbols::aktyrbuz_build(
+            counts_at,
+            counts_len,
+            starts_at,
+            starts_len,
+            deltas_at,
+            deltas_len,
+            coefficients_at,
+            coefficients_len,
+            0,
+            SIDE,
+            SIDE,
+            0.0,
+            1.0,
+            false,
+            false,
+            path_at,
+            path_len,
+            walk_at,
+            walk_len,
+            segments_at,
+            segments_len,
+            row_starts_at,
+            row_starts_len,
+            entries_at,
+            entries_len,
+            &mut answer,
+        )
+    };
+    (code, answer)
+}
+
+fn told_of_build(lender: &mut Lender, spline: Spline) -> Told {
+    let mut rooms = Rooms::new();
+    let (code, answer) = build_in(lender, spline, &mut rooms);
+    let floats = [&rooms.path, &rooms.walk, &rooms.segments];
+    let left = floats.into_iter().flat_map(|floats| bits(floats));
+    let left = left.chain(rooms.row_starts.iter().copied());
+    Told {
+        code,
+        answer,
+        cells: left.chain(rooms.entries.iter().copied()).collect(),
+    }
+}
+
+fn build(lender: &mut Lender) -> Told {
+    told_of_build(lender, Spline::new())
+}
+
+fn build_nothing(lender: &mut Lender) -> Told {
+    told_of_build(lender, Spline::none())
+}
+
+/// A table of the spline above or of none, with the counts in use.
+struct Built {
+    rooms: Rooms,
+    segment_count: u32,
+    entry_count: u32,
+}
+
+impl Built {
+    fn of(spline: Spline) -> Built {
+        let mut rooms = Rooms::new();
+        let mut nothing_emptied = Lender {
+            emptied: 0,
+            null: false,
+            slices: 0,
+        };
+        let (_, answer) = build_in(&mut nothing_emptied, spline, &mut rooms);
+        Built {
+            rooms,
+            segment_count: answer[1] as u32,
+            entry_count: answer[2] as u32,
+        }
+    }
+}
+
+/// Draws n columns of the row through the spline's start.
+fn draw_of(lender: &mut Lender, spline: Spline, n: u32) -> Told {
+    let Built {
+        mut rooms,
+        segment_count,
+        entry_count,
+    } = Built::of(spline);
+    let mut channels = [(); 3].map(|()| vec![0.5f32; SIDE as usize]);
+    let (segments_at, segments_len) = lender.lend(&mut rooms.segments);
+    let (entries_at, entries_len) = lender.lend(&mut rooms.entries);
+    let (row_starts_at, row_starts_len) = lender.lend(&mut rooms.row_starts);
+    let [(r0, r0_len), (r1, r1_len), (r2, r2_len)] =
+        channels.each_mut().map(|channel| lender.lend(channel));
+    let mut answer = UNFILLED;
+    // SAFETY: as above.
+    let code = unsafe {
+        symbols::aktyrbuz_draw(
+            segments_at,
+            segments_len,
+            segment_count,
+            entries_at,
+            entries_len,
+            entry_count,
+            row_starts_at,
+            row_starts_len,
+            SIDE,
+            20,
+            0,
+            n,
+            r0,
+            r0_len,
+            r1,
+            r1_len,
+            r2,
+            r2_len,
+            &mut answer,
+        )
+    };
+    Told {
+        code,
+        answer,
+        cells: channels.iter().flat_map(|channel| bits(channel)).collect(),
+    }
+}
+
+fn draw(lender: &mut Lender) -> Told {
+    draw_of(lender, Spline::new(), SIDE)
+}
+
+fn draw_no_columns(lender: &mut Lender) -> Told {
+    draw_of(lender, Spline::new(), 0)
+}
+
+fn draw_no_segments(lender: &mut Lender) -> Told {
+    draw_of(lender, Spline::none(), 0)
+}
+
+fn reach_of(lender: &mut Lender, spline: Spline) -> Told {
+    let Built {
+        mut rooms,
+        segment_count,
+        entry_count,
+    } = Built::of(spline);
+    let (segments_at, segments_len) = lender.lend(&mut rooms.segments);
+    let (entries_at, entries_len) = lender.lend(&mut rooms.entries);
+    let (row_starts_at, row_starts_len) = lender.lend(&mut rooms.row_starts);
+    let mut answer = UNFILLED;
+    // SAFETY: as above.
+    let code = unsafe {
+        symbols::aktyrbuz_reach(
+            segments_at,
+            segments_len,
+            segment_count,
+            entries_at,
+            entries_len,
+            entry_count,
+            row_starts_at,
+            row_starts_len,
+            SIDE,
+            20,
+            SIDE,
+            &mut answer,
+        )
+    };
+    Told {
+        code,
+        answer,
+        cells: Vec::new(),
+    }
+}
+
+fn reach(lender: &mut Lender) -> Told {
+    reach_of(lender, Spline::new())
+}
+
+fn reach_no_segments(lender: &mut Lender) -> Told {
+    reach_of(lender, Spline::none())
+}
