@@ -1,21 +1,18 @@
 -- The laws of a length that callers cite: whole numbers of up to prec digits are values of the format, so their `hypot` is the root of the exact sum; signs and order do not matter; and the readings, computed.
 use mathlib.Core.Path.{_≡_, refl, sym, ap, _∙_}
 use mathlib.Core.Bool.{Bool, true, false}
-use Prim.Native.Nat.{ℕ, zero, suc, _+_, _*_, _/_, _-_, _^_, _≤_, _<_}
-use native.Mathlib.Nat.{lt-of-lt-of-le, mul-le-mul, add-comm, add-mul, mul-one, mul-right-comm, mul-mul-mul-comm, mul-div-cancel}
+use Prim.Native.Nat.{ℕ, zero, suc, _+_, _*_, _/_, _^_, _≤_, _<_}
+use native.Mathlib.Nat.{mul-le-mul, add-comm, add-mul, mul-one, mul-right-comm, mul-mul-mul-comm, mul-div-cancel}
 use native.Mathlib.Omega.{arith}
-use lib.Dec.{lit≤}
-use lib.Pow.{pow-mono, shl-lt}
 use lib.IntN.{ℤ, pos, negsuc, negℤ, natAbs}
 use lib.Ieee.{Float, nan, inf, fin, Format, binary32, prec, low, up, down, size, ofInt}
 use lib.Ieee.Back.{round-whole}
-use lib.Ieee.Digits.{size-le}
-use lib.Ieee.Exact.{HasValue, units-val}
+use lib.Ieee.Exact.{HasValue}
 use lib.Ieee.Fits.{down-pos}
-use Rattle.numbers.specs.Root.{root, nearestRootAt, rootOf, rootOfWhole}
+use Rattle.numbers.specs.Root.{root, rootOf, rootOfWhole}
 use Rattle.numbers.specs.Length.{unitsIn, squares, hypotOf, lengthOf, NearestWhole}
-use Rattle.numbers.proofs.RootOf.{square, root-lt}
-use Rattle.numbers.proofs.Nearness.{sides, bounded}
+use Rattle.numbers.proofs.RootOf.{square}
+use Rattle.numbers.proofs.Nearness.{whole-root}
 
 -- ---- hypot of whole numbers
 units-are : (f : Format) (m a : ℕ) (e : ℤ) → m * up e * 1 ≡ a * down e → unitsIn f m e ≡ a * 2 ^ low f
@@ -56,17 +53,7 @@ hypot-is-length x y g h = hypot-of-wholes binary32 x y g h
 
 -- ---- no f32 lies nearer
 whole-nearest : (n : ℕ) → n < 2 ^ 64 → NearestWhole binary32 n (rootOfWhole binary32 n)
-unfolding rootOfWhole rootOf
-whole-nearest n h =
-    let N : ℕ = n * 2 ^ 298 in
-    let k : ℕ = size (root N) - 24 in
-    let few : size (root N) ≤ 276 = size-le (root N) 276 (lt-of-lt-of-le (root-lt N 181 (shl-lt 64 298 h)) (pow-mono {i = 181} {j = 276} (lit≤ tt))) in
-    record {
-      root = nearestRootAt k N * 2 ^ k;
-      is = units-val binary32 false (nearestRootAt k N) k (bounded binary32 N few);
-      below = λ y Y F v. sides binary32 N y Y F v .0;
-      above = λ y Y F v. sides binary32 N y Y F v .1;
-    }
+whole-nearest n h = let w = whole-root binary32 n h in record { root = w .size; is = w .is; below = w .below; above = w .above }
 
 pub length-nearest : (x y : ℤ) → natAbs x ≤ 2147483648 → natAbs y ≤ 2147483648 → NearestWhole binary32 (squares (natAbs x) (natAbs y)) (lengthOf x y)
 unfolding lengthOf

@@ -19,8 +19,14 @@ pub mod Signed
 pub mod Placed
 pub mod RootBy
 pub mod RootOfWhole
-pub mod Hypot
+pub mod Grid
+pub mod Values
+pub mod NearestEven
 pub mod Nearness
+pub mod Hypot
 pub mod Steps
 pub mod ByKind
 pub mod Logs
+pub mod WholeParts
+pub mod Conversions
+pub mod Ieee754

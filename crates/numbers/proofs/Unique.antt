@@ -11,13 +11,13 @@ use lib.Ieee.Exact.{HasValue}
 use lib.Ieee.Nearest.{div-same}
 
 -- the pattern of a value of sign s and n units
-abbrev pattern : Format → Bool → ℕ → ℕ
+abbrev pub pattern : Format → Bool → ℕ → ℕ
 pattern f s n = let k = size n - prec f in cond s (top f) 0 + k * hid f + n / 2 ^ k
 
 units-are : (n d a c l : ℕ) → 0 < d → 0 < c → n * c ≡ a * d → n * l / d ≡ a * l / c
 units-are n d a c l D C v = div-same (n * l) d (a * l) c D C (mul-right-comm n l c ∙ ap (λ (z : ℕ). z * l) v ∙ mul-right-comm a d l)
 
-bits-are : (f : Format) (x : Float) (s : Bool) (a c : ℕ) → 0 < c → HasValue x s a c → toBits f x ≡ pattern f s (a * 2 ^ low f / c)
+pub bits-are : (f : Format) (x : Float) (s : Bool) (a c : ℕ) → 0 < c → HasValue x s a c → toBits f x ≡ pattern f s (a * 2 ^ low f / c)
 unfolding toBits
 bits-are f nan s a c C v = absurd v
 bits-are f (inf t) s a c C v = absurd v

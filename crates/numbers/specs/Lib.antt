@@ -12,4 +12,5 @@ pub mod Ln
 pub mod Saturating
 pub mod RootBy
 pub mod Length
+pub mod Ieee754
 pub mod Readings

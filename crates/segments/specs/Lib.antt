@@ -1,4 +1,5 @@
 -- The definitions of the crate `segments`.
 pub mod Segment
 pub mod Ranges
+pub mod Expressions
 pub mod Readings

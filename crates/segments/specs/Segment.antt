@@ -1,11 +1,10 @@
 -- `add_segment`: which points of the walk make a segment, and its eight floats. Definitions only.
--- The numbers are f32 patterns: 0.01, 0.1, 0.25, 1, 2, 3 and 5.
 use mathlib.Core.Bool.{Bool, true, false, _||_}
 use mathlib.Core.List.{List, [], _∷_}
 use Prim.Native.Nat.{ℕ, _+_, _*_}
 use lib.ListN.{getD}
 use lib.Ieee.{Float, nan, binary32, neg, eq}
-use Rattle.numbers.specs.Arith.{f, _⊖_, _⊗_, _⊘_}
+use Rattle.numbers.specs.Arith.{f, 0·0, 0·25, 1·0, _⊖_, _⊗_, _⊘_}
 use Rattle.numbers.specs.Magnitude.{absOf, topOf, isInfinite}
 use Rattle.numbers.specs.Root.{sqrtOf}
 use Rattle.numbers.specs.Ln.{lnOf}
@@ -13,31 +12,47 @@ use Rattle.segments.specs.declared.Segment.{Segment}
 use Rattle.segments.specs.declared.Added.{Added}
 use Rattle.segments.specs.declared.Added.the-variants.{Made, Nothing}
 
+-- the Rust's literals
+abbrev 0·01 : Float
+0·01 = f 0x3c23d70a
+
+abbrev 0·1 : Float
+0·1 = f 0x3dcccccd
+
+abbrev 2·0 : Float
+2·0 = f 0x40000000
+
+abbrev 3·0 : Float
+3·0 = f 0x40400000
+
+abbrev 5·0 : Float
+5·0 = f 0x40a00000
+
 -- no segment is made: sigma infinite or zero, 1 / sigma infinite, or the intensity infinite
 unfoldable pub skipped : Float → Float → Bool
 skipped intensity sigma =
-    isInfinite sigma || (eq sigma (f 0) || (isInfinite (f 0x3f800000 ⊘ sigma) || isInfinite intensity))
+    isInfinite sigma || (eq sigma 0·0 || (isInfinite (1·0 ⊘ sigma) || isInfinite intensity))
 
 -- the greatest magnitude by total order
 unfoldable pub maxColor : Float → Float → Float → Float → Float
 maxColor intensity c0 c1 c2 =
-    topOf (topOf (topOf (absOf (f 0x3c23d70a ⊗ intensity)) (absOf (c0 ⊗ intensity))) (absOf (c1 ⊗ intensity))) (absOf (c2 ⊗ intensity))
+    topOf (topOf (topOf (absOf (0·01 ⊗ intensity)) (absOf (c0 ⊗ intensity))) (absOf (c1 ⊗ intensity))) (absOf (c2 ⊗ intensity))
 
 abbrev pub distanceExp : Bool → Float
-distanceExp true = f 0x40a00000
-distanceExp false = f 0x40400000
+distanceExp true = 5·0
+distanceExp false = 3·0
 
 unfoldable pub maxDistance : Float → Float → Bool → Float
 maxDistance sigma color high =
-    sqrtOf binary32 (neg (f 0x40000000) ⊗ sigma ⊗ sigma ⊗ (lnOf (f 0x3dcccccd) ⊗ distanceExp high ⊖ lnOf color))
+    sqrtOf binary32 (neg 2·0 ⊗ sigma ⊗ sigma ⊗ (lnOf 0·1 ⊗ distanceExp high ⊖ lnOf color))
 
 abbrev pub segmentOf : Float → Float → Float → Float → Float → Float → Float → Bool → Segment
 segmentOf cx cy intensity c0 c1 c2 sigma high = record {
   «center_x» = cx;
   «center_y» = cy;
   «maximum_distance» = maxDistance sigma (maxColor intensity c0 c1 c2) high;
-  «inv_sigma» = f 0x3f800000 ⊘ sigma;
-  «sigma_over_4_times_intensity» = f 0x3e800000 ⊗ sigma ⊗ intensity;
+  «inv_sigma» = 1·0 ⊘ sigma;
+  «sigma_over_4_times_intensity» = 0·25 ⊗ sigma ⊗ intensity;
   color0 = c0;
   color1 = c1;
   color2 = c2;
