@@ -13,7 +13,7 @@
 //   logarithm       ln                                        specs/Ln
 //   u64             saturating_add, saturating_mul,
 //                   ceil_log2                                 specs/Saturating
-// specs/Arith has the operators on f32; specs/Inner what the inner functions promise one another.
+// specs/Ieee754 says what roots, lengths, whole parts and conversions mean; specs/Arith has the operators on f32; specs/Inner what the inner functions promise one another.
 ghost use mathlib.Core.Path.{_≡_};
 ghost use mathlib.Core.Bool.{false};
 ghost use Prim.Native.Nat.{_+_, _*_, _≤_, _<_, _^_};
