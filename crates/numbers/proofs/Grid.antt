@@ -20,7 +20,7 @@ more u a b h = go (lt-of-not-le (λ (g : a ≤ b). lt-irrefl (b * u) (lt-of-lt-o
     go h = omega arith
 
 -- a grid value above q * u is at (q + 1) * u or above, and one below (q + 1) * u at q * u or below
-next-up : (u t q Y : ℕ) → t ≤ q * u → Grid u t Y → q * u < Y → (q + 1) * u ≤ Y
+pub next-up : (u t q Y : ℕ) → t ≤ q * u → Grid u t Y → q * u < Y → (q + 1) * u ≤ Y
 next-up u t q Y T (inl g) h = subst (λ (z : ℕ). (q + 1) * u ≤ z) (sym (g .1)) (mul-le-mul-right u (more u (g .0) q (subst (λ (z : ℕ). q * u < z) (g .1) h)))
 next-up u t q Y T (inr g) h = absurd (lt-irrefl Y (lt-of-lt-of-le g (le-trans T (le-of-lt h))))
 

@@ -1,10 +1,11 @@
 -- What IEEE 754 says of the numbers, all of it.
 use Rattle.numbers.specs.Ieee754.{Ieee754}
 use Rattle.numbers.proofs.Nearness.{square-root, whole-root, length-root}
+use Rattle.numbers.proofs.OneNearest.{one-nearest}
 use Rattle.numbers.proofs.WholeParts.{whole-parts}
 use Rattle.numbers.proofs.Conversions.{conversions}
 
 pub ieee754 : Ieee754
-ieee754 = record { roots = square-root; whole-roots = whole-root; lengths = length-root; parts = whole-parts; conversions = conversions }
+ieee754 = record { one = one-nearest; roots = square-root; whole-roots = whole-root; lengths = length-root; parts = whole-parts; conversions = conversions }
 
 -- Assumes nothing.

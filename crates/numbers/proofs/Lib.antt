@@ -23,6 +23,7 @@ pub mod Grid
 pub mod Values
 pub mod NearestEven
 pub mod Nearness
+pub mod OneNearest
 pub mod Hypot
 pub mod Steps
 pub mod ByKind

@@ -39,7 +39,7 @@ module _ (f : Format) (s : Bool) (under over : ℕ → Type 0) (less : (a b : �
     is = units-val f s (nearest q o) k fine;
     below = λ y Y F v. sides y Y F v .below;
     above = λ y Y F v. sides y Y F v .above;
-    even = λ y Y F v n a b. values.last-digit f s (nearest q o) k few fine all-digits (sides y Y F v .even n a b);
+    even = λ y Y F v n a b. values.last-digit f s (nearest q o) k few fine all-digits ∙ sides y Y F v .even n a b;
   }
 
 -- ---- a fraction a / c, in units n / c

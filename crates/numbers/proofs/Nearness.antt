@@ -2,12 +2,12 @@
 use mathlib.Core.Path.{_≡_, refl, sym, ap, _∙_, subst}
 use mathlib.Core.Bool.{false}
 use Prim.Native.Nat.{ℕ, zero, suc, _+_, _-_, _*_, _/_, _%_, _^_, _≤_, _<_, compare, Ordering, Ordering·lt, Ordering·eq, Ordering·gt}
-use native.Mathlib.Nat.{le-trans, le-of-lt, le-of-eq, lt-irrefl, lt-of-lt-of-le, lt-of-le-of-lt, lt-of-not-le, le-of-suc-le-suc, mul-assoc, mul-right-comm, mul-mul-mul-comm, mul-le-mul, mul-le-mul-right, mul-lt-mul-of-pos-right, add-mul, le-div-iff-mul-le, div-lt-iff-lt-mul}
+use native.Mathlib.Nat.{le-trans, le-of-lt, le-of-eq, lt-irrefl, lt-of-lt-of-le, lt-of-le-of-lt, lt-of-not-le, le-of-suc-le-suc, mul-assoc, mul-mul-mul-comm, mul-le-mul, mul-le-mul-right, add-mul, le-div-iff-mul-le, div-lt-iff-lt-mul}
 use native.Mathlib.Omega.{arith}
 use lib.IntN.{natAbs}
 use lib.Dec.{T, lit≤}
 use lib.Pow.{pow-add, pow-pos, pow-mono, pow-lt, shl-lt}
-use lib.Ieee.{Float, nan, inf, fin, Format, binary32, binary64, prec, emax, low, down, size, nearest, fits, toBits, hid}
+use lib.Ieee.{Float, Format, binary32, binary64, prec, emax, low, size, nearest, fits, toBits, hid}
 use lib.Ieee.Digits.{size-lt, size-le}
 use lib.Ieee.Fits.{two, two-le-pos, nearest-le}
 use lib.Ieee.Exact.{HasValue}
@@ -19,12 +19,12 @@ use Rattle.numbers.proofs.Roots.{root-is, twice-square}
 use Rattle.numbers.proofs.RootOf.{square, square-back, sqrt-at, root-lt}
 use Rattle.numbers.proofs.Pattern.{digitsOf, value}
 use Rattle.numbers.proofs.Laid.{revalue}
-use Rattle.numbers.proofs.Wholes.{extent}
+use Rattle.numbers.proofs.Values.{in-range}
 use Rattle.numbers.specs.Ieee754.{NearestRoot, SquareRoot, WholeRoot, Length}
 use Rattle.numbers.proofs.Grid.{Beside}
 use Rattle.numbers.proofs.NearestEven.{nearest-kept}
 
-not-more : (a b : ℕ) → b * b ≤ a * a → b ≤ a
+pub not-more : (a b : ℕ) → b * b ≤ a * a → b ≤ a
 not-more a b h = le-of-suc-le-suc (square-back b (suc a) (lt-of-le-of-lt h (go a)))
   where
     go : (a : ℕ) → a * a < suc a * suc a
@@ -125,13 +125,6 @@ module _ (f : Format) (N : ℕ) where
       full q-lt o (subst (λ (m : ℕ). Beside o (m ≤ 4 * N) (4 * N ≤ m)) middle (beside o ((2 * q + 1) * (2 * q + 1) * 2 ^ (2 * k)) (cmp (4 * N) ((2 * q + 1) * (2 * q + 1) * 2 ^ (2 * k))))) (fine h)
 
 -- ---- the theorems
-small : (f : Format) (x : Float) (n : ℕ) → T (fits f x) → HasValue x false n (2 ^ low f) → n < 2 ^ (suc (emax f) + low f)
-small f nan n F v = absurd v
-small f (inf s) n F v = absurd v
-small f (fin s m e) n F v =
-    lt-of-not-le (λ (g : 2 ^ (suc (emax f) + low f) ≤ n). lt-irrefl (n * down e) (lt-of-lt-of-le (lt-of-le-of-lt (le-of-eq (sym (v .1))) (mul-lt-mul-of-pos-right (extent f s m e F) (pow-pos (low f))))
-    (le-trans (le-of-eq (mul-right-comm (2 ^ suc (emax f)) (down e) (2 ^ low f) ∙ ap (λ (z : ℕ). z * down e) (sym (pow-add 2 (suc (emax f)) (low f))))) (mul-le-mul-right (down e) g))))
-
 root-digits : (f : Format) (n : ℕ) → n < 2 ^ (suc (emax f) + low f) → size (root (n * 2 ^ low f)) ≤ low f + emax f
 root-digits f n h = size-le (root (n * 2 ^ low f)) (low f + emax f) (square-back (root (n * 2 ^ low f)) (2 ^ (low f + emax f))
     (lt-of-le-of-lt (root-is (n * 2 ^ low f) .low) (lt-of-lt-of-le (shl-lt (suc (emax f) + low f) (low f) h) (le-trans (pow-mono (go f)) (le-of-eq (square (low f + emax f)))))))
@@ -146,7 +139,7 @@ above f x F p =
     let v : HasValue x false n (2 ^ low f) = value f x F p in
     let N : ℕ = n * 2 ^ low f in
     let w : HasValue x false N (2 ^ (2 * low f)) = revalue x false n (2 ^ low f) N (2 ^ (2 * low f)) (pow-pos (low f)) v (ap (λ (z : ℕ). n * z) (square (low f)) ∙ sym (mul-assoc n (2 ^ low f) (2 ^ low f))) in
-    (N, w, subst (λ (z : Float). NearestRoot f N z) (sym (sqrt-at f x N p w)) (root-nearest f N (root-digits f n (small f x n F v))))
+    (N, w, subst (λ (z : Float). NearestRoot f N z) (sym (sqrt-at f x N p w)) (root-nearest f N (root-digits f n (in-range f x false n F v))))
 
 -- no value of the format lies nearer
 pub nearest-root : (f : Format) (x : Float) → T (fits f x) → T (positive x) → Nearest f x (sqrtOf f x)

@@ -3,16 +3,16 @@ use mathlib.Core.Path.{_≡_, refl, sym, ap, _∙_, subst}
 use mathlib.Core.Logic.{inl, inr}
 use mathlib.Core.Bool.{Bool, true, false, not, _&&_, cond}
 use Prim.Native.Nat.{ℕ, zero, suc, _+_, _-_, _*_, _/_, _%_, _^_, _≤_, _<_, zero-le}
-use native.Mathlib.Nat.{le-trans, le-of-eq, lt-of-lt-of-le, lt-of-le-of-lt, eq-or-lt-of-le, zero-lt-suc, mul-one, mul-assoc, mul-le-mul-right, mul-div-cancel, eq-of-mul-eq-mul-right}
+use native.Mathlib.Nat.{lt-irrefl, lt-of-not-le, mul-right-comm, mul-lt-mul-of-pos-right, lt-of-mul-lt-mul-right, le-of-mul-le-mul-right, le-trans, le-of-eq, lt-of-lt-of-le, lt-of-le-of-lt, eq-or-lt-of-le, zero-lt-suc, mul-one, mul-assoc, mul-le-mul-right, mul-div-cancel, eq-of-mul-eq-mul-right}
 use native.Mathlib.Omega.{arith}
 use lib.IntN.{ℤ, pos, negsuc}
 use lib.Dec.{T, leb, ltb, eqb, leb→le, nleb→lt}
 use lib.Pow.{pow-add, pow-pos, pow-mono, pow-lt, shl-lt}
 use lib.Ieee.{Float, nan, inf, fin, Format, binary32, binary64, prec, emax, low, up, down, size, units, odd, fits, hid, top, toBits}
-use lib.Ieee.Digits.{size-le}
+use lib.Ieee.Digits.{size-lt, size-le, size-reaches}
 use lib.Ieee.Fits.{two, two-le-pos, and-l, and-r, odd-fits, cond-fits, inf-fits}
 use lib.Ieee.Exact.{HasValue, units-val}
-use Rattle.numbers.proofs.Wholes.{digits}
+use Rattle.numbers.proofs.Wholes.{digits, extent}
 use Rattle.numbers.proofs.Powers.{pow-back}
 use Rattle.numbers.proofs.Near.{size-is}
 use Rattle.numbers.proofs.Unique.{pattern, bits-are}
@@ -40,6 +40,59 @@ place f (fin s (suc m) (negsuc a)) t Y F v =
   where
     go : (l b : ℕ) → b ≤ l → l ≡ l - b + b
     go l b h = omega arith
+
+-- and below the format's end
+pub in-range : (f : Format) (x : Float) (s : Bool) (n : ℕ) → T (fits f x) → HasValue x s n (2 ^ low f) → n < 2 ^ (suc (emax f) + low f)
+in-range f nan t n F v = absurd v
+in-range f (inf s) t n F v = absurd v
+in-range f (fin s m e) t n F v =
+    lt-of-not-le (λ (g : 2 ^ (suc (emax f) + low f) ≤ n). lt-irrefl (n * down e) (lt-of-lt-of-le (lt-of-le-of-lt (le-of-eq (sym (v .1))) (mul-lt-mul-of-pos-right (extent f s m e F) (pow-pos (low f))))
+    (le-trans (le-of-eq (mul-right-comm (2 ^ suc (emax f)) (down e) (2 ^ low f) ∙ ap (λ (z : ℕ). z * down e) (sym (pow-add 2 (suc (emax f)) (low f))))) (mul-le-mul-right (down e) g))))
+
+-- its digits q at the place k: all of them, where it is not the lowest place
+pub record Normal (f : Format) (Y : ℕ) : Type 0 where
+  pub q : ℕ
+  pub k : ℕ
+  pub is : Y ≡ q * 2 ^ k
+  pub few : q < 2 ^ prec f
+  pub full : 0 < k → 2 ^ (prec f - 1) ≤ q
+
+pub normal : (f : Format) (y : Float) (s : Bool) (Y : ℕ) → T (fits f y) → HasValue y s Y (2 ^ low f) → Normal f Y
+normal f y s Y F v = go (size Y - prec f) refl
+  where
+    p : (m : ℕ) × (j : ℕ) × (Y ≡ m * 2 ^ j) × (m < 2 ^ prec f)
+    p = place f y s Y F v
+
+    short : (z p : ℕ) → z - p ≡ 0 → z ≤ p
+    short z p e = omega arith
+
+    long : (z p i : ℕ) → z - p ≡ suc i → z ≡ p + suc i
+    long z p i e = omega arith
+
+    less : (p a b : ℕ) → p + a ≤ p + b → a ≤ b
+    less p a b h = omega arith
+
+    back : (k j : ℕ) → k ≤ j → j ≡ j - k + k
+    back k j h = omega arith
+
+    before : (p k z : ℕ) → 0 < p → z ≡ p + k → p - 1 + k < z
+    before p k z h e = omega arith
+
+    go : (k : ℕ) → size Y - prec f ≡ k → Normal f Y
+    go zero e = record { q = Y; k = 0; is = sym (mul-one Y); few = lt-of-lt-of-le (size-lt Y) (pow-mono (short (size Y) (prec f) e)); full = λ h. absurd (lt-irrefl 0 h) }
+    go (suc i) e =
+        let k : ℕ = suc i in
+        let j : ℕ = p .1 in
+        let z : size Y ≡ prec f + k = long (size Y) (prec f) i e in
+        let l : k ≤ j = less (prec f) k j (le-trans (le-of-eq (sym z)) (size-le Y (prec f + j) (lt-of-le-of-lt (le-of-eq (p .2)) (shl-lt (prec f) j (p .3))))) in
+        let w : Y ≡ p .0 * 2 ^ (j - k) * 2 ^ k = p .2 ∙ ap (λ (n : ℕ). p .0 * n) (ap (λ (n : ℕ). 2 ^ n) (back k j l) ∙ pow-add 2 (j - k) k) ∙ sym (mul-assoc (p .0) (2 ^ (j - k)) (2 ^ k)) in
+        record {
+          q = p .0 * 2 ^ (j - k);
+          k = k;
+          is = w;
+          few = lt-of-mul-lt-mul-right (2 ^ k) (lt-of-le-of-lt (le-of-eq (sym w)) (lt-of-lt-of-le (size-lt Y) (le-of-eq (ap (λ (n : ℕ). 2 ^ n) z ∙ pow-add 2 (prec f) k))));
+          full = λ h. le-of-mul-le-mul-right (le-trans (le-of-eq (sym (pow-add 2 (prec f - 1) k))) (le-trans (size-reaches Y (prec f - 1 + k) (before (prec f) k (size Y) (two-le-pos (prec f) (two f)) z)) (le-of-eq w))) (pow-pos k);
+        }
 
 on-grid : (f : Format) (k m j : ℕ) → m < 2 ^ prec f → Grid (2 ^ k) (2 ^ (prec f - 1) * 2 ^ k) (m * 2 ^ j)
 on-grid f k m j h = go (leb k j) (leb→le k j) (nleb→lt k j)
@@ -86,32 +139,31 @@ module _ (f : Format) (s : Bool) (q k : ℕ) (few : q ≤ 2 ^ prec f) (fine : q 
   bits = bits-are f (units f s q k) s (q * 2 ^ k) (2 ^ low f) (pow-pos (low f)) (units-val f s q k fine) ∙ ap (λ (z : ℕ). pattern f s z) (mul-div-cancel (q * 2 ^ k) (pow-pos (low f)))
 
   -- the field and the sign weigh an even number
-  weights : (g : Format) (t : Bool) (j r : ℕ) → r % 2 ≡ 0 → (cond t (top g) 0 + j * hid g + r) % 2 ≡ 0
-  weights binary32 true j r e = go j r e
+  weights : (g : Format) (t : Bool) (j r : ℕ) → (cond t (top g) 0 + j * hid g + r) % 2 ≡ r % 2
+  weights binary32 true j r = go j r
     where
-      go : (j r : ℕ) → r % 2 ≡ 0 → (2147483648 + j * 8388608 + r) % 2 ≡ 0
-      go j r e = omega arith
-  weights binary32 false j r e = go j r e
+      go : (j r : ℕ) → (2147483648 + j * 8388608 + r) % 2 ≡ r % 2
+      go j r = omega arith
+  weights binary32 false j r = go j r
     where
-      go : (j r : ℕ) → r % 2 ≡ 0 → (0 + j * 8388608 + r) % 2 ≡ 0
-      go j r e = omega arith
-  weights binary64 true j r e = go j r e
+      go : (j r : ℕ) → (0 + j * 8388608 + r) % 2 ≡ r % 2
+      go j r = omega arith
+  weights binary64 true j r = go j r
     where
-      go : (j r : ℕ) → r % 2 ≡ 0 → (9223372036854775808 + j * 4503599627370496 + r) % 2 ≡ 0
-      go j r e = omega arith
-  weights binary64 false j r e = go j r e
+      go : (j r : ℕ) → (9223372036854775808 + j * 4503599627370496 + r) % 2 ≡ r % 2
+      go j r = omega arith
+  weights binary64 false j r = go j r
     where
-      go : (j r : ℕ) → r % 2 ≡ 0 → (0 + j * 4503599627370496 + r) % 2 ≡ 0
-      go j r e = omega arith
+      go : (j r : ℕ) → (0 + j * 4503599627370496 + r) % 2 ≡ r % 2
+      go j r = omega arith
 
   -- what the pattern keeps of q
-  module _ (full : 0 < k → 2 ^ (prec f - 1) ≤ q) (even : q % 2 ≡ 0) where
-    half-even : (g : Format) → 2 ^ (prec g - 1) % 2 ≡ 0
-    half-even binary32 = refl
-    half-even binary64 = refl
+  module _ (full : 0 < k → 2 ^ (prec f - 1) ≤ q) where
+    abbrev kept : ℕ
+    kept = q * 2 ^ k / 2 ^ (size (q * 2 ^ k) - prec f)
 
-    at : (j w : ℕ) → size (q * 2 ^ k) - prec f ≡ j → q * 2 ^ k ≡ w * 2 ^ j → w % 2 ≡ 0 → q * 2 ^ k / 2 ^ (size (q * 2 ^ k) - prec f) % 2 ≡ 0
-    at j w e h p = ap (λ (z : ℕ). q * 2 ^ k / 2 ^ z % 2) e ∙ ap (λ (z : ℕ). z / 2 ^ j % 2) h ∙ ap (λ (z : ℕ). z % 2) (mul-div-cancel w (pow-pos j)) ∙ p
+    at : (j w : ℕ) → size (q * 2 ^ k) - prec f ≡ j → q * 2 ^ k ≡ w * 2 ^ j → kept ≡ w
+    at j w e h = ap (λ (z : ℕ). q * 2 ^ k / 2 ^ z) e ∙ ap (λ (z : ℕ). z / 2 ^ j) h ∙ mul-div-cancel w (pow-pos j)
 
     none : (j : ℕ) → j ≡ k → q < 2 ^ prec f → (0 < j → 2 ^ (prec f - 1) ≤ q) → size (q * 2 ^ k) - prec f ≡ k
     none zero e l h = ap (λ (z : ℕ). size (q * 2 ^ z) - prec f) (sym e) ∙ ap (λ (z : ℕ). size z - prec f) (mul-one q) ∙ go (size q) (prec f) (size-le q (prec f) l) ∙ e
@@ -148,13 +200,19 @@ module _ (f : Format) (s : Bool) (q k : ℕ) (few : q ≤ 2 ^ prec f) (fine : q 
         go : (p k : ℕ) → 0 < p → p + k ≡ p - 1 + suc k
         go p k h = omega arith
 
-    digits-even : q * 2 ^ k / 2 ^ (size (q * 2 ^ k) - prec f) % 2 ≡ 0
-    digits-even = elim (eq-or-lt-of-le few) [
-      | inl e ↦ at (suc k) (2 ^ (prec f - 1)) (all e) (top-half e) (half-even f)
-      | inr l ↦ at k q (none k refl l full) refl even
+    -- 2 ^ prec and its half are even
+    powers-even : (g : Format) → 2 ^ (prec g - 1) % 2 ≡ 2 ^ prec g % 2
+    powers-even binary32 = refl
+    powers-even binary64 = refl
+
+    kept-digit : kept % 2 ≡ q % 2
+    kept-digit = elim (eq-or-lt-of-le few) [
+      | inl e ↦ ap (λ (z : ℕ). z % 2) (at (suc k) (2 ^ (prec f - 1)) (all e) (top-half e)) ∙ powers-even f ∙ ap (λ (z : ℕ). z % 2) (sym e)
+      | inr l ↦ ap (λ (z : ℕ). z % 2) (at k q (none k refl l full) refl)
     ]
 
-    pub last-digit : toBits f (units f s q k) % 2 ≡ 0
-    last-digit = ap (λ (z : ℕ). z % 2) bits ∙ weights f s (size (q * 2 ^ k) - prec f) (q * 2 ^ k / 2 ^ (size (q * 2 ^ k) - prec f)) digits-even
+    -- the last digit of the pattern is that of q
+    pub last-digit : toBits f (units f s q k) % 2 ≡ q % 2
+    last-digit = ap (λ (z : ℕ). z % 2) bits ∙ weights f s (size (q * 2 ^ k) - prec f) kept ∙ kept-digit
 
 -- Assumes nothing.

@@ -40,6 +40,11 @@ NearestRoot f n r = NearestEven f false (λ (M : ℕ). M * M ≤ 4 * n) (λ (M :
 abbrev pub NearestFraction : Format → Bool → ℕ → ℕ → Float → Type 0
 NearestFraction f s a c r = NearestEven f s (λ (M : ℕ). M * c ≤ 2 * (a * 2 ^ low f)) (λ (M : ℕ). 2 * (a * 2 ^ low f) ≤ M * c) r
 
+-- what is so near to a fraction, or to a root, is one value: the statements above leave no choice
+pub record OneNearest (f : Format) : Type 0 where
+  pub fraction : (s : Bool) (a c : ℕ) (r t : Float) → 0 < c → NearestFraction f s a c r → NearestFraction f s a c t → r ≡ t
+  pub root : (n : ℕ) (r t : Float) → NearestRoot f n r → NearestRoot f n t → r ≡ t
+
 -- half a step past the format's largest value: from there on a number has no nearest value, and an infinity stands for it
 abbrev pub tooLarge : Format → ℕ
 tooLarge f = (2 ^ suc (prec f) - 1) * 2 ^ (emax f - prec f)
@@ -144,6 +149,7 @@ pub record Conversions : Type 0 where
 
 -- ---- all of it
 pub record Ieee754 : Type 0 where
+  pub one : (f : Format) → OneNearest f
   pub roots : (f : Format) → SquareRoot f
   pub whole-roots : (f : Format) → WholeRoot f
   pub lengths : Length
