@@ -111,9 +111,10 @@ pub struct Refusal {
     pub place: u64,
 }
 
-/// The first seed of a run, and how many times as many cases it has as the standing one.
+/// The first seed of a run, how many times as many cases it has as the standing one, and of how many cases it takes one.
 static FIRST_SEED: AtomicU64 = AtomicU64::new(0);
 static TIMES: AtomicU64 = AtomicU64::new(1);
+static ONE_IN: AtomicU64 = AtomicU64::new(1);
 
 /// Makes this a run of other seeds, and of so many times as many.
 pub fn set_seeds(first: u64, times: u64) {
@@ -121,18 +122,28 @@ pub fn set_seeds(first: u64, times: u64) {
     TIMES.store(times, Ordering::Relaxed);
 }
 
+/// Makes this a run of one in so many cases, one of each kind at least: for a machine that emulates the processor.
+pub fn set_one_in(many: u64) {
+    ONE_IN.store(many, Ordering::Relaxed);
+}
+
+/// One in so many of n, and one at least.
+fn share(n: u64) -> u64 {
+    (n / ONE_IN.load(Ordering::Relaxed)).max(1)
+}
+
 /// The seeds of a kind: from 0 up to but not including n in the standing run.
 pub fn seeds(n: u64) -> Range<u64> {
     let first = FIRST_SEED.load(Ordering::Relaxed);
-    first..first + n * TIMES.load(Ordering::Relaxed)
+    first..first + share(n * TIMES.load(Ordering::Relaxed))
 }
 
-/// Every kind with n seeds in every run: for cases that are slow.
+/// Every kind with n seeds however long the run is: for cases that are slow.
 pub fn few(kinds: &'static [&'static str], n: u64) -> impl Iterator<Item = (&'static str, u64)> {
     let first = seeds(n).start;
     kinds
         .iter()
-        .flat_map(move |&kind| (first..first + n).map(move |seed| (kind, seed)))
+        .flat_map(move |&kind| (first..first + share(n)).map(move |seed| (kind, seed)))
 }
 
 /// Every kind with its seeds.
