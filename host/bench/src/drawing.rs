@@ -1,26 +1,41 @@
-//! A picture drawn, every row whole.
+//! A picture drawn, every row whole: once all of it, which is more than the caches hold, or a strip of it again and again, which stays in them.
 
 use crate::picture::{description, given, SIDE};
 use crate::Work;
-use cases::FlatTable;
+use cases::{FlatTable, Table};
 use oracle::{Loaded, Outcome};
 
-/// One table of spline.rs, as each side takes it, and the three channels.
+/// The strip: its first row in the picture and how many rows it has.
+const FIRST: u32 = SIDE / 2;
+const ROWS: u32 = 16;
+
+/// One table of spline.rs, as each side takes it, the three channels, and how often they are drawn.
 pub struct Drawing {
     loaded: Loaded,
     flat: FlatTable,
+    times: u32,
     cells: [Vec<f32>; 3],
 }
 
 impl Drawing {
+    /// The whole picture, once.
     pub fn of(sigmas: &[i32]) -> Drawing {
-        let Outcome::Done(built) = oracle::build(&description(sigmas), &given()) else {
-            panic!("spline.rs builds the pictures");
-        };
+        Drawing::new(&table(sigmas), 1)
+    }
+
+    /// A strip, so often that as many rows are drawn as the picture has.
+    pub fn strip(sigmas: &[i32]) -> Drawing {
+        Drawing::new(&cut(table(sigmas)), SIDE / ROWS)
+    }
+
+    fn new(table: &Table, times: u32) -> Drawing {
+        let flat = FlatTable::from(table);
+        let cells = [(); 3].map(|()| vec![0.0; (SIDE * flat.height) as usize]);
         Drawing {
-            loaded: oracle::load(&built.table),
-            flat: FlatTable::from(&built.table),
-            cells: [(); 3].map(|()| vec![0.0; (SIDE * SIDE) as usize]),
+            loaded: oracle::load(table),
+            flat,
+            times,
+            cells,
         }
     }
 
@@ -31,29 +46,17 @@ impl Drawing {
         self.clear();
         let updates = self.by_port();
         assert!(theirs == self.cells, "both sides draw the same picture");
-        let entries = self.flat.entries.len();
+        let entries = self.flat.entries.len() as u32 * self.times;
         format!(
-            "{} segments, {entries} entries, {updates} updates: {:.1} pixels an entry",
+            "{} rows, {} times: {} segments, {entries} entries drawn, {updates} updates: {:.1} pixels an entry",
+            self.flat.height,
+            self.times,
             self.flat.segment_count,
-            updates as f64 / entries as f64
+            updates as f64 / f64::from(entries)
         )
     }
-}
 
-impl Work for Drawing {
-    fn clear(&mut self) {
-        for channel in &mut self.cells {
-            channel.fill(0.0);
-        }
-    }
-
-    fn by_rust(&mut self) {
-        let [r0, r1, r2] = &mut self.cells;
-        let drawn = self.loaded.draw_image(SIDE, SIDE, [r0, r1, r2]);
-        assert_eq!(drawn, Outcome::Done(()), "spline.rs draws the pictures");
-    }
-
-    fn by_port(&mut self) -> i64 {
+    fn rows_by_port(&mut self) -> i64 {
         let table = port::Table {
             segments: &self.flat.segments,
             segment_count: self.flat.segment_count,
@@ -73,5 +76,48 @@ impl Work for Drawing {
             updates += answer[1];
         }
         updates
+    }
+}
+
+fn table(sigmas: &[i32]) -> Table {
+    let Outcome::Done(built) = oracle::build(&description(sigmas), &given()) else {
+        panic!("spline.rs builds the pictures");
+    };
+    built.table
+}
+
+/// The strip of a table as a table of its own, with the segments moved up.
+fn cut(table: Table) -> Table {
+    let starts = &table.row_starts[FIRST as usize..=(FIRST + ROWS) as usize];
+    let (first, past) = (starts[0], starts[ROWS as usize]);
+    let moved = |mut segment: [f32; 8]| {
+        segment[1] -= FIRST as f32;
+        segment
+    };
+    Table {
+        row_starts: starts.iter().map(|start| start - first).collect(),
+        entries: table.entries[first as usize..past as usize].to_vec(),
+        segments: table.segments.into_iter().map(moved).collect(),
+        ..table
+    }
+}
+
+impl Work for Drawing {
+    fn clear(&mut self) {
+        for channel in &mut self.cells {
+            channel.fill(0.0);
+        }
+    }
+
+    fn by_rust(&mut self) {
+        for _ in 0..self.times {
+            let [r0, r1, r2] = &mut self.cells;
+            let drawn = self.loaded.draw_image(SIDE, self.flat.height, [r0, r1, r2]);
+            assert_eq!(drawn, Outcome::Done(()), "spline.rs draws the pictures");
+        }
+    }
+
+    fn by_port(&mut self) -> i64 {
+        (0..self.times).map(|_| self.rows_by_port()).sum()
     }
 }
