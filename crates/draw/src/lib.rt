@@ -154,66 +154,6 @@ fn draw_entries(
     total
 }
 
-// Reads the first pixel that segment i is added to in each channel, and says whether it met a NaN.
-fn meets_nan(
-    segments: &[f32],
-    i: usize,
-    x0: u32,
-    n: u32,
-    r0: &[f32],
-    r1: &[f32],
-    r2: &[f32],
-) -> bool
-    requires { ⌜ 8 * i + 8 ≤ length (now segments) ⌝ }
-    requires { ⌜ x0 + n ≤ 2 ^ 23 ⌝ }
-    requires { ⌜ (n ≤ length (now r0)) × (n ≤ length (now r1)) × (n ≤ length (now r2)) ⌝ }
-{
-    let segment = Segment::at(segments, i);
-    let columns = segment.columns();
-    let from = greatest(x0, columns.first);
-    if from < x0 + n {
-        let at = (from - x0) as usize;
-        let sum = r0[at] + r1[at] + r2[at];
-        return sum != sum;
-    }
-    false
-}
-
-// Reads a pixel of each segment that is to be drawn, so that they come from memory together and not one after the other, and says whether one
-// was a NaN: a read whose value goes nowhere would be left out.
-fn fetch(
-    segments: &[f32],
-    segment_count: u32,
-    entries: &[u32],
-    b: usize,
-    e: usize,
-    x0: u32,
-    n: u32,
-    r0: &[f32],
-    r1: &[f32],
-    r2: &[f32],
-) -> bool
-    requires { ⌜ (b ≤ e) × (e ≤ length (now entries)) × (8 * «segment_count» ≤ length (now segments)) ⌝ }
-    requires { ⌜ allBelow «segment_count» (slice b e (now entries)) ≡ true ⌝ }
-    requires { ⌜ x0 + n ≤ 2 ^ 23 ⌝ }
-    requires { ⌜ (n ≤ length (now r0)) × (n ≤ length (now r1)) × (n ≤ length (now r2)) ⌝ }
-{
-    let mut j = b;
-    while j < e {
-        let i = entries[j] as usize;
-        if meets_nan(segments, i, x0, n, r0, r1, r2) {
-            return true;
-        }
-        j += 1;
-    }
-    false
-}
-
-// 0 where the test passes, else n.
-fn unless(test: bool, n: u64) -> u64 {
-    if test { 0 } else { n }
-}
-
 // Whether the entries from b up to e are all below m.
 fn all_below(entries: &[u32], b: usize, e: usize, m: u32) -> bool
     requires { ⌜ (b ≤ e) × (e ≤ length (now entries)) ⌝ }
@@ -382,10 +322,7 @@ pub fn draw(
             let at = y as usize;
             let b = row_starts[at] as usize;
             let e = row_starts[at + 1] as usize;
-            let fetched = fetch(segments, segment_count, entries, b, e, x0, n, r0, r1, r2);
-            // What is drawn does not depend on what the table holds, so the answer can go there.
-            let mut table = numbers::ROOTS;
-            table[0] = unless(fetched, table[0]);
+            let table = numbers::ROOTS;
             DrawAnswer::Done(draw_entries(
                 segments,
                 segment_count,

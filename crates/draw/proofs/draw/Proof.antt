@@ -48,23 +48,9 @@ shared-slice-read-e c =
 cast-e : tie.Need-cast-e
 cast-e c = omega (arith, c .shared-slice-known5 .given (c .before .before .before .before .before .before .before .before .before .before .before .args .y + 1))
 
-fetch-requires : tie.Need-fetch-requires
-fetch-requires c κs =
-    let f = judged-fine _ _ _ _ _ _ _ (sym (c .before .before .before .before .before .before .before .judge .ensures) ∙ c .before .before .before .before .before .enum-told .given .1) in
-    (omega arith, (f .row .all-named, (omega arith, omega arith)))
-
-array-read-unless : tie.Need-array-read-unless
-array-read-unless c = search needs
-
-unless-requires : tie.Need-unless-requires
-unless-requires c κs = search needs
-
-array-write-table : tie.Need-array-write-table
-array-write-table c = search needs
-
 draw-entries-requires : tie.Need-draw-entries-requires
 draw-entries-requires c κs =
-    let f = judged-fine _ _ _ _ _ _ _ (sym (c .before .before .before .before .before .before .before .before .before .before .before .before .before .judge .ensures) ∙ c .before .before .before .before .before .before .before .before .before .before .before .enum-told .given .1) in
+    let f = judged-fine _ _ _ _ _ _ _ (sym (c .before .before .before .before .before .before .before .before .judge .ensures) ∙ c .before .before .before .before .before .before .enum-told .given .1) in
     (omega arith, (f .row .all-named, (omega arith, omega arith)))
 
 returns : tie.Need-returns
@@ -83,9 +69,9 @@ same-length-3 c = search needs
 
 returns-2 : tie.Need-returns-2
 returns-2 c =
-    let A = c .before .before .before .before .before .before .before .before .before .before .before .before .before .before .before .before .before .before .before .before .before .before .before .before .before .before .before .args in
+    let A = c .before .before .before .before .before .before .before .before .before .before .before .before .before .before .before .before .before .before .before .before .before .before .args in
     let d = c .before .before .before .before .before .before .draw-entries .ensures in
-    answer-done (tableOf (A .segments .now) (A .segment-count) (A .entries .now) (A .entry-count) (A .row-starts .now) (A .height)) (A .y) (A .x0) (A .n) (three (A .r0 .now) (A .r1 .now) (A .r2 .now)) (sym (c .before .before .before .before .before .before .before .before .before .before .before .before .before .before .before .before .before .before .before .before .judge .ensures) ∙ c .before .before .before .before .before .before .before .before .before .before .before .before .before .before .before .before .before .before .enum-told .given .1) (d .0) (d .1 .0) (d .1 .1 .0) (d .1 .1 .1)
+    answer-done (tableOf (A .segments .now) (A .segment-count) (A .entries .now) (A .entry-count) (A .row-starts .now) (A .height)) (A .y) (A .x0) (A .n) (three (A .r0 .now) (A .r1 .now) (A .r2 .now)) (sym (c .before .before .before .before .before .before .before .before .before .before .before .before .before .before .before .judge .ensures) ∙ c .before .before .before .before .before .before .before .before .before .before .before .before .before .enum-told .given .1) (d .0) (d .1 .0) (d .1 .1 .0) (d .1 .1 .1)
 
 pub draw-spec : {M : Type 1} → statement M
 draw-spec =
@@ -101,10 +87,6 @@ draw-spec =
     mul-e
     shared-slice-read-e
     cast-e
-    fetch-requires
-    array-read-unless
-    unless-requires
-    array-write-table
     draw-entries-requires
     returns
     same-length
