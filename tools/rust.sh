@@ -45,13 +45,18 @@ packages() {
     fi
 }
 
-# A network may fail for a while: four tries, with a longer pause after each.
+# A network may fail for a while: four tries, with a longer pause after each. What is wrong is said in $rust_missing.
 install_compiler() {
+    rust_missing="no Rust compiler for $rust_target that the oracle can use is here, and only root can install Debian's: type apt-get install rustc-web cargo-web as root"
     [ "$(id -u)" = 0 ] && command -v apt-get >/dev/null 2>&1 || return 1
     for pause in 5 15 45 0; do
         packages >host/target/packages.log 2>&1 && return 0
         sleep "$pause"
     done
+    rust_missing="no Rust compiler for $rust_target that the oracle can use is here, and Debian's packages could not be installed; host/target/packages.log tells why"
+    if grep -qE 'Temporary failure|Could not (resolve|connect)|Unable to connect|Failed to fetch' host/target/packages.log; then
+        rust_missing="no Rust compiler for $rust_target that the oracle can use is here, and Debian's packages cannot be fetched: there is no network"
+    fi
     return 1
 }
 
@@ -63,8 +68,9 @@ rust_ready() {
     fi
     find_compiler && return 0
     echo "no Rust compiler that makes $rust_target programs as the oracle needs them is here; installing Debian's"
-    install_compiler && find_compiler && return 0
-    rust_missing="there is no Rust compiler for $rust_target that the oracle can use, and Debian's packages could not be installed"
+    install_compiler || return 1
+    find_compiler && return 0
+    rust_missing="there is no Rust compiler for $rust_target that the oracle can use, and Debian's is none either"
     return 1
 }
 
