@@ -14,7 +14,7 @@ use Rattle.codes.specs.declared.Code.the-variants.{Done, Area, Coincide}
 use Rattle.codes.proofs.Codes.{numberOf-injective}
 use Rattle.numbers.specs.Saturating.{satAdd}
 use Rattle.dequantize.specs.Estimate.{satSum}
-use Rattle.dequantize.specs.Judge.{Description, startX, startY, deltasOf, coefficientsOf, splineOf, settleOf, onward, judgeFrom, judgeOf}
+use Rattle.dequantize.specs.Judge.{Description, startX, startY, deltasOf, coefficientsOf, splineOf, totalOf, settleOf, onward, judgeFrom, judgeOf}
 use Rattle.dequantize.specs.declared.Given.{Given}
 use Rattle.dequantize.specs.declared.Spline.{Spline}
 use Rattle.dequantize.specs.declared.judge.Settled.{Settled}
@@ -69,10 +69,6 @@ settled-done total s limit n h = numberOf-injective (s .code) Done (eqb-true (nu
 
 -- ---- all splines
 
--- the estimates of the splines before k, summed with saturation
-unfoldable pub totalOf : Description → Given → ℕ → ℕ
-totalOf d g k = satSum (λ i. splineOf d g i .estimate) k
-
 -- the spline k is neither refused nor over the limit nor coinciding
 abbrev pub Passes : Description → Given → ℕ → Type 0
 Passes d g k = settleOf (totalOf d g k) (splineOf d g k) (g .limit) ≡ Total (totalOf d g (suc k))
@@ -92,7 +88,7 @@ module _ (d : Description) (g : Given) where
   unfolding totalOf satSum
   total-none = refl
 
-  total-more : (k : ℕ) → totalOf d g (suc k) ≡ satAdd (totalOf d g k) (splineOf d g k .estimate)
+  pub total-more : (k : ℕ) → totalOf d g (suc k) ≡ satAdd (totalOf d g k) (splineOf d g k .estimate)
   unfolding totalOf satSum
   total-more k = refl
 

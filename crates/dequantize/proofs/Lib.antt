@@ -12,3 +12,6 @@ pub mod Accepted
 pub mod Judgement
 pub mod Readings
 pub mod AreaLimit
+pub mod Ranges
+pub mod Tracing
+pub mod Refusals

@@ -10,6 +10,7 @@ use lib.Ieee.{Float, nan}
 use Rattle.codes.specs.Codes.{numberOf}
 use Rattle.codes.specs.declared.Code.the-variants.{Area, Coincide}
 use Rattle.numbers.specs.Saturating.{satAdd}
+use Rattle.dequantize.specs.Estimate.{satSum}
 use Rattle.dequantize.specs.Dequantize.{dequantizeOf}
 use Rattle.dequantize.specs.declared.Given.{Given}
 use Rattle.dequantize.specs.declared.Spline.{Spline}
@@ -58,6 +59,10 @@ coefficientsOf d k = take 128 (drop (128 * k) (d .coefficients))
 
 unfoldable pub splineOf : Description → Given → ℕ → Spline
 splineOf d g k = dequantizeOf (startX d k) (startY d k) (deltasOf d k) (coefficientsOf d k) g
+
+-- the estimates of the splines before k, summed with saturation
+unfoldable pub totalOf : Description → Given → ℕ → ℕ
+totalOf d g k = satSum (λ i. splineOf d g i .estimate) k
 
 -- ---- the checks after a spline
 

@@ -5,3 +5,4 @@ pub mod Coefficients
 pub mod Estimate
 pub mod Dequantize
 pub mod Judge
+pub mod Refusals

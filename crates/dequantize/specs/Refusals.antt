@@ -1,0 +1,149 @@
+-- The codes of judging, and when each is given: each check of a spline as a statement on whole numbers, and what refuses it. Definitions only.
+-- That judging refuses exactly so is `judged-exactly` of proofs/Refusals.antt.
+use mathlib.Core.Path.{_≡_}
+use mathlib.Core.Bool.{true, false}
+use mathlib.Core.List.{List}
+use mathlib.Core.Logic.{_⊎_}
+use Prim.Native.Nat.{ℕ, zero, suc, _+_, _*_, _^_, _≤_, _<_}
+use lib.IntN.{ℤ, pos, negsuc, natAbs}
+use lib.Signed.{_≤ℤ_, _<ℤ_}
+use lib.ListN.{length, getD}
+use lib.Ieee.{Float, binary32, isNan, toSigned}
+use Rattle.numbers.specs.Whole.{roundOf}
+use Rattle.codes.specs.declared.Code.{Code}
+use Rattle.codes.specs.declared.Code.the-variants.{Delta, Position, Distance, Area, Coincide}
+use Rattle.dequantize.specs.ControlPoints.{pairAt, plusOf, manhattanOf, controlPoints}
+use Rattle.dequantize.specs.Judge.{Description, startX, startY, deltasOf, totalOf}
+use Rattle.dequantize.specs.declared.Given.{Given}
+use Rattle.dequantize.specs.declared.control_points.Pair.{Pair}
+
+-- ---- ranges
+
+-- from -2^23 up to but not including 2^23; negsuc n is -(n + 1)
+abbrev pub InRange : ℤ → Type 0
+InRange v = (negsuc 8388607 ≤ℤ v) × (v <ℤ pos 8388608)
+
+abbrev pub Beyond : ℤ → Type 0
+Beyond v = (v <ℤ negsuc 8388607) ⊎ (pos 8388608 ≤ℤ v)
+
+-- both coordinates are in the range, or one is beyond it
+abbrev pub Inside : Pair → Type 0
+Inside p = InRange (p .x) × InRange (p .y)
+
+abbrev pub Outside : Pair → Type 0
+Outside p = Beyond (p .x) ⊎ Beyond (p .y)
+
+-- both magnitudes are below 2^30, or one is 2^30 or more
+abbrev pub Small : Pair → Type 0
+Small p = (natAbs (p .x) < 2 ^ 30) × (natAbs (p .y) < 2 ^ 30)
+
+abbrev pub Large : Pair → Type 0
+Large p = (2 ^ 30 ≤ natAbs (p .x)) ⊎ (2 ^ 30 ≤ natAbs (p .y))
+
+-- ---- the start
+
+-- a coordinate of a start, half away from zero
+abbrev pub wholeOf : Float → ℤ
+wholeOf c = toSigned 31 (roundOf binary32 c)
+
+-- it is a number whose rounding is v, in the range
+pub record RoundsTo (c : Float) (v : ℤ) : Type 0 where
+  pub number : isNan c ≡ false
+  pub is : v ≡ wholeOf c
+  pub inside : InRange v
+
+-- it is NaN, or its rounding is beyond the range
+abbrev pub Strays : Float → Type 0
+Strays c = (isNan c ≡ true) ⊎ Beyond (wholeOf c)
+
+-- ---- the pairs of double deltas
+
+-- nowhere: no delta yet
+abbrev pub nowhere : Pair
+nowhere = record { x = pos 0; y = pos 0 }
+
+-- p and f 0, f 1, .. up to f (n - 1), summed
+unfoldable pub plusUpTo : Pair → (ℕ → Pair) → ℕ → Pair
+plusUpTo p f zero = p
+plusUpTo p f (suc n) = plusOf (plusUpTo p f n) (f n)
+
+-- f 0, f 1, .. up to f (n - 1), summed
+unfoldable pub sumUpTo : (ℕ → ℕ) → ℕ → ℕ
+sumUpTo f zero = 0
+sumUpTo f (suc n) = sumUpTo f n + f n
+
+-- the delta at pair j: the double deltas up to it, summed
+unfoldable pub deltaAt : List ℤ → ℕ → Pair
+deltaAt ds j = plusUpTo nowhere (pairAt ds) (suc j)
+
+-- the point at pair j: the start and the deltas up to it, summed
+unfoldable pub pointAt : Pair → List ℤ → ℕ → Pair
+pointAt start ds j = plusUpTo start (deltaAt ds) (suc j)
+
+-- the Manhattan sum at pair j: both magnitudes of the deltas up to it, summed
+unfoldable pub farAt : List ℤ → ℕ → ℕ
+farAt ds j = sumUpTo (λ i. manhattanOf (deltaAt ds i)) (suc j)
+
+module _ (limit : ℕ) (start : Pair) (ds : List ℤ) (j : ℕ) where
+  -- pair j passes its four checks
+  pub record PairPasses : Type 0 where
+    pub small : Small (pairAt ds j)
+    pub delta : Inside (deltaAt ds j)
+    pub near : farAt ds j ≤ limit
+    pub point : Inside (pointAt start ds j)
+
+  -- the first of its checks that fails
+  pub data PairRefusal : Code → Type 0 where
+    -- 5: a double delta of magnitude 2^30 or more
+    delta-large : Large (pairAt ds j) → PairRefusal Delta
+    -- 10: the delta
+    delta-outside : Small (pairAt ds j) → Outside (deltaAt ds j) → PairRefusal Position
+    -- 11: the Manhattan sum above the area limit
+    too-far : Small (pairAt ds j) → Inside (deltaAt ds j) → limit < farAt ds j → PairRefusal Distance
+    -- 10: the point
+    point-outside : Small (pairAt ds j) → Inside (deltaAt ds j) → farAt ds j ≤ limit → Outside (pointAt start ds j) → PairRefusal Position
+
+-- two adjacent points of a list are equal
+pub record Adjacent (points : List Pair) : Type 0 where
+  pub j : ℕ
+  pub inside : suc j < length points
+  pub equal : getD points j nowhere ≡ getD points (suc j) nowhere
+
+-- ---- the splines
+
+module _ (d : Description) (g : Given) where
+  -- the spline k begins at a place, and all its pairs pass
+  pub record Traces (k : ℕ) : Type 0 where
+    pub start : Pair
+    pub x : RoundsTo (startX d k) (start .x)
+    pub y : RoundsTo (startY d k) (start .y)
+    pub pairs : (j : ℕ) → 2 * j + 2 ≤ length (deltasOf d k) → PairPasses (g .limit) start (deltasOf d k) j
+
+  -- the spline k passes all its checks
+  pub record SplinePasses (k : ℕ) : Type 0 where
+    pub traces : Traces k
+    pub area : totalOf d g (suc k) ≤ g .limit
+    pub apart : Adjacent (controlPoints (traces .start) (deltasOf d k)) → ⊥
+
+  -- the first of its checks that fails
+  pub data SplineRefusal (k : ℕ) : Code → Type 0 where
+    -- 10: a start that is NaN or outside
+    start-strays : Strays (startX d k) ⊎ Strays (startY d k) → SplineRefusal k Position
+    -- 5, 10, 11: a pair, where all pairs before it pass
+    pair-refused : {c : Code} (start : Pair) → RoundsTo (startX d k) (start .x) → RoundsTo (startY d k) (start .y)
+        → (j : ℕ) → 2 * j + 2 ≤ length (deltasOf d k) → ((i : ℕ) → i < j → PairPasses (g .limit) start (deltasOf d k) i)
+        → PairRefusal (g .limit) start (deltasOf d k) j c → SplineRefusal k c
+    -- 12: the summed estimate above the area limit
+    area-above : Traces k → g .limit < totalOf d g (suc k) → SplineRefusal k Area
+    -- 13: two adjacent control points equal
+    points-meet : (t : Traces k) → totalOf d g (suc k) ≤ g .limit → Adjacent (controlPoints (t .start) (deltasOf d k)) → SplineRefusal k Coincide
+
+  -- all splines pass
+  pub record AllPass : Type 0 where
+    pub each : (k : ℕ) → k < length (d .counts) → SplinePasses k
+
+  -- the spline k is the first that is refused
+  pub record FirstRefused (c : Code) (k : ℕ) : Type 0 where
+    pub is-there : k < length (d .counts)
+    pub before : (i : ℕ) → i < k → SplinePasses i
+    pub why : SplineRefusal k c
