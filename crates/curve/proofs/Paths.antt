@@ -16,7 +16,7 @@ use Rattle.curve.specs.declared.Point.{Point}
 use Rattle.curve.specs.declared.Window.{Window}
 use Rattle.curve.specs.declared.Curved.the-variants.{Points, Room}
 use Rattle.curve.specs.Windows.{windowPoint}
-use Rattle.curve.specs.Curve.{pointOf, pointsOf, reflected, closing, windowOf, windowsFrom, windowsOf, interpolated, windowPoints, allPoints, lastOf, drawCentripetalCatmullRomSpline, pathOf, flat, curvedOf, curvedOn}
+use Rattle.curve.specs.Curve.{pointOf, pointsOf, reflected, closing, windowOf, windowsFrom, windowsOf, interpolated, windowPoints, allPoints, lastOf, drawCentripetalCatmullRomSpline, pathOf, PathLength, flat, curvedOf, curvedOn}
 
 -- ---- two numbers a point
 
@@ -116,6 +116,10 @@ unfolding pathOf controlPoints pointsOf
 length-path start ds =
     length-drawn (pointOf start) (pointsOf (laterPoints (placeAt start) ds))
     ∙ omega (arith, length-points (laterPoints (placeAt start) ds), points-length (placeAt start) ds)
+
+pub path-length : PathLength
+unfolding controlPoints
+path-length start ds = omega (arith, length-path start ds, points-length (placeAt start) ds)
 
 -- the start alone
 pub path-one : (start : Pair) (ds : List ℤ) → length ds < 2 → flat (pathOf start ds) ≡ two (pointOf start)

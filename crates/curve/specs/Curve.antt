@@ -1,7 +1,8 @@
 -- `draw_centripetal_catmull_rom_spline`: the path through the control points, and what a lent buffer then holds. Definitions only.
+use mathlib.Core.Path.{_≡_}
 use mathlib.Core.Bool.{Bool, true, false, cond}
 use mathlib.Core.List.{List, [], _∷_, _++_}
-use Prim.Native.Nat.{ℕ, zero, suc, _/_, min}
+use Prim.Native.Nat.{ℕ, zero, suc, _+_, _-_, _*_, _/_, min}
 use lib.Dec.{leb}
 use lib.IntN.{ℤ}
 use lib.ListN.{length}
@@ -89,6 +90,10 @@ drawCentripetalCatmullRomSpline (p ∷ q ∷ l) = allPoints (windowsOf p q l) ++
 -- the path of the spline that begins at start and has the double deltas ds
 unfoldable pub pathOf : Pair → List ℤ → List Point
 pathOf start ds = drawCentripetalCatmullRomSpline (pointsOf (controlPoints start ds))
+
+-- 16(n - 1) + 1 points for n control points: 1 for one
+abbrev pub PathLength : Type 0
+PathLength = (start : Pair) (ds : List ℤ) → length (pathOf start ds) ≡ 16 * (length (controlPoints start ds) - 1) + 1
 
 -- ---- in a lent buffer
 

@@ -11,7 +11,7 @@ use lib.Ieee.{Float}
 use Rattle.curve.specs.declared.Point.{Point}
 use Rattle.walk.specs.declared.Stretch.{Stretch}
 use Rattle.walk.specs.declared.Stretch.the-variants.{Ends, Emits}
-use Rattle.walk.specs.Walk.{oneF32, pointAt, stretchOf, PointToDraw, toDraw, Walk, More, Ended, before, afterStretch, walkFrom, walkIn}
+use Rattle.walk.specs.Walk.{oneF32, pointAt, stretchOf, PointToDraw, toDraw, Walk, More, Ended, before, afterStretch, walkFrom, walkIn, Walks}
 
 -- no walk needs more points and has ended
 never : {A : Type 0} {xs : List PointToDraw} → More ≡ Ended xs → A
@@ -118,5 +118,23 @@ walk-needs a b path xs m e = go (ltb b (length xs)) refl
     go : (t : Bool) → ltb b (length xs) ≡ t → b < length xs
     go true h = ltb-true b (length xs) h
     go false h = never (sym m ∙ walk-enough a b path xs e (ltb-false b (length xs) h))
+
+-- ---- with no word of how many are allowed
+
+-- a walk has one end
+pub walk-one : (path : List Float) (xs ys : List PointToDraw) → Walks path xs → Walks path ys → xs ≡ ys
+walk-one path xs ys v w =
+    let m = v .most + w .most in
+    let e : walkIn m path ≡ Ended xs = walk-enough (v .most) m path xs (v .ended) (omega (arith, walk-within (v .most) path xs (v .ended))) in
+    let f : walkIn m path ≡ Ended ys = walk-enough (w .most) m path ys (w .ended) (omega (arith, walk-within (w .most) path ys (w .ended))) in
+    cc
+
+-- a walk that needs more than b points needs more than a lesser number
+pub walk-fewer : (a b : ℕ) (path : List Float) → a ≤ b → walkIn b path ≡ More → walkIn a path ≡ More
+walk-fewer a b path h m = go (walkIn a path) refl
+  where
+    go : (w : Walk) → walkIn a path ≡ w → w ≡ More
+    go More e = refl
+    go (Ended xs) e = never (sym m ∙ walk-enough a b path xs e (omega (arith, walk-within a path xs e)))
 
 -- Assumes nothing.

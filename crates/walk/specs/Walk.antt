@@ -78,6 +78,11 @@ unfoldable pub walkIn : ℕ → List Float → Walk
 walkIn zero path = More
 walkIn (suc k) path = before (toDraw (pointAt path 0) oneF32 ∷ []) (walkFrom k path 0 (pointAt path 0))
 
+-- the walk along a path ends with these points: it does so in some number of points, and then in every greater one
+pub record Walks (path : List Float) (points : List PointToDraw) : Type 0 where
+  pub most : ℕ
+  pub ended : walkIn most path ≡ Ended points
+
 -- `length`, of a walk of n points with the last multiplier
 unfoldable pub walkLength : ℕ → Float → Float
 walkLength n last = ofInt binary32 (pos n -ℤ pos 2) ⊗ oneF32 ⊕ last
