@@ -1,2 +1,3 @@
 -- The definitions of the crate `painting`.
 pub mod Painting
+pub mod Segments

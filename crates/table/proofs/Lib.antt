@@ -2,3 +2,4 @@
 pub mod Checks
 pub mod Placing
 pub mod Users
+pub mod Segments

@@ -1,0 +1,92 @@
+-- The segments of a description for a setting, with no word of what is lent; what a build needs, and what it leaves where its needs are met. Definitions only.
+-- The statements at the end are proved in proofs/Segments.antt.
+use mathlib.Core.Path.{_≡_}
+use mathlib.Core.List.{List}
+use Prim.Native.Nat.{ℕ, suc, _*_, _^_, _≤_, _<_}
+use lib.ListN.{length, take}
+use Rattle.dequantize.specs.Judge.{Description, Shaped, totalOf}
+use Rattle.dequantize.specs.Refusals.{AllPass}
+use Rattle.segments.specs.declared.Segment.{Segment}
+use Rattle.points.specs.Points.{eights}
+use Rattle.painting.specs.Segments.{MakesUpTo, DrawnUpTo, Suffices}
+use Rattle.rows.specs.Rows.{inRow, startOf, rows, upTo}
+use Rattle.rows.specs.Rows as listing
+use Rattle.table.specs.declared.BuildAnswer.the-variants.{Done}
+use Rattle.table.specs.Table.{Setting, BuildRooms, BuildOutcome, givenOf, leaves, zeros, padded, buildOf}
+
+-- the segments of a description: those of its splines, in their order
+abbrev pub Makes : Description → Setting → List Segment → Type 0
+Makes d i segs = MakesUpTo d (givenOf i) (i .high) (length (d .counts)) segs
+
+-- how many entries the rows of these segments have
+abbrev pub entriesOf : Setting → List Segment → ℕ
+entriesOf i segs = startOf (inRow (eights segs)) (length segs) (i .height)
+
+-- ---- what a build needs
+
+module _ (d : Description) (i : Setting) (r : BuildRooms) where
+  -- the checks of the lengths have passed
+  pub record Fits : Type 0 where
+    pub narrow : i .width ≤ 2 ^ 23
+    pub low : i .height ≤ 2 ^ 23
+    pub shape : Shaped d
+    pub tall : i .height < r .starts
+
+  -- the lengths agree, every spline passes, every spline is drawn into the lent room, and there is room for the entries
+  pub record NeedsMet (segs : List Segment) : Type 0 where
+    pub fits : Fits
+    pub passes : AllPass d (givenOf i)
+    pub drawn : DrawnUpTo d (givenOf i) (i .high) (r .path) (r .walk) (r .segments) (length (d .counts)) segs
+    pub entries : Suffices (r .entries) (2 ^ 30) (entriesOf i segs)
+
+  -- the counts and the table of these segments, zeros behind it and in the working cells
+  unfoldable pub doneWith : List Segment → BuildOutcome
+  doneWith segs =
+      leaves (Done (length segs) (entriesOf i segs) (totalOf d (givenOf i) (length (d .counts)))) (zeros (r .path)) (zeros (r .walk)) (padded (r .segments) (eights segs))
+      (listing.padded (r .starts) (upTo (startOf (inRow (eights segs)) (length segs)) (suc (i .height)))) (listing.padded (r .entries) (rows (inRow (eights segs)) (length segs) (i .height)))
+
+  -- a done build has met its needs, made the segments of the description, and left their table
+  pub record BuildMakes (s e estimate : ℕ) : Type 0 where
+    pub segs : List Segment
+    pub makes : Makes d i segs
+    pub needs : NeedsMet segs
+    pub count : length segs ≡ s
+    pub entry-count : entriesOf i segs ≡ e
+    pub estimated : totalOf d (givenOf i) (length (d .counts)) ≡ estimate
+    pub numbers : buildOf d i r .segments ≡ padded (r .segments) (eights segs)
+    pub leaves-them : buildOf d i r ≡ doneWith segs
+
+-- at least as much room
+pub record NoLess (r r′ : BuildRooms) : Type 0 where
+  pub path : r .path ≤ r′ .path
+  pub walk : r .walk ≤ r′ .walk
+  pub segments : r .segments ≤ r′ .segments
+  pub starts : r .starts ≤ r′ .starts
+  pub entries : r .entries ≤ r′ .entries
+
+-- the same counts, and the same cells of the table: the numbers of s segments, e entries, and a start for each row and one
+pub record SameTable (height s e : ℕ) (o o′ : BuildOutcome) : Type 0 where
+  pub answer : o′ .answer ≡ o .answer
+  pub segments : take (8 * s) (o′ .segments) ≡ take (8 * s) (o .segments)
+  pub entries : take e (o′ .entries) ≡ take e (o .entries)
+  pub starts : take (suc height) (o′ .starts) ≡ take (suc height) (o .starts)
+
+-- ---- statements
+
+-- a description has one list of segments
+abbrev pub MakesOne : Type 0
+MakesOne = (d : Description) (i : Setting) (xs ys : List Segment) → Makes d i xs → Makes d i ys → xs ≡ ys
+
+-- a build whose needs are met is done, with the table of its segments
+abbrev pub EnoughIsDone : Type 0
+EnoughIsDone = (d : Description) (i : Setting) (r : BuildRooms) (segs : List Segment) → NeedsMet d i r segs → buildOf d i r ≡ doneWith d i r segs
+
+-- a build that is done made the segments of the description
+abbrev pub DoneMakes : Type 0
+DoneMakes = (d : Description) (i : Setting) (r : BuildRooms) (s e estimate : ℕ) → buildOf d i r .answer ≡ Done s e estimate → BuildMakes d i r s e estimate
+
+-- and it is done with any rooms at least as large, with the same counts and the same table
+abbrev pub MoreRoomNeverRefuses : Type 0
+MoreRoomNeverRefuses =
+    (d : Description) (i : Setting) (r r′ : BuildRooms) (s e estimate : ℕ) → NoLess r r′ → buildOf d i r .answer ≡ Done s e estimate
+    → SameTable (i .height) s e (buildOf d i r) (buildOf d i r′)
