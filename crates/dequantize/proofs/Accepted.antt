@@ -8,7 +8,8 @@ use lib.IntN.{ℤ}
 use lib.Ieee.{Float}
 use Rattle.codes.specs.declared.Code.{Code}
 use Rattle.codes.specs.declared.Code.the-variants.{Done, Position}
-use Rattle.dequantize.specs.ControlPoints.{startingPoint, traceOf, placeAt, controlPoints, adjacentCoincide, Passable}
+use Rattle.dequantize.specs.ControlPoints.{startingPoint, traceOf}
+use Rattle.dequantize.specs.Asked.{Accepted}
 use Rattle.dequantize.specs.Dequantize.{refusedOf, finishedOf, dequantizeOf}
 use Rattle.dequantize.specs.declared.Given.{Given}
 use Rattle.dequantize.specs.declared.Spline.{Spline}
@@ -22,15 +23,6 @@ use Rattle.dequantize.proofs.Starts.{start-valid}
 use Rattle.dequantize.proofs.Coincide.{coincides}
 use Rattle.dequantize.proofs.Walks.{traced-walk}
 use Rattle.dequantize.proofs.Exactly.{OfTrace, trace-code}
-
-pub record Accepted (x y : Float) (ds c : List ℤ) (g : Given) : Type 0 where
-  pub start : Pair
-  pub run : Run
-  pub begins : startingPoint x y ≡ At start
-  pub traced : traceOf (g .limit) start ds ≡ On run
-  pub is : dequantizeOf x y ds c g ≡ finishedOf c g (run .manhattan) (run .coincide)
-  pub walk : Passable (placeAt start) ds
-  pub coincide : dequantizeOf x y ds c g .coincide ≡ adjacentCoincide (controlPoints start ds)
 
 module _ (x y : Float) (ds c : List ℤ) (g : Given) where
   -- ---- the three cases

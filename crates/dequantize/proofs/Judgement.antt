@@ -21,7 +21,8 @@ use Rattle.dequantize.specs.declared.judge.Settled.{Settled}
 use Rattle.dequantize.specs.declared.judge.Settled.the-variants.{Total, Stop}
 use Rattle.dequantize.specs.declared.judge.Judged.{Judged}
 use Rattle.dequantize.specs.declared.judge.Judged.the-variants.{Fine, Refused}
-use Rattle.dequantize.proofs.Accepted.{Accepted, accepted-exactly}
+use Rattle.dequantize.specs.Asked.{Accepted}
+use Rattle.dequantize.proofs.Accepted.{accepted-exactly}
 
 -- ---- one spline that was dequantized
 

@@ -10,7 +10,8 @@ use borrow.Author.Tests.{ltb-true, leb-true, le-leb}
 use mir.Syntax.{w32}
 use mir.Val.{SFits, toZ, ofZ}
 use mir.Facts.{toZ-ofZ}
-use Rattle.dequantize.specs.ControlPoints.{inRange, belowDeltaLimit, validPointPos, validDoubleDelta, Fine}
+use Rattle.dequantize.specs.ControlPoints.{inRange, belowDeltaLimit, validPointPos, validDoubleDelta}
+use Rattle.dequantize.specs.Asked.{Fine}
 use Rattle.dequantize.specs.declared.control_points.Pair.{Pair}
 
 -- ---- the two limits

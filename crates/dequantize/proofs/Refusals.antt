@@ -12,9 +12,9 @@ use Rattle.codes.specs.declared.Code.{Code}
 use Rattle.codes.specs.declared.Code.the-variants.{Done, Delta, Position, Distance, Area, Coincide}
 use Rattle.numbers.specs.Saturating.{satAdd}
 use Rattle.dequantize.specs.ControlPoints.{startingPoint, traceOf, controlPoints, validPointPos, samePoint, coincideFrom, adjacentCoincide}
-use Rattle.dequantize.specs.Dequantize.{refusedOf}
+use Rattle.dequantize.specs.Dequantize.{refusedOf, finishedOf, dequantizeOf}
 use Rattle.dequantize.specs.Judge.{Description, startX, startY, deltasOf, coefficientsOf, splineOf, totalOf, settleOf, judgeOf}
-use Rattle.dequantize.specs.Refusals.{nowhere, RoundsTo, Adjacent, Traces, SplinePasses, SplineRefusal, start-strays, pair-refused, area-above, points-meet, AllPass, FirstRefused}
+use Rattle.dequantize.specs.Refusals.{nowhere, RoundsTo, Adjacent, Traces, SplinePasses, SplineRefusal, start-strays, pair-refused, area-above, points-meet, AllPass, FirstRefused, EstimateIs}
 use Rattle.dequantize.specs.declared.Given.{Given}
 use Rattle.dequantize.specs.declared.Spline.{Spline}
 use Rattle.dequantize.specs.declared.control_points.Pair.{Pair}
@@ -29,7 +29,7 @@ use Rattle.dequantize.proofs.Pairs.{both}
 use Rattle.dequantize.proofs.Coincide.{same-point}
 use Rattle.dequantize.proofs.Walks.{allInRange, points-in-range}
 use Rattle.dequantize.proofs.Exactly.{OfTrace, trace-code}
-use Rattle.dequantize.proofs.Accepted.{Accepted, start-refused, trace-refused, trace-accepted, accepted-exactly}
+use Rattle.dequantize.proofs.Accepted.{start-refused, trace-refused, trace-accepted, accepted-exactly}
 use Rattle.dequantize.proofs.Judgement.{area-exactly, coincide-exactly, total-exactly, settled-done, Passes, Refusal, total-more, fine-exactly, refused-exactly}
 use Rattle.dequantize.proofs.Ranges.{starts-at, starting-at, starts-out, starting-out}
 use Rattle.dequantize.proofs.Tracing.{trace-passed, trace-stops, refused-stops, passed-traces}
@@ -190,6 +190,14 @@ module _ (d : Description) (g : Given) (k : ℕ) where
 
     pub is-refusal : SplineRefusal d g k c
     is-refusal = settled-start (startingPoint (startX d k) (startY d k)) refl
+
+-- ---- the estimate
+
+pub estimate-is : EstimateIs
+unfolding splineOf dequantizeOf finishedOf
+estimate-is d g k t =
+    let r = passed-traces (g .limit) (t .start) (deltasOf d k) (t .pairs) in
+    rw (starting-at (startX d k) (startY d k) (t .start) (t .x) (t .y), r .is, r .far)
 
 -- ---- all splines
 

@@ -12,7 +12,8 @@ use lib.Seq.{drop-cons}
 use borrow.Author.Tests.{leb-true}
 use Rattle.codes.specs.declared.Code.{Code}
 use Rattle.codes.specs.declared.Code.the-variants.{Delta, Position, Distance}
-use Rattle.dequantize.specs.ControlPoints.{orStop, onward, stepOf, traceFrom, pairAt, plusOf, manhattanOf, validDoubleDelta, validPointPos, samePoint, Held}
+use Rattle.dequantize.specs.ControlPoints.{orStop, onward, stepOf, traceFrom, pairAt, plusOf, manhattanOf, validDoubleDelta, validPointPos, samePoint}
+use Rattle.dequantize.specs.Asked.{Held}
 use Rattle.dequantize.specs.declared.control_points.Pair.{Pair}
 use Rattle.dequantize.specs.declared.control_points.Run.{Run}
 use Rattle.dequantize.specs.declared.control_points.Traced.{Traced}

@@ -9,17 +9,19 @@ use native.Mathlib.Numerals.{add-one}
 use native.Mathlib.Omega.{arith}
 use lib.Dec.{leb}
 use lib.IntN.{ℤ}
-use lib.ListN.{length, drop, length-drop}
+use lib.ListN.{length, getD, drop, length-drop}
 use borrow.Author.Tests.{leb-true, leb-false}
 use Rattle.codes.specs.declared.Code.{Code}
 use Rattle.codes.specs.declared.Code.the-variants.{Delta, Position, Distance}
-use Rattle.dequantize.specs.ControlPoints.{orStop, onward, stepOf, traceFrom, traceOf, runAt, pairAt, plusOf, manhattanOf, validDoubleDelta, validPointPos}
-use Rattle.dequantize.specs.Refusals.{Inside, Outside, Small, Large, nowhere, plusUpTo, sumUpTo, deltaAt, pointAt, farAt, PairPasses, PairRefusal, delta-large, delta-outside, too-far, point-outside}
+use Rattle.dequantize.specs.ControlPoints.{orStop, onward, stepOf, traceFrom, traceOf, runAt, pairAt, plusOf, manhattanOf, placeAt, movedOf, laterPoints, controlPoints, validDoubleDelta, validPointPos}
+use Rattle.dequantize.specs.Refusals.{Inside, Outside, Small, Large, nowhere, plusUpTo, sumUpTo, deltaAt, pointAt, farAt, farOf, PointsAre, PairPasses, PairRefusal, delta-large, delta-outside, too-far, point-outside}
 use Rattle.dequantize.specs.declared.control_points.Pair.{Pair}
+use Rattle.dequantize.specs.declared.control_points.Place.{Place}
 use Rattle.dequantize.specs.declared.control_points.Run.{Run}
 use Rattle.dequantize.specs.declared.control_points.Traced.{Traced}
 use Rattle.dequantize.specs.declared.control_points.Traced.the-variants.{On, Stop}
 use Rattle.dequantize.proofs.Steps.{onto, step-went, trace-more, trace-done}
+use Rattle.dequantize.proofs.Walks.{points-more}
 use Rattle.dequantize.proofs.Ranges.{Decides, at-most, point-decides, double-delta-decides}
 
 module _ (limit : ℕ) (start : Pair) (ds : List ℤ) where
@@ -208,13 +210,30 @@ module _ (limit : ℕ) (start : Pair) (ds : List ℤ) where
   pub record Traced-on : Type 0 where
     pub run : Run
     pub is : traceOf limit start ds ≡ On run
+    pub far : run .manhattan ≡ farOf ds
 
   pub passed-traces : ((j : ℕ) → 2 * j + 2 ≤ length ds → PairPasses limit start ds j) → Traced-on
-  unfolding traceOf
+  unfolding traceOf farOf
   passed-traces p =
       let n = length ds / 2 in
       let t = from-start n (omega arith) (λ i b. p i (omega arith)) in
       let z : 0 + n ≡ n = omega arith in
-      record { run = t .run; is = t .same ∙ rw z (trace-done limit (t .run) (drop (2 * n) ds) (short n (omega arith))) }
+      record { run = t .run; is = t .same ∙ rw z (trace-done limit (t .run) (drop (2 * n) ds) (short n (omega arith))); far = subst (λ (m : ℕ). Ran m (t .run)) z (t .ran) .far }
+
+-- ---- the control points
+
+module _ (start : Pair) (ds : List ℤ) where
+  later-at : (m k : ℕ) (p : Place) → p .delta ≡ plusUpTo nowhere (pairAt ds) k → p .point ≡ plusUpTo start (deltaAt ds) k → 2 * (k + m) + 2 ≤ length ds
+      → getD (laterPoints p (drop (2 * k) ds)) m nowhere ≡ pointAt start ds (k + m)
+  unfolding movedOf deltaAt pointAt plusUpTo
+  later-at zero k p a b h = let e : k + 0 ≡ k = omega arith in rw (e, points-more p ds k (omega arith), a, b)
+  later-at (suc m) k p a b h =
+      let e : k + suc m ≡ k + 1 + m = omega arith in
+      let q = movedOf p (pairAt ds k) in
+      rw (e, points-more p ds k (omega arith)) (later-at m (k + 1) q (rw (add-one k, a)) (rw (add-one k, a, b)) (omega arith))
+
+pub points-are : PointsAre
+unfolding controlPoints placeAt plusUpTo
+points-are start ds j h = later-at start ds j 0 (placeAt start) refl refl (omega arith) ∙ (let e : 0 + j ≡ j = omega arith in ap (pointAt start ds) e)
 
 -- Assumes nothing.

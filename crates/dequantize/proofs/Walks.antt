@@ -6,7 +6,8 @@ use Prim.Native.Nat.{ℕ, _+_, _*_, _/_, _<_, _≤_}
 use native.Mathlib.Omega.{arith}
 use lib.IntN.{ℤ}
 use lib.ListN.{length, drop}
-use Rattle.dequantize.specs.ControlPoints.{onward, stepOf, traceFrom, traceOf, runAt, pairAt, plusOf, movedOf, placeAt, laterPoints, controlPoints, validDoubleDelta, validPointPos, passes, Passable, Moves}
+use Rattle.dequantize.specs.ControlPoints.{onward, stepOf, traceFrom, traceOf, runAt, pairAt, plusOf, movedOf, placeAt, laterPoints, controlPoints, validDoubleDelta, validPointPos}
+use Rattle.dequantize.specs.Asked.{passes, Passable, Moves}
 use Rattle.dequantize.specs.declared.control_points.Pair.{Pair}
 use Rattle.dequantize.specs.declared.control_points.Place.{Place}
 use Rattle.dequantize.specs.declared.control_points.Run.{Run}

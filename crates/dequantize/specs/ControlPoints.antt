@@ -1,13 +1,12 @@
 -- The control points of a spline, as `dequantize` of spline.rs makes and checks them, and the test of `validate_adjacent_point_coincidence`. Definitions only.
 -- They are whole numbers, as current_x and current_y are there; spline.rs keeps them as pairs of f32, which `near` compares.
-use mathlib.Core.Path.{_≡_}
 use mathlib.Core.Bool.{Bool, true, false, cond}
 use mathlib.Core.List.{List, [], _∷_}
-use Prim.Native.Nat.{ℕ, _+_, _*_, _≤_, _<_}
+use Prim.Native.Nat.{ℕ, _+_, _*_}
 use lib.Dec.{leb}
 use lib.ListN.{getD}
 use lib.IntN.{ℤ, pos, negsuc, natAbs, _+ℤ_}
-use lib.Signed.{mag, leZ, ltZ}
+use lib.Signed.{leZ, ltZ}
 use lib.Ieee.{Float, binary32, isNan, lt, ofInt, toSigned}
 use Rattle.numbers.specs.Arith.{f, _⊖_}
 use Rattle.numbers.specs.Whole.{roundOf}
@@ -143,37 +142,3 @@ runAt start = record { delta = record { x = pos 0; y = pos 0 }; point = start; m
 -- the run after all double deltas, or the first refusal
 unfoldable pub traceOf : ℕ → Pair → List ℤ → Traced
 traceOf limit start ds = traceFrom limit (runAt start) ds
-
--- ---- what the code asks for
-
--- the sum of two such pairs fits
-pub record Fine (p : Pair) : Type 0 where
-  pub x : mag (p .x) < 1073741824
-  pub y : mag (p .y) < 1073741824
-
--- what a run that no check has stopped keeps
-pub record Held (r : Run) (limit : ℕ) : Type 0 where
-  pub delta : Fine (r .delta)
-  pub point : validPointPos (r .point) ≡ true
-  pub manhattan : r .manhattan ≤ limit
-
--- the sums of a move fit
-pub record Moves (p : Place) (dd : Pair) : Type 0 where
-  pub delta : Fine (p .delta)
-  pub more : Fine dd
-  pub next : Fine (plusOf (p .delta) dd)
-  pub point : Fine (p .point)
-
--- every double delta, delta and point on the way from p passes its check
-unfoldable pub passes : Place → List ℤ → Bool
-passes p [] = true
-passes p (a ∷ []) = true
-passes p (a ∷ b ∷ ds) =
-    let q = movedOf p (record { x = a; y = b }) in
-    cond (validDoubleDelta (record { x = a; y = b })) (cond (validPointPos (q .delta)) (cond (validPointPos (q .point)) (passes q ds) false) false) false
-
--- the control points from p on may be gone through again
-pub record Passable (p : Place) (ds : List ℤ) : Type 0 where
-  pub delta : validPointPos (p .delta) ≡ true
-  pub point : validPointPos (p .point) ≡ true
-  pub rest : passes p ds ≡ true

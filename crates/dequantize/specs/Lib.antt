@@ -4,5 +4,6 @@ pub mod ControlPoints
 pub mod Coefficients
 pub mod Estimate
 pub mod Dequantize
+pub mod Asked
 pub mod Judge
 pub mod Refusals

@@ -4,7 +4,7 @@ use mathlib.Core.Path.{_≡_}
 use mathlib.Core.Bool.{true, false}
 use mathlib.Core.List.{List}
 use mathlib.Core.Logic.{_⊎_}
-use Prim.Native.Nat.{ℕ, zero, suc, _+_, _*_, _^_, _≤_, _<_}
+use Prim.Native.Nat.{ℕ, zero, suc, _+_, _*_, _/_, _^_, _≤_, _<_}
 use lib.IntN.{ℤ, pos, negsuc, natAbs}
 use lib.Signed.{_≤ℤ_, _<ℤ_}
 use lib.ListN.{length, getD}
@@ -13,7 +13,9 @@ use Rattle.numbers.specs.Whole.{roundOf}
 use Rattle.codes.specs.declared.Code.{Code}
 use Rattle.codes.specs.declared.Code.the-variants.{Delta, Position, Distance, Area, Coincide}
 use Rattle.dequantize.specs.ControlPoints.{pairAt, plusOf, manhattanOf, controlPoints}
-use Rattle.dequantize.specs.Judge.{Description, startX, startY, deltasOf, totalOf}
+use Rattle.dequantize.specs.Coefficients.{invAdjustedQuant}
+use Rattle.dequantize.specs.Estimate.{estimateOf}
+use Rattle.dequantize.specs.Judge.{Description, startX, startY, deltasOf, coefficientsOf, splineOf, totalOf}
 use Rattle.dequantize.specs.declared.Given.{Given}
 use Rattle.dequantize.specs.declared.control_points.Pair.{Pair}
 
@@ -84,6 +86,10 @@ pointAt start ds j = plusUpTo start (deltaAt ds) (suc j)
 unfoldable pub farAt : List ℤ → ℕ → ℕ
 farAt ds j = sumUpTo (λ i. manhattanOf (deltaAt ds i)) (suc j)
 
+-- of all pairs
+unfoldable pub farOf : List ℤ → ℕ
+farOf ds = sumUpTo (λ i. manhattanOf (deltaAt ds i)) (length ds / 2)
+
 module _ (limit : ℕ) (start : Pair) (ds : List ℤ) (j : ℕ) where
   -- pair j passes its four checks
   pub record PairPasses : Type 0 where
@@ -147,3 +153,15 @@ module _ (d : Description) (g : Given) where
     pub is-there : k < length (d .counts)
     pub before : (i : ℕ) → i < k → SplinePasses i
     pub why : SplineRefusal k c
+
+-- ---- statements
+
+-- the control point after pair j is the point at pair j
+abbrev pub PointsAre : Type 0
+PointsAre = (start : Pair) (ds : List ℤ) (j : ℕ) → 2 * j + 2 ≤ length ds → getD (controlPoints start ds) (suc j) nowhere ≡ pointAt start ds j
+
+-- the estimate of a spline whose pairs pass is made of its coefficients and its Manhattan sum
+abbrev pub EstimateIs : Type 0
+EstimateIs =
+    (d : Description) (g : Given) (k : ℕ) → Traces d g k
+    → splineOf d g k .estimate ≡ estimateOf (coefficientsOf d k) (invAdjustedQuant (g .adjustment)) (g .«y_to_x») (g .«y_to_b») (g .limit) (farOf (deltasOf d k))

@@ -4,7 +4,8 @@ ghost use mathlib.Core.Bool.{true};
 ghost use Prim.Native.Nat.{_+_, _*_, _≤_};
 ghost use lib.IntN.{natAbs};
 ghost use lib.ListN.{length};
-ghost use Rattle.dequantize.specs.ControlPoints.{inRange, belowDeltaLimit, validPointPos, validDoubleDelta, plusOf, manhattanOf, pairAt, roundedOf, startingPoint, movedOf, placeAt, stepOf, traceOf, Fine, Held, Moves};
+ghost use Rattle.dequantize.specs.ControlPoints.{inRange, belowDeltaLimit, validPointPos, validDoubleDelta, plusOf, manhattanOf, pairAt, roundedOf, startingPoint, movedOf, placeAt, stepOf, traceOf};
+ghost use Rattle.dequantize.specs.Asked.{Fine, Held, Moves};
 use codes::Code;
 
 // A double delta, a delta or a point, of whole numbers.

@@ -7,8 +7,8 @@ use Rattle.dequantize.specs.declared.Given.{Given}
 use Rattle.dequantize.specs.declared.control_points.Pair.{Pair}
 use Rattle.dequantize.specs.declared.control_points.Start.{Start}
 use Rattle.dequantize.specs.declared.control_points.Start.the-variants.{At}
-use Rattle.dequantize.specs.ControlPoints.{startingPoint, placeAt, Passable}
-use Rattle.dequantize.proofs.Accepted.{Accepted}
+use Rattle.dequantize.specs.ControlPoints.{startingPoint, placeAt}
+use Rattle.dequantize.specs.Asked.{Passable, Accepted}
 
 pub start-walk : (x y : Float) (ds c : List ℤ) (g : Given) → Accepted x y ds c g → {r : Start} (start : Pair) → r ≡ startingPoint x y → r ≡ At start → Passable (placeAt start) ds
 start-walk x y ds c g a {r} start p q =

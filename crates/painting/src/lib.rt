@@ -3,15 +3,12 @@ ghost use mathlib.Core.Path.{_≡_};
 ghost use Prim.Native.Nat.{_+_, _*_, _≤_};
 ghost use lib.ListN.{length, getD, take, drop};
 ghost use lib.Ieee.{nan};
-ghost use Rattle.points.specs.Points.{segmentRoom, FilledOn};
-ghost use Rattle.dequantize.specs.ControlPoints.{startingPoint};
-ghost use Rattle.dequantize.specs.Dequantize.{dequantizeOf};
-ghost use Rattle.dequantize.proofs.Accepted.{Accepted};
+ghost use Rattle.points.specs.Points.{segmentRoom};
+ghost use Rattle.dequantize.specs.Asked.{Accepted};
 ghost use Rattle.curve.specs.Curve.{pathRoom};
 ghost use Rattle.walk.specs.Walk.{walkRoom};
-ghost use Rattle.strand.specs.Strand.{strandFilled, segmentsOf};
 ghost use Rattle.dequantize.specs.Judge.{descriptionOf, Shaped};
-ghost use Rattle.painting.specs.Painting.{strandAt, Passed, paintOf, drawnOf, DrawnOn};
+ghost use Rattle.painting.specs.Painting.{strandHere, Fills, Passed, paintOf, drawnOf, DrawnOn};
 use dequantize::Given;
 use dequantize::control_points::Start;
 use points::Filled;
@@ -37,8 +34,7 @@ fn draw_one(
 ) -> Filled
     requires { ⌜ (2 * k + 2 ≤ length (now starts)) × (128 * k + 128 ≤ length (now coefficients)) × (from ≤ segmentRoom (length (now out)))
         × Accepted (getD (now starts) (2 * k) nan) (getD (now starts) (2 * k + 1) nan) (now deltas) (take 128 (drop (128 * k) (now coefficients))) given ⌝ }
-    ensures { λ r. ⌜ (r ≡ strandFilled (segmentRoom (length (now (out .entry)))) from (strandAt (pathRoom (length (now (path .entry)))) (walkRoom (length (now (walk .entry)))) (startingPoint (getD (now (starts .entry)) (2 * k) nan) (getD (now (starts .entry)) (2 * k + 1) nan)) (now (deltas .entry)) (dequantizeOf (getD (now (starts .entry)) (2 * k) nan) (getD (now (starts .entry)) (2 * k + 1) nan) (now (deltas .entry)) (take 128 (drop (128 * k) (now (coefficients .entry)))) given) «high_precision»))
-        × FilledOn r from (segmentsOf (strandAt (pathRoom (length (now (path .entry)))) (walkRoom (length (now (walk .entry)))) (startingPoint (getD (now (starts .entry)) (2 * k) nan) (getD (now (starts .entry)) (2 * k + 1) nan)) (now (deltas .entry)) (dequantizeOf (getD (now (starts .entry)) (2 * k) nan) (getD (now (starts .entry)) (2 * k + 1) nan) (now (deltas .entry)) (take 128 (drop (128 * k) (now (coefficients .entry)))) given) «high_precision»)) (now (out .entry)) (now (out .exit)) ⌝ }
+    ensures { λ r. ⌜ Fills from (strandHere (now (starts .entry)) (now (deltas .entry)) (now (coefficients .entry)) k given «high_precision» (length (now (path .entry))) (length (now (walk .entry)))) r (now (out .entry)) (now (out .exit)) ⌝ }
 {
     let spline = dequantize::judge::spline_at(starts, deltas, coefficients, k, given);
     match dequantize::control_points::starting_point(starts[2 * k], starts[2 * k + 1]) {

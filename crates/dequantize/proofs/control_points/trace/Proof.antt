@@ -4,7 +4,8 @@ use Prim.Native.Nat.{_-_, _*_, _/_, _≤_}
 use native.Mathlib.Omega.{arith}
 use borrow.Author.Needs.{needs}
 use lib.ListN.{length, drop, length-drop}
-use Rattle.dequantize.specs.ControlPoints.{traceFrom, traceOf, runAt, Held}
+use Rattle.dequantize.specs.ControlPoints.{traceFrom, traceOf, runAt}
+use Rattle.dequantize.specs.Asked.{Held}
 use Rattle.dequantize.proofs.Steps.{step-held, turn-stop, turn-on, trace-done}
 use Rattle.dequantize.proofs.control_points.trace.Statement.{statement}
 use Rattle.dequantize.proofs.control_points.trace.Tie as tie
