@@ -3,3 +3,4 @@ pub mod Checks
 pub mod Placing
 pub mod Users
 pub mod Segments
+pub mod Readings

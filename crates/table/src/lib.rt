@@ -103,10 +103,12 @@ fn judge_all(
 ) -> Judged
     ensures { λ r. ⌜ r ≡ verdictOf (descriptionOf (now (counts .entry)) (now (starts .entry)) (now (deltas .entry)) (now (coefficients .entry))) given width height rows ⌝ }
 {
-    if !size_good(width, height) {
+    let small = size_good(width, height);
+    let agrees = shape_good(counts, starts, deltas, coefficients);
+    if !small {
         return Judged::Refused(Code::Size, 0);
     }
-    if !shape_good(counts, starts, deltas, coefficients) {
+    if !agrees {
         return Judged::Refused(Code::Shape, 0);
     }
     if rows <= height as usize {

@@ -12,35 +12,35 @@ use Rattle.table.proofs.judge_all.Tie as tie
 size-good-requires : tie.Need-size-good-requires
 size-good-requires c κs = search needs
 
-returns : tie.Need-returns
-unfolding verdictOf
-returns c = rw (sym (c .before .size-good .ensures) ∙ not-true _ (c .if1 .taken))
-
 shape-good-requires : tie.Need-shape-good-requires
 shape-good-requires c κs = search needs
 
+returns : tie.Need-returns
+unfolding verdictOf
+returns c = rw (sym (c .before .before .size-good .ensures) ∙ not-true (c .before .before .size-good .result) (c .if1 .taken))
+
 returns-2 : tie.Need-returns-2
 unfolding verdictOf
-returns-2 c = rw (sym (c .before .before .before .size-good .ensures) ∙ not-false _ (c .before .before .if1 .left), sym (c .before .shape-good .ensures) ∙ not-true _ (c .if2 .taken))
+returns-2 c = rw (sym (c .before .before .before .size-good .ensures) ∙ not-false (c .before .before .before .size-good .result) (c .before .if1 .left), sym (c .before .before .shape-good .ensures) ∙ not-true (c .before .before .shape-good .result) (c .if2 .taken))
 
 returns-3 : tie.Need-returns-3
 unfolding verdictOf
-returns-3 c = rw (sym (c .before .before .before .before .size-good .ensures) ∙ not-false _ (c .before .before .before .if1 .left), sym (c .before .before .shape-good .ensures) ∙ not-false _ (c .before .if2 .left), lt-leb (suc (c .before .before .before .before .before .before .before .args .height)) (c .before .before .before .before .before .before .before .args .rows) (omega arith))
+returns-3 c = rw (sym (c .before .before .before .before .size-good .ensures) ∙ not-false (c .before .before .before .before .size-good .result) (c .before .before .if1 .left), sym (c .before .before .before .shape-good .ensures) ∙ not-false (c .before .before .before .shape-good .result) (c .before .if2 .left), lt-leb (suc (c .before .before .before .before .before .before .before .args .height)) (c .before .before .before .before .before .before .before .args .rows) (omega arith))
 
 judge-requires : tie.Need-judge-requires
-judge-requires c κs = agreed _ (sym (c .before .before .shape-good .ensures) ∙ not-false _ (c .before .if2 .left))
+judge-requires c κs = agreed _ (sym (c .before .before .before .shape-good .ensures) ∙ not-false (c .before .before .before .shape-good .result) (c .before .if2 .left))
 
 returns-4 : tie.Need-returns-4
 unfolding verdictOf
-returns-4 c = rw (sym (c .before .before .before .before .before .size-good .ensures) ∙ not-false _ (c .before .before .before .before .if1 .left), sym (c .before .before .before .shape-good .ensures) ∙ not-false _ (c .before .before .if2 .left), le-leb _ _ (c .before .if3 .left)) (c .judge .ensures)
+returns-4 c = rw (sym (c .before .before .before .before .before .size-good .ensures) ∙ not-false (c .before .before .before .before .before .size-good .result) (c .before .before .before .if1 .left), sym (c .before .before .before .before .shape-good .ensures) ∙ not-false (c .before .before .before .before .shape-good .result) (c .before .before .if2 .left), le-leb _ _ (c .before .if3 .left)) (c .judge .ensures)
 
 pub judge-all-spec : {M : Type 1} → statement M
 judge-all-spec =
     tie.close
     (tie.spec
     size-good-requires
-    returns
     shape-good-requires
+    returns
     returns-2
     returns-3
     judge-requires
