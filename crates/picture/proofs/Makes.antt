@@ -1,0 +1,23 @@
+-- The segments of a built table are those that its description makes, with no word of what was lent.
+use mathlib.Core.Path.{_≡_, sym, ap, _∙_}
+use mathlib.Core.List.{List}
+use Prim.Native.Nat.{ℕ}
+use Rattle.dequantize.specs.Judge.{Description}
+use Rattle.segments.specs.declared.Segment.{Segment}
+use Rattle.table.specs.Table.{BuildRooms, Setting, BuildOutcome}
+use Rattle.table.specs.Segments.{Makes}
+use Rattle.table.proofs.Segments.{one-list, build-makes, drawn-are}
+use Rattle.picture.specs.Picture.{Built, segmentsOf}
+
+module _ {d : Description} {i : Setting} {r : BuildRooms} {o : BuildOutcome} {s e n : ℕ} (b : Built d i r o s e n) where
+  pub built-makes : Makes d i (segmentsOf d i r)
+  unfolding segmentsOf
+  built-makes =
+      let m = build-makes d i r s e n (sym (ap (λ (t : BuildOutcome). t .answer) (b .outcome)) ∙ b .done) in
+      rw (drawn-are d i r (m .segs) (m .needs)) (m .makes)
+
+  -- and there are no others
+  pub built-are : (segs : List Segment) → Makes d i segs → segs ≡ segmentsOf d i r
+  built-are segs m = one-list d i segs (segmentsOf d i r) m built-makes
+
+-- Assumes nothing.
