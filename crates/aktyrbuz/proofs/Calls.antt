@@ -14,11 +14,12 @@ use Rattle.table.specs.Table as building
 use Rattle.picture.specs.Picture.{Built}
 use Rattle.draw.specs.Draw.{Table, Channels, DrawOutcome, drawOf}
 use Rattle.draw.specs.Draw as drawing
-use Rattle.draw.specs.Parts.{Part, lentOf, Draws, Drawn}
+use Rattle.draw.specs.Parts.{Part, Draws, Drawn}
 use Rattle.draw.specs.Parts as parts
 use Rattle.draw.specs.Image.{Job, DrawnAll}
 use Rattle.draw.specs.Image as images
 use Rattle.draw.specs.Reach.{ReachOutcome, reachOf}
+use Rattle.draw.specs.Reach as reaching
 use Rattle.aktyrbuz.specs.Calls.{ReadCall, reads, WriteCall, writes, BuildCall, builds, DrawCall, draws, ReachCall, reaches, LnCall, logs, BuildDone, PartCall, RowCalls, ImageCalls}
 use Rattle.aktyrbuz.specs.Calls as calls
 
@@ -41,9 +42,12 @@ reach-equation t y W o (reaches κs _ _ _ _ _ _ _ _ _ _ _ _ _ _ _ _ _ p) = p
 pub ln-equation : (x r : Float) → LnCall x r → r ≡ lnOf x
 ln-equation x r (logs κs _ _ _ p) = p
 
--- what a drawing tells is told by its answer
-told-by : (t : Table) (y x0 n : ℕ) (a : Channels) (o : DrawOutcome) → DrawCall t y x0 n a o → o ≡ drawing.leaves (o .answer) (o .channels)
+-- what a drawing tells is told by its answer, and so is what a reach tells
+pub told-by : (t : Table) (y x0 n : ℕ) (a : Channels) (o : DrawOutcome) → DrawCall t y x0 n a o → o ≡ drawing.leaves (o .answer) (o .channels)
 told-by t y x0 n a o (draws κs _ _ _ _ _ _ _ _ _ _ _ _ _ _ _ _ _ _ _ _ _ _ _ _ _ p) = refl
+
+pub reach-told-by : (t : Table) (y W : ℕ) (o : ReachOutcome) → ReachCall t y W o → o ≡ reaching.tells (o .answer)
+reach-told-by t y W o (reaches κs _ _ _ _ _ _ _ _ _ _ _ _ _ _ _ _ _ p) = refl
 
 -- ---- builds and runs
 
@@ -52,14 +56,14 @@ built-by {d} {i} {r} {o} b = record { outcome = build-equation d i r o (b .calle
 
 part-by : {t : Table} {y : ℕ} {p : Part} {a b : Channels} {count : ℕ} → PartCall t y p a count b → Draws t y p a count b
 part-by {t} {y} {p} {a} c =
-    let told = told-by t y (p .at) (p .wide) (lentOf (p .at) (c .room) a) (c .outcome) (c .called) in
+    let told = told-by t y (p .at) (p .wide) (c .lent) (c .outcome) (c .called) in
     record {
-      room = c .room;
+      lent = c .lent;
       answer = c .outcome .answer;
       left = c .outcome .channels;
-      holds = c .holds;
       in-row = c .in-row;
-      outcome = sym told ∙ draw-equation t y (p .at) (p .wide) (lentOf (p .at) (c .room) a) (c .outcome) (c .called);
+      begins = c .begins;
+      outcome = sym told ∙ draw-equation t y (p .at) (p .wide) (c .lent) (c .outcome) (c .called);
       counted = c .counted ∙ ap (λ (o : DrawOutcome). o .told .updates) told;
       comes-back = c .comes-back;
     }

@@ -1,7 +1,7 @@
 -- The demands hold: each is a theorem of the layers at the equation that a contract is, or is read off that equation.
-use mathlib.Core.Path.{_≡_, sym, ap, _∙_}
+use mathlib.Core.Path.{_≡_, sym, ap, subst, _∙_}
 use mathlib.Core.List.{List, _++_, [], _∷_}
-use Prim.Native.Nat.{ℕ}
+use Prim.Native.Nat.{ℕ, _≤_}
 use native.Mathlib.Omega.{arith}
 use lib.Dec.{ltb}
 use lib.IntN.{ℤ}
@@ -17,6 +17,7 @@ use Rattle.writer.specs.declared.Verdict.the-variants.{Fine, Fault}
 use Rattle.writer.specs.declared.WriteAnswer.{WriteAnswer}
 use Rattle.roundtrip.proofs.RoundTrip.{written-then-read, read-then-written}
 use Rattle.draw.specs.Draw as drawing
+use Rattle.draw.specs.Image.{mostPairs}
 use Rattle.draw.specs.Reach as reaching
 use Rattle.draw.specs.declared.DrawAnswer.{DrawAnswer}
 use Rattle.draw.specs.declared.ReachAnswer.{ReachAnswer}
@@ -24,12 +25,16 @@ use Rattle.draw.specs.declared.Verdict.{Verdict as Judged}
 use Rattle.draw.specs.declared.Verdict.the-variants as judged
 use Rattle.table.specs.Table as building
 use Rattle.table.proofs.Users as building-laws
-use Rattle.picture.specs.Picture.{built}
-use Rattle.picture.proofs.Tables.{built-table, draw-fine, reach-fine}
+use Rattle.draw.proofs.Refusals as refusals
+use Rattle.draw.proofs.Alike.{drawn-alike, reached-alike}
+use Rattle.draw.proofs.Keeps.{keeps-cells, keeps-lengths}
+use Rattle.picture.specs.Picture.{imagePairs}
+use Rattle.picture.proofs.Tables.{built-table}
+use Rattle.picture.proofs.Keeping.{kept-lists, draw-fine, reach-fine}
 use Rattle.picture.proofs.Pictures as pictures
 use Rattle.picture.proofs.Rooms.{same-segments}
-use Rattle.aktyrbuz.specs.Demands.{ReadsAsSplineRs, WritesTheList, WrittenIsRead, ReadIsWritten, BuildsAsSplineRs, BuildsTheTable, DrawsAsSplineRs, ReachesByTheRule, LogsByItsSteps, RefusedLeavesZero, RefusedDrawsNothing, BuiltIsDrawn, RowInParts, ImageInParts, UpdatesSum, RoomChangesNothing, OneOutcome}
-use Rattle.aktyrbuz.proofs.Calls.{read-equation, write-equation, build-equation, draw-equation, reach-equation, ln-equation, built-by, row-by, image-by}
+use Rattle.aktyrbuz.specs.Demands.{ReadsAsSplineRs, WritesTheList, WrittenIsRead, ReadIsWritten, BuildsAsSplineRs, BuildsTheTable, DrawsAsSplineRs, ReachesByTheRule, LogsByItsSteps, RefusedLeavesZero, RefusedDrawsNothing, DrawCodes, ReachCodes, BuiltIsDrawn, OnceAscending, OtherRowsDontMatter, RowInParts, ImageInParts, KeepsOtherCells, RowUpdates, ImageUpdates, UpdatesSum, RoomChangesNothing, OneOutcome}
+use Rattle.aktyrbuz.proofs.Calls.{read-equation, write-equation, build-equation, draw-equation, reach-equation, ln-equation, told-by, reach-told-by, built-by, row-by, image-by}
 
 -- ---- the same numbers
 
@@ -119,36 +124,87 @@ reached-fine : (t : drawing.Table) (y W : ℕ) (z : reaching.ReachOutcome) → z
 unfolding reaching.reachOf
 reached-fine t y W z e f = rw (e, f)
 
+pub draw-codes : DrawCodes
+draw-codes = record {
+  exactly = λ t y x0 n a o d c p.
+      let is = ap (λ (u : drawing.DrawOutcome). u .answer) (draw-equation t y x0 n a o d) in
+      let when = refusals.draw-refused-exactly t y x0 n a c p in
+      (λ e. when .0 (sym is ∙ e), λ l. is ∙ when .1 l);
+  told = λ t y x0 n a o d c p e.
+      let is = ap (λ (u : drawing.DrawOutcome). u .answer) (draw-equation t y x0 n a o d) in
+      let place : p ≡ 0 = refusals.draw-place t y x0 n a (refusals.draw-refused-exactly t y x0 n a c p .0 (sym is ∙ e)) in
+      ap (λ (u : drawing.DrawOutcome). u .told) (told-by t y x0 n a o d) ∙ ap drawing.toldOf (e ∙ ap (DrawAnswer.Refused c) place);
+}
+
+pub reach-codes : ReachCodes
+reach-codes = record {
+  exactly = λ t y W o d c p.
+      let is = ap (λ (u : reaching.ReachOutcome). u .answer) (reach-equation t y W o d) in
+      let when = refusals.reach-refused-exactly t y W c p in
+      (λ e. when .0 (sym is ∙ e), λ l. is ∙ when .1 l);
+  told = λ t y W o d c p e.
+      let is = ap (λ (u : reaching.ReachOutcome). u .answer) (reach-equation t y W o d) in
+      let place : p ≡ 0 = refusals.reach-place t y W (refusals.reach-refused-exactly t y W c p .0 (sym is ∙ e)) in
+      ap (λ (u : reaching.ReachOutcome). u .told) (reach-told-by t y W o d) ∙ ap reaching.toldOf (e ∙ ap (ReachAnswer.Refused c) place);
+}
+
 pub built-is-drawn : BuiltIsDrawn
 built-is-drawn = record {
-  draw = λ d i r o s e estimate b y x0 n a z k g c.
-      drawn-fine (built i o s e) y x0 n a z (draw-equation (built i o s e) y x0 n a z c) (draw-fine (built-by b) y k x0 n (length (a .r0)) (length (a .r1)) (length (a .r2)) g);
-  reach = λ d i r o s e estimate b y W z k w c.
-      reached-fine (built i o s e) y W z (reach-equation (built i o s e) y W z c) (reach-fine (built-by b) y k W w);
+  draw = λ d i segments t k y x0 n a o h f c.
+      drawn-fine t y x0 n a o (draw-equation t y x0 n a o c)
+      (draw-fine (built-by (k .done)) (k .kept) y (omega (arith, h, k .kept .height)) x0 n (length (a .r0)) (length (a .r1)) (length (a .r2)) f);
+  reach = λ d i segments t k y W o h w c.
+      reached-fine t y W o (reach-equation t y W o c) (reach-fine (built-by (k .done)) (k .kept) y (omega (arith, h, k .kept .height)) W w);
+}
+
+-- ---- tables
+
+pub once-ascending : OnceAscending
+once-ascending d i segments t k y h = kept-lists (built-by (k .done)) (k .kept) y (omega (arith, h, k .kept .height))
+
+pub other-rows-dont-matter : OtherRowsDontMatter
+other-rows-dont-matter = record {
+  draw = λ t u y k x0 n a o q c e. draw-equation t y x0 n a o c ∙ drawn-alike k x0 n a ∙ sym (draw-equation u y x0 n a q e);
+  reach = λ t u y k W o q c e. reach-equation t y W o c ∙ reached-alike k W ∙ sym (reach-equation u y W q e);
 }
 
 -- ---- pixels
 
 pub row-in-parts : RowInParts
-row-in-parts d i r o s e estimate b y W a w sum t =
-    pictures.row-in-parts (built-by b) W (t .narrow) y (t .in-image) (t .widths) (t .cut) (t .parts) (t .order) a w (t .wide) sum (row-by (t .drawn))
+row-in-parts d i segments t k y W a w sum z =
+    rw (k .are)
+    (pictures.row-in-parts (built-by (k .done)) (k .kept) W (z .narrow) y (z .in-image) (z .widths) (z .cut) (z .parts) (z .order) a w (z .wide) sum (row-by (z .drawn)))
 
 pub image-in-parts : ImageInParts
-image-in-parts d i r o s e estimate b W a w sum t =
-    pictures.image-in-parts (built-by b) W (t .narrow) (t .widths) (t .tall) (t .cut) (t .parts) (t .order) a w (t .wide) sum (image-by (t .drawn))
+image-in-parts d i segments t k W a w sum z y h =
+    rw (k .are)
+    (pictures.image-in-parts (built-by (k .done)) (k .kept) W (z .narrow) (z .widths) (z .tall) (z .cut) (z .parts) (z .order) a w (z .wide) sum (image-by (z .drawn)) y
+    (omega (arith, h, k .kept .height)))
 
-pub updates-sum : UpdatesSum
-updates-sum = record {
-  row = λ d i r o s e estimate b y W a w sum t.
-      let exact = pictures.row-updates (built-by b) W (t .narrow) y (t .in-image) (t .widths) (t .cut) (t .parts) (t .order) a w (t .wide) sum (row-by (t .drawn)) in
-      let most = pictures.row-updates-most (built-by b) W (t .narrow) y (t .in-image) (t .widths) (t .cut) (t .parts) (t .order) a w (t .wide) sum (row-by (t .drawn)) in
-      (exact, most);
-  image = λ d i r o s e estimate b W a w sum t.
-      pictures.image-updates (built-by b) W (t .narrow) (t .widths) (t .tall) (t .cut) (t .parts) (t .order) a w (t .wide) sum (image-by (t .drawn));
+pub keeps-other-cells : KeepsOtherCells
+keeps-other-cells = record {
+  cells = λ t y x0 n a o c. keeps-cells t y x0 n a o (draw-equation t y x0 n a o c);
+  lengths = λ t y x0 n a o c. keeps-lengths t y x0 n a o (draw-equation t y x0 n a o c);
 }
 
+row-updates : RowUpdates
+row-updates d i segments t k y W a w sum z =
+    let exact = pictures.row-updates (built-by (k .done)) (k .kept) W (z .narrow) y (z .in-image) (z .widths) (z .cut) (z .parts) (z .order) a w (z .wide) sum (row-by (z .drawn)) in
+    let most = pictures.row-updates-most (built-by (k .done)) (k .kept) W (z .narrow) y (z .in-image) (z .widths) (z .cut) (z .parts) (z .order) a w (z .wide) sum (row-by (z .drawn)) in
+    (rw (k .are) exact, most)
+
+image-updates : ImageUpdates
+image-updates d i segments t k W a w sum z =
+    let exact = pictures.image-updates (built-by (k .done)) (k .kept) W (z .narrow) (z .widths) (z .tall) (z .cut) (z .parts) (z .order) a w (z .wide) sum (image-by (z .drawn)) in
+    let most = pictures.image-updates-most (built-by (k .done)) (k .kept) W (z .narrow) (z .widths) (z .tall) (z .cut) (z .parts) (z .order) a w (z .wide) sum (image-by (z .drawn)) in
+    let same : sum ≡ imagePairs segments W 0 (t .height) = rw (k .are) exact in
+    (same ∙ ap (imagePairs segments W 0) (sym (k .kept .height)), subst (λ (n : ℕ). sum ≤ mostPairs t W 0 n) (sym (k .kept .height)) most)
+
+pub updates-sum : UpdatesSum
+updates-sum = record { row = row-updates; image = image-updates }
+
 pub room-changes-nothing : RoomChangesNothing
-room-changes-nothing d i r r′ o o′ s e n s′ e′ n′ a b = same-segments (built-by a) (built-by b)
+room-changes-nothing d i segments others t u a b = a .are ∙ same-segments (built-by (a .done)) (built-by (b .done)) ∙ sym (b .are)
 
 -- ---- an equation determines its outcome
 

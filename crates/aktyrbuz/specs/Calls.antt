@@ -20,7 +20,10 @@ use Rattle.table.specs.Table as building
 use Rattle.table.specs.declared.BuildAnswer.{BuildAnswer}
 use Rattle.table.proofs.build.Reads as build
 use Rattle.draw.specs.Draw.{Table, tableOf, Channels, three, DrawOutcome, leaves}
-use Rattle.draw.specs.Parts.{Part, cuts, total, lentOf, backOf, Wide}
+use Rattle.segments.specs.declared.Segment.{Segment}
+use Rattle.picture.specs.Picture.{built, segmentsOf}
+use Rattle.draw.specs.Alike.{Kept}
+use Rattle.draw.specs.Parts.{Part, cuts, total, cellsOf, placedIn, Wide}
 use Rattle.draw.specs.Image.{Job, job, jobs, Each, withRow}
 use Rattle.draw.specs.Image as drawing
 use Rattle.draw.specs.Reach.{ReachOutcome, tells}
@@ -82,17 +85,29 @@ pub record BuildDone (d : Description) (i : Setting) (r : building.BuildRooms) (
   pub called : BuildCall d i r o
   pub done : o .answer ≡ BuildAnswer.Done s e estimate
 
+-- a table that a build left, in the cells that it filled or wherever it is kept, whatever stands behind its counts; and the segments of the description that it holds
+pub record KeptTable (d : Description) (i : Setting) (segments : List Segment) (t : Table) : Type 0 where
+  pub rooms : building.BuildRooms
+  pub outcome : building.BuildOutcome
+  pub s : ℕ
+  pub e : ℕ
+  pub estimate : ℕ
+  pub done : BuildDone d i rooms outcome s e estimate
+  pub kept : Kept (built i outcome s e) t
+  pub are : segments ≡ segmentsOf d i rooms
+
 -- ---- runs of drawing
 
--- a part of row y drawn by one call, in lent cells that hold at least the part: from the channels a to b, with a count of updates
+-- a part of row y drawn by one call: from the row's channels a to b, with a count of updates. The row may be stored anywhere: three slices are lent that begin with the part's
+-- cells of the row, as `&mut plane[y * stride + x0..]` or a strip in a buffer of its own, of any lengths; and the row has the cells that come back
 pub record PartCall (t : Table) (y : ℕ) (p : Part) (a : Channels) (count : ℕ) (b : Channels) : Type 0 where
-  pub room : ℕ
+  pub lent : Channels
   pub outcome : DrawOutcome
-  pub holds : p .wide ≤ room
-  pub in-row : p .at + room ≤ length (a .r0)
-  pub called : DrawCall t y (p .at) (p .wide) (lentOf (p .at) room a) outcome
+  pub in-row : p .at + p .wide ≤ length (a .r0)
+  pub begins : cellsOf 0 (p .wide) lent ≡ cellsOf (p .at) (p .wide) a
+  pub called : DrawCall t y (p .at) (p .wide) lent outcome
   pub counted : count ≡ outcome .told .updates
-  pub comes-back : b ≡ backOf (p .at) room a (outcome .channels)
+  pub comes-back : b ≡ placedIn (p .at) (p .wide) a (cellsOf 0 (p .wide) (outcome .channels))
 
 -- one part after another, the updates summed
 pub data RowCalls (t : Table) (y : ℕ) : List Part → Channels → ℕ → Channels → Type 0 where

@@ -2,12 +2,14 @@
 -- of readings. Definitions only.
 use mathlib.Core.Path.{_≡_}
 use mathlib.Core.Bool.{true, false, _&&_}
+use mathlib.Core.Logic.{_↔_}
 use mathlib.Core.List.{List, _++_}
 use Prim.Native.Nat.{ℕ, _-_, _*_, _^_, _≤_, _<_}
 use lib.Dec.{leb}
 use lib.ListN.{length, take, replicate}
 use lib.IntN.{ℤ, pos, negsuc}
 use lib.Ieee.{Float, nan, fin, binary32, ofInt}
+use Rattle.codes.specs.Codes.{numberOf}
 use Rattle.codes.specs.declared.Code.{Code}
 use Rattle.numbers.specs.Whole.{roundOf}
 use Rattle.numbers.specs.Length.{lengthOf}
@@ -26,18 +28,23 @@ use Rattle.dequantize.specs.Limits.{splineAreaLimit}
 use Rattle.dequantize.specs.Coefficients.{invAdjustedQuant}
 use Rattle.dequantize.specs.Judge.{Description}
 use Rattle.segments.specs.declared.Segment.{Segment}
+use Rattle.segments.specs.Segment.{segmentAt}
 use Rattle.segments.specs.Ranges.{at, rounded, hasRow, hasColumn}
 use Rattle.segments.specs.Readings.{spot}
 use Rattle.table.specs.Table.{Setting, buildOf, zeros}
 use Rattle.table.specs.Table as building
 use Rattle.table.specs.declared.BuildAnswer.{BuildAnswer}
-use Rattle.picture.specs.Picture.{built, BuiltTable, segmentsOf, rowPairs, imagePairs, RowPicture}
-use Rattle.draw.specs.Draw.{Table, rowOf, spanGood, Channels, DrawOutcome, drawOf}
+use Rattle.picture.specs.Picture.{BuiltTable, Lists, rowPairs, imagePairs, RowPicture}
+use Rattle.draw.specs.Draw.{Table, rowOf, Channels, DrawOutcome, drawOf}
+use Rattle.draw.specs.Refusals.{SpanFits, DrawRefusal, ReachRefusal}
+use Rattle.draw.specs.Alike.{AlikeIn}
+use Rattle.draw.specs.Keeps.{Updates, SameCell, SameLengths}
+use Rattle.draw.specs.Image.{mostPairs}
 use Rattle.draw.specs.Image as drawing
 use Rattle.draw.specs.declared.DrawAnswer.{DrawAnswer}
 use Rattle.draw.specs.declared.ReachAnswer.{ReachAnswer}
 use Rattle.draw.specs.Reach.{ReachOutcome, reachOf}
-use Rattle.aktyrbuz.specs.Calls.{ReadCall, WriteCall, BuildCall, DrawCall, ReachCall, LnCall, BuildDone, RowRun, ImageRun}
+use Rattle.aktyrbuz.specs.Calls.{ReadCall, WriteCall, BuildCall, DrawCall, ReachCall, LnCall, BuildDone, KeptTable, RowRun, ImageRun}
 
 -- ---- the same numbers as spline.rs
 
@@ -120,40 +127,80 @@ abbrev pub RefusedDrawsNothing : Type 0
 RefusedDrawsNothing =
     (t : Table) (y x0 n : ℕ) (a : Channels) (o : DrawOutcome) (c : Code) (p : ℕ) → DrawCall t y x0 n a o → o .answer ≡ DrawAnswer.Refused c p → o .channels ≡ a
 
--- a built table is not refused: a part of any of its rows that lies within 2^23 columns and in the channels is drawn, and every row has its reach
+-- a code of drawing is given exactly when its table of codes says, at place 0 and with no update counted
+pub record DrawCodes : Type 0 where
+  pub exactly : (t : Table) (y x0 n : ℕ) (a : Channels) (o : DrawOutcome) → DrawCall t y x0 n a o → (c : Code) (p : ℕ)
+      → (o .answer ≡ DrawAnswer.Refused c p) ↔ DrawRefusal t y x0 n (length (a .r0)) (length (a .r1)) (length (a .r2)) c p
+  pub told : (t : Table) (y x0 n : ℕ) (a : Channels) (o : DrawOutcome) → DrawCall t y x0 n a o → (c : Code) (p : ℕ)
+      → o .answer ≡ DrawAnswer.Refused c p → o .told ≡ record { number = numberOf c; place = 0; updates = 0 }
+
+-- and a code of reach, with both columns 0
+pub record ReachCodes : Type 0 where
+  pub exactly : (t : Table) (y W : ℕ) (o : ReachOutcome) → ReachCall t y W o → (c : Code) (p : ℕ) → (o .answer ≡ ReachAnswer.Refused c p) ↔ ReachRefusal t y W c p
+  pub told : (t : Table) (y W : ℕ) (o : ReachOutcome) → ReachCall t y W o → (c : Code) (p : ℕ)
+      → o .answer ≡ ReachAnswer.Refused c p → o .told ≡ record { number = numberOf c; place = 0; first = 0; past = 0 }
+
+-- a kept table is not refused: a part of any of its rows that lies within 2^23 columns and in the channels is drawn, and every row has its reach
 pub record BuiltIsDrawn : Type 0 where
-  pub draw : (d : Description) (i : Setting) (r : building.BuildRooms) (o : building.BuildOutcome) (s e estimate : ℕ) → BuildDone d i r o s e estimate
-      → (y x0 n : ℕ) (a : Channels) (z : DrawOutcome) → y < i .height → spanGood x0 n (length (a .r0)) (length (a .r1)) (length (a .r2)) ≡ true
-      → DrawCall (built i o s e) y x0 n a z → z .answer ≡ DrawAnswer.Done (z .told .updates)
-  pub reach : (d : Description) (i : Setting) (r : building.BuildRooms) (o : building.BuildOutcome) (s e estimate : ℕ) → BuildDone d i r o s e estimate
-      → (y W : ℕ) (z : ReachOutcome) → y < i .height → W ≤ 2 ^ 23 → ReachCall (built i o s e) y W z → z .answer ≡ ReachAnswer.Done (z .told .first) (z .told .past)
+  pub draw : (d : Description) (i : Setting) (segments : List Segment) (t : Table) → KeptTable d i segments t
+      → (y x0 n : ℕ) (a : Channels) (o : DrawOutcome) → y < i .height → SpanFits x0 n (length (a .r0)) (length (a .r1)) (length (a .r2))
+      → DrawCall t y x0 n a o → o .answer ≡ DrawAnswer.Done (o .told .updates)
+  pub reach : (d : Description) (i : Setting) (segments : List Segment) (t : Table) → KeptTable d i segments t
+      → (y W : ℕ) (o : ReachOutcome) → y < i .height → W ≤ 2 ^ 23 → ReachCall t y W o → o .answer ≡ ReachAnswer.Done (o .told .first) (o .told .past)
+
+-- ---- tables
+
+-- a row of a kept table lists the segments that have it and no other, once each, ascending
+abbrev pub OnceAscending : Type 0
+OnceAscending =
+    (d : Description) (i : Setting) (segments : List Segment) (t : Table) → KeptTable d i segments t → (y : ℕ) → y < i .height
+    → Lists (λ k. hasRow (segmentAt (t .segments) k) y) (t .segmentCount) (rowOf t y)
+
+-- other rows are not looked at: two tables that are alike in row y have one outcome of drawing it, and one reach
+pub record OtherRowsDontMatter : Type 0 where
+  pub draw : (t u : Table) (y : ℕ) → AlikeIn y t u → (x0 n : ℕ) (a : Channels) (o q : DrawOutcome) → DrawCall t y x0 n a o → DrawCall u y x0 n a q → o ≡ q
+  pub reach : (t u : Table) (y : ℕ) → AlikeIn y t u → (W : ℕ) (o q : ReachOutcome) → ReachCall t y W o → ReachCall u y W q → o ≡ q
 
 -- ---- pixels
 
--- after all parts of a row of a built table, in any order, each pixel is its starting value with exactly the segments added, ascending, whose rows and columns have it
+-- after all parts of a row of a kept table, in any order, each pixel is its starting value with exactly the segments added, ascending, whose rows and columns have it
 abbrev pub RowInParts : Type 0
 RowInParts =
-    (d : Description) (i : Setting) (r : building.BuildRooms) (o : building.BuildOutcome) (s e estimate : ℕ) → BuildDone d i r o s e estimate
-    → (y W : ℕ) (a w : Channels) (sum : ℕ) → RowRun (built i o s e) y W a w sum → RowPicture (segmentsOf d i r) y a w
+    (d : Description) (i : Setting) (segments : List Segment) (t : Table) → KeptTable d i segments t
+    → (y W : ℕ) (a w : Channels) (sum : ℕ) → RowRun t y W a w sum → RowPicture segments y a w
 
 -- the same of every row of an image
 abbrev pub ImageInParts : Type 0
 ImageInParts =
-    (d : Description) (i : Setting) (r : building.BuildRooms) (o : building.BuildOutcome) (s e estimate : ℕ) → BuildDone d i r o s e estimate
-    → (W : ℕ) (a w : drawing.Image) (sum : ℕ) → ImageRun (built i o s e) W a w sum → (y : ℕ) → y < i .height → RowPicture (segmentsOf d i r) y (a y) (w y)
+    (d : Description) (i : Setting) (segments : List Segment) (t : Table) → KeptTable d i segments t
+    → (W : ℕ) (a w : drawing.Image) (sum : ℕ) → ImageRun t W a w sum → (y : ℕ) → y < i .height → RowPicture segments y (a y) (w y)
 
--- the updates sum to the pairs of a segment and a pixel that it has: in a row, where they are at most the width times the entries, and in an image
+-- a call keeps every lent cell that it does not update, those behind the part too, and the lengths
+pub record KeepsOtherCells : Type 0 where
+  pub cells : (t : Table) (y x0 n : ℕ) (a : Channels) (o : DrawOutcome) → DrawCall t y x0 n a o → (k : ℕ) → (Updates t y x0 n k → ⊥) → SameCell k a (o .channels)
+  pub lengths : (t : Table) (y x0 n : ℕ) (a : Channels) (o : DrawOutcome) → DrawCall t y x0 n a o → SameLengths a (o .channels)
+
+-- the updates of a row sum to the pairs of a segment and a pixel that it has, at most the width times the row's entries
+abbrev pub RowUpdates : Type 0
+RowUpdates =
+    (d : Description) (i : Setting) (segments : List Segment) (t : Table) → KeptTable d i segments t
+    → (y W : ℕ) (a w : Channels) (sum : ℕ) → RowRun t y W a w sum → (sum ≡ rowPairs segments W y) × (sum ≤ W * length (rowOf t y))
+
+-- those of an image to the pairs of all its rows, at most the sum over the rows of the width times the row's entries
+abbrev pub ImageUpdates : Type 0
+ImageUpdates =
+    (d : Description) (i : Setting) (segments : List Segment) (t : Table) → KeptTable d i segments t
+    → (W : ℕ) (a w : drawing.Image) (sum : ℕ) → ImageRun t W a w sum → (sum ≡ imagePairs segments W 0 (i .height)) × (sum ≤ mostPairs t W 0 (i .height))
+
+-- both
 pub record UpdatesSum : Type 0 where
-  pub row : (d : Description) (i : Setting) (r : building.BuildRooms) (o : building.BuildOutcome) (s e estimate : ℕ) → BuildDone d i r o s e estimate
-      → (y W : ℕ) (a w : Channels) (sum : ℕ) → RowRun (built i o s e) y W a w sum → (sum ≡ rowPairs (segmentsOf d i r) W y) × (sum ≤ W * length (rowOf (built i o s e) y))
-  pub image : (d : Description) (i : Setting) (r : building.BuildRooms) (o : building.BuildOutcome) (s e estimate : ℕ) → BuildDone d i r o s e estimate
-      → (W : ℕ) (a w : drawing.Image) (sum : ℕ) → ImageRun (built i o s e) W a w sum → sum ≡ imagePairs (segmentsOf d i r) W 0 (i .height)
+  pub row : RowUpdates
+  pub image : ImageUpdates
 
--- those segments do not depend on how much room was lent
+-- one description for one image has one list of segments, however much room was lent and wherever the table is kept
 abbrev pub RoomChangesNothing : Type 0
 RoomChangesNothing =
-    (d : Description) (i : Setting) (r r′ : building.BuildRooms) (o o′ : building.BuildOutcome) (s e n s′ e′ n′ : ℕ) → BuildDone d i r o s e n → BuildDone d i r′ o′ s′ e′ n′
-    → segmentsOf d i r ≡ segmentsOf d i r′
+    (d : Description) (i : Setting) (segments others : List Segment) (t u : Table) → KeptTable d i segments t → KeptTable d i others u → segments ≡ others
 
 -- ---- any two outcomes that a contract allows are equal
 

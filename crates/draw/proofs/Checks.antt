@@ -9,20 +9,13 @@ use lib.Ieee.{Float}
 use borrow.Author.Tests.{ltb-true, leb-true}
 use Rattle.codes.specs.declared.Code.{Code}
 use Rattle.draw.specs.Draw.{Table, rowOf, updates, allBelow, countsGood, spanGood, entriesGood, rowGood, orFault, judgeOf, Channels, three, leaves, drawnChannel, outcome, drawOf}
+use Rattle.draw.specs.Refusals.{CountsFit, SpanFits}
 use Rattle.draw.specs.declared.Verdict.{Verdict}
 use Rattle.draw.specs.declared.Verdict.the-variants.{Fine, Fault}
 use Rattle.draw.specs.declared.DrawAnswer.the-variants.{Done, Refused}
 use Rattle.draw.proofs.Entries.{and-left, and-right}
 
-pub record CountFacts (t : Table) : Type 0 where
-  pub few-segments : t .segmentCount ≤ 2 ^ 24
-  pub segments-fit : 8 * t .segmentCount ≤ length (t .segments)
-  pub few-entries : t .entryCount ≤ 2 ^ 30
-  pub entries-fit : t .entryCount ≤ length (t .entries)
-  pub low : t .height ≤ 2 ^ 23
-  pub starts-fit : t .height + 1 ≤ length (t .rowStarts)
-
-pub counts-facts : (t : Table) → countsGood t ≡ true → CountFacts t
+pub counts-facts : (t : Table) → countsGood t ≡ true → CountsFit t
 unfolding countsGood
 counts-facts t h =
     record {
@@ -34,13 +27,7 @@ counts-facts t h =
       starts-fit = leb-true _ _ (search (and-left, and-right, h));
     }
 
-pub record SpanFacts (x0 n l0 l1 l2 : ℕ) : Type 0 where
-  pub inside-image : x0 + n ≤ 2 ^ 23
-  pub fits0 : n ≤ l0
-  pub fits1 : n ≤ l1
-  pub fits2 : n ≤ l2
-
-pub span-facts : (x0 n l0 l1 l2 : ℕ) → spanGood x0 n l0 l1 l2 ≡ true → SpanFacts x0 n l0 l1 l2
+pub span-facts : (x0 n l0 l1 l2 : ℕ) → spanGood x0 n l0 l1 l2 ≡ true → SpanFits x0 n l0 l1 l2
 unfolding spanGood
 span-facts x0 n l0 l1 l2 h =
     record {
@@ -75,9 +62,9 @@ passed-check false k v e = absurd (subst is-fault e tt)
 
 -- every check of `draw` passed
 pub record Passed (t : Table) (y x0 n l0 l1 l2 : ℕ) : Type 0 where
-  pub counts : CountFacts t
+  pub counts : CountsFit t
   pub in-image : y < t .height
-  pub span : SpanFacts x0 n l0 l1 l2
+  pub span : SpanFits x0 n l0 l1 l2
   pub row : RowFacts t y
 
 pub judged-fine : (t : Table) (y x0 n l0 l1 l2 : ℕ) → judgeOf t y x0 n l0 l1 l2 ≡ Fine → Passed t y x0 n l0 l1 l2

@@ -3,8 +3,8 @@ use mathlib.Core.Path.{_≡_, refl, sym, ap, _∙_}
 use mathlib.Core.Bool.{Bool, true, false, cond, _&&_}
 use mathlib.Core.Logic.{_⊎_, inl, inr, ⊎-elim}
 use mathlib.Core.List.{List, [], _∷_, _++_, map, List·Permᴰ}
-use Prim.Native.Nat.{ℕ, suc, _+_, _^_, _<_, _≤_}
-use native.Mathlib.Nat.{zero-add, add-suc, suc-add}
+use Prim.Native.Nat.{ℕ, zero, suc, _+_, _*_, _^_, _<_, _≤_}
+use native.Mathlib.Nat.{zero-add, add-suc, suc-add, mul-comm, add-le-add}
 use native.Mathlib.Omega.{arith}
 use lib.ListN.{length}
 use lib.Dec.{ltb, eqb}
@@ -14,7 +14,8 @@ use Rattle.shade.specs.Edit.{edit, inside}
 use Rattle.shade.proofs.Edits.{lt-or-ge, length-edit, is-edit, edit-cong, edit-edit}
 use Rattle.draw.specs.Draw.{pixel, updates, Table, rowOf, countsGood, rowGood, Channels}
 use Rattle.draw.specs.Parts.{Part, cuts, total, Wide}
-use Rattle.draw.specs.Image.{Job, job, jobs, Each, Image, withRow, DrawnAll, none, more, pairs, WholeImage}
+use Rattle.draw.specs.Image.{Job, job, jobs, Each, Image, withRow, DrawnAll, none, more, pairs, mostPairs, WholeImage}
+use Rattle.draw.proofs.Entries.{updates-le}
 use Rattle.draw.proofs.Parts.{sumBy, sum-perm, through, through-one, hasIn, held-cuts, updates-cuts, partly, came}
 
 module _ {A : Type 0} where
@@ -88,6 +89,15 @@ work-jobs t W y₀ [] e = refl
 work-jobs t W y₀ (ws ∷ wss) e =
     sum-append (work t) (map (job y₀) (cuts 0 ws)) (jobs (suc y₀) wss)
     ∙ omega (arith, sum-map (work t) (job y₀) (cuts 0 ws), updates-cuts (t .segments) (rowOf t y₀) 0 ws, ap (λ (n : ℕ). updates (t .segments) 0 n (rowOf t y₀)) (e .0), work-jobs t W (suc y₀) wss (e .1))
+
+-- ---- at most W updates of each entry
+
+pub updates-most : (segs : List Float) (x n : ℕ) (es : List ℕ) → updates segs x n es ≤ n * length es
+updates-most segs x n es = rw (mul-comm n (length es)) (updates-le segs x n es)
+
+pub pairs-most : (t : Table) (W y n : ℕ) → pairs t W y n ≤ mostPairs t W y n
+pairs-most t W y zero = omega arith
+pairs-most t W y (suc n) = add-le-add (updates-most (t .segments) 0 W (rowOf t y)) (pairs-most t W (suc y) n)
 
 -- ---- one call
 

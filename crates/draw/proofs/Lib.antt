@@ -3,5 +3,8 @@ pub mod Columns
 pub mod Entries
 pub mod Checks
 pub mod Reaches
+pub mod Refusals
+pub mod Alike
+pub mod Keeps
 pub mod Parts
 pub mod Image

@@ -3,18 +3,19 @@ use mathlib.Core.Path.{_≡_, refl, sym, ap, _∙_}
 use mathlib.Core.Bool.{Bool, true, false, cond}
 use mathlib.Core.Logic.{⊎-elim}
 use mathlib.Core.List.{List, [], _∷_, List·Permᴰ, List·Permᴰ·nil, List·Permᴰ·cons, List·Permᴰ·swap, List·Permᴰ·trans}
-use Prim.Native.Nat.{ℕ, zero, suc, _+_, _^_, _<_, _≤_}
+use Prim.Native.Nat.{ℕ, zero, suc, _+_, _^_, _<_, _≤_, min}
 use native.Mathlib.Nat.{add-assoc, add-zero, zero-add, add-suc}
 use native.Mathlib.Omega.{arith}
-use lib.ListN.{length, length-take, length-drop}
-use lib.Ieee.{Float}
+use lib.ListN.{length, take, drop, length-take, length-drop}
+use lib.Seq.{getD-take}
+use lib.Ieee.{Float, nan}
 use borrow.Author.Tests.{lt-ltb, le-ltb, le-leb, lt-leb}
 use Rattle.segments.specs.Segment.{segmentAt}
 use Rattle.segments.specs.Ranges.{hasColumn}
-use Rattle.shade.specs.Edit.{edit, inside}
-use Rattle.shade.proofs.Edits.{lt-or-ge, length-edit, is-edit, edit-cong, edit-edit, edit-part-of}
+use Rattle.shade.specs.Edit.{edit, firstCells, inside}
+use Rattle.shade.proofs.Edits.{lt-or-ge, length-edit, getD-edit, is-edit, edit-cong, edit-edit, edit-part}
 use Rattle.draw.specs.Draw.{pixel, count, updates, Table, rowOf, countsGood, spanGood, rowGood, judgeOf, Channels, DrawOutcome, leaves, drawnChannel, outcome, drawOf}
-use Rattle.draw.specs.Parts.{Part, cuts, total, lent, back, lentOf, Wide, Draws, Drawn, none, more, Whole}
+use Rattle.draw.specs.Parts.{Part, cuts, total, cells, placed, cellsOf, Wide, Draws, Drawn, none, more, Whole}
 use Rattle.draw.specs.declared.DrawAnswer.{DrawAnswer}
 use Rattle.draw.specs.declared.Verdict.{Verdict}
 use Rattle.draw.specs.declared.Verdict.the-variants.{Fine}
@@ -102,6 +103,15 @@ updates-cuts segs es x (w ∷ ws) = omega (arith, updates-cuts segs es (x + w) w
 
 -- ---- one call
 
+-- the first cells of a list that is edited there
+take-edit : (f : ℕ → Float → Float) (n : ℕ) (xs : List Float) → take n (edit (firstCells n f) xs) ≡ edit f (take n xs)
+take-edit f n xs =
+    is-edit f (take n xs) (take n (edit (firstCells n f) xs)) (length-take n (edit (firstCells n f) xs) ∙ ap (min n) (length-edit (firstCells n f) xs) ∙ sym (length-take n xs))
+    (λ i k.
+    let l : i < n = omega (arith, k, length-take n xs) in
+    let m : i < length xs = omega (arith, k, length-take n xs) in
+    getD-take n (edit (firstCells n f) xs) i nan l ∙ getD-edit (firstCells n f) xs i m ∙ rw (lt-ltb i n l) (ap (f i) (sym (getD-take n xs i nan l))))
+
 -- a part that came back drawn, by colour: its own columns are drawn, and all others as they were
 abbrev pub partly : ℕ → Table → ℕ → Part → List Float → List Float
 partly c t y p xs = edit (λ k v. cond (hasIn p k) (pixel c (t .segments) y k (rowOf t y) v) v) xs
@@ -113,30 +123,43 @@ pub record Came (t : Table) (y : ℕ) (p : Part) (a : Channels) (count : ℕ) (b
   pub work : count ≡ updates (t .segments) (p .at) (p .wide) (rowOf t y)
 
 module _ (t : Table) (y W : ℕ) (g : countsGood t ≡ true) (hy : y < t .height) (r : rowGood t y ≡ true) (hW : W ≤ 2 ^ 23) where
-  -- a part inside the image is drawn
-  judged : (p : Part) (m : ℕ) (a : Channels) → p .wide ≤ m → p .at + m ≤ W → Wide W a → judgeOf t y (p .at) (p .wide) (length (lent (p .at) m (a .r0))) (length (lent (p .at) m (a .r1))) (length (lent (p .at) m (a .r2))) ≡ Fine
+  -- a part inside the image is drawn, for each slice is as long as the part
+  judged : (p : Part) (a l : Channels) → p .at + p .wide ≤ W → Wide W a → cellsOf 0 (p .wide) l ≡ cellsOf (p .at) (p .wide) a → judgeOf t y (p .at) (p .wide) (length (l .r0)) (length (l .r1)) (length (l .r2)) ≡ Fine
   unfolding judgeOf spanGood
-  judged p m a l h e =
-      rw (g, lt-ltb y (t .height) hy, le-leb (p .at + p .wide) (2 ^ 23) (omega arith), le-leb (p .wide) (length (lent (p .at) m (a .r0))) (long (a .r0) (e .w0)), le-leb (p .wide) (length (lent (p .at) m (a .r1))) (long (a .r1) (e .w1)), le-leb (p .wide) (length (lent (p .at) m (a .r2))) (long (a .r2) (e .w2)), r)
+  judged p a l h e b =
+      rw (
+        g,
+        lt-ltb y (t .height) hy,
+        le-leb (p .at + p .wide) (2 ^ 23) (omega arith),
+        le-leb (p .wide) (length (l .r0)) (long (l .r0) (a .r0) (e .w0) (ap (λ (c : Channels). c .r0) b)),
+        le-leb (p .wide) (length (l .r1)) (long (l .r1) (a .r1) (e .w1) (ap (λ (c : Channels). c .r1) b)),
+        le-leb (p .wide) (length (l .r2)) (long (l .r2) (a .r2) (e .w2) (ap (λ (c : Channels). c .r2) b)),
+        r,
+      )
     where
-      long : (xs : List Float) → length xs ≡ W → p .wide ≤ length (lent (p .at) m xs)
-      long xs q = simp (length-take, length-drop) (omega arith)
+      long : (ls xs : List Float) → length xs ≡ W → cells 0 (p .wide) ls ≡ cells (p .at) (p .wide) xs → p .wide ≤ length ls
+      long ls xs w q =
+          let m : length (cells 0 (p .wide) ls) ≡ length (cells (p .at) (p .wide) xs) = ap length q in
+          omega (arith, m, length-take (p .wide) ls, length-take (p .wide) (drop (p .at) xs), length-drop (p .at) xs, w, h)
 
   pub came : {p : Part} {a b : Channels} {count : ℕ} → Wide W a → Draws t y p a count b → Came t y p a count b
   unfolding drawOf
   came {p} {a} {b} {count} e d =
-      let m = d .room in
-      let h : p .at + m ≤ W = omega (arith, d .in-row, e .w0) in
-      let o : leaves (d .answer) (d .left) ≡ outcome Fine t y (p .at) (p .wide) (lentOf (p .at) m a) = d .outcome ∙ ap (λ (v : Verdict). outcome v t y (p .at) (p .wide) (lentOf (p .at) m a)) (judged p m a (d .holds) h e) in
+      let h : p .at + p .wide ≤ W = omega (arith, d .in-row, e .w0) in
+      let o : leaves (d .answer) (d .left) ≡ outcome Fine t y (p .at) (p .wide) (d .lent) = d .outcome ∙ ap (λ (v : Verdict). outcome v t y (p .at) (p .wide) (d .lent)) (judged p a (d .lent) h e (d .begins)) in
       record {
-        b0 = ap (λ (c : Channels). c .r0) (d .comes-back) ∙ step 0 (a .r0) (d .left .r0) (e .w0) (ap (λ (q : DrawOutcome). q .channels .r0) o);
-        b1 = ap (λ (c : Channels). c .r1) (d .comes-back) ∙ step 1 (a .r1) (d .left .r1) (e .w1) (ap (λ (q : DrawOutcome). q .channels .r1) o);
-        b2 = ap (λ (c : Channels). c .r2) (d .comes-back) ∙ step 2 (a .r2) (d .left .r2) (e .w2) (ap (λ (q : DrawOutcome). q .channels .r2) o);
+        b0 = ap (λ (c : Channels). c .r0) (d .comes-back) ∙ step 0 (a .r0) (d .lent .r0) (d .left .r0) (e .w0) (ap (λ (c : Channels). c .r0) (d .begins)) (ap (λ (q : DrawOutcome). q .channels .r0) o);
+        b1 = ap (λ (c : Channels). c .r1) (d .comes-back) ∙ step 1 (a .r1) (d .lent .r1) (d .left .r1) (e .w1) (ap (λ (c : Channels). c .r1) (d .begins)) (ap (λ (q : DrawOutcome). q .channels .r1) o);
+        b2 = ap (λ (c : Channels). c .r2) (d .comes-back) ∙ step 2 (a .r2) (d .lent .r2) (d .left .r2) (e .w2) (ap (λ (c : Channels). c .r2) (d .begins)) (ap (λ (q : DrawOutcome). q .channels .r2) o);
         work = d .counted ∙ ap (λ (q : DrawOutcome). q .told .updates) o;
       }
     where
-      step : (c : ℕ) (xs zs : List Float) → length xs ≡ W → zs ≡ drawnChannel c t y (p .at) (p .wide) (lent (p .at) (d .room) xs) → back (p .at) (d .room) xs zs ≡ partly c t y p xs
-      step c xs zs w q = ap (back (p .at) (d .room) xs) q ∙ edit-part-of (λ k v. pixel c (t .segments) y k (rowOf t y) v) xs (p .at) (p .wide) (d .room) (d .holds) (omega (arith, d .in-row, e .w0))
+      step : (c : ℕ) (xs ls zs : List Float) → length xs ≡ W → cells 0 (p .wide) ls ≡ cells (p .at) (p .wide) xs → zs ≡ drawnChannel c t y (p .at) (p .wide) ls
+          → placed (p .at) (p .wide) xs (cells 0 (p .wide) zs) ≡ partly c t y p xs
+      step c xs ls zs w q z =
+          let f : ℕ → Float → Float = λ k v. pixel c (t .segments) y k (rowOf t y) v in
+          ap (placed (p .at) (p .wide) xs) (ap (cells 0 (p .wide)) z ∙ take-edit (λ k v. f (p .at + k) v) (p .wide) ls ∙ ap (edit (λ k v. f (p .at + k) v)) q)
+          ∙ edit-part f xs (p .at) (p .wide) (omega (arith, d .in-row, e .w0, w))
 
 pub still-wide : {W : ℕ} {t : Table} {y : ℕ} {p : Part} {a b : Channels} {count : ℕ} → Wide W a → Came t y p a count b → Wide W b
 still-wide e k = record { w0 = ap length (k .b0) ∙ length-edit _ _ ∙ e .w0; w1 = ap length (k .b1) ∙ length-edit _ _ ∙ e .w1; w2 = ap length (k .b2) ∙ length-edit _ _ ∙ e .w2 }

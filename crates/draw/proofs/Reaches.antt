@@ -27,7 +27,8 @@ use Rattle.draw.specs.declared.Verdict.{Verdict}
 use Rattle.draw.specs.declared.Verdict.the-variants.{Fine, Fault}
 use Rattle.draw.specs.declared.ReachAnswer.{ReachAnswer}
 use Rattle.draw.specs.declared.ReachAnswer.the-variants.{Done, Refused}
-use Rattle.draw.proofs.Checks.{CountFacts, counts-facts, RowFacts, row-facts, passed-check}
+use Rattle.draw.specs.Refusals.{CountsFit}
+use Rattle.draw.proofs.Checks.{counts-facts, RowFacts, row-facts, passed-check}
 use Rattle.draw.proofs.Entries.{slice-next, slice-none}
 
 -- a number that is not above 0 lies below 2 ^ 63
@@ -156,7 +157,7 @@ reach-end segs W j e l r all h k p = ap (reachOver segs W r) (sym (slice-none j 
 -- every check of `reach` passed
 pub record PassedReach (t : Table) (y W : ℕ) : Type 0 where
   pub narrow : W ≤ 2 ^ 23
-  pub counts : CountFacts t
+  pub counts : CountsFit t
   pub in-image : y < t .height
   pub row : RowFacts t y
 

@@ -102,10 +102,13 @@ abbrev pub orFault : Bool → Code → Verdict → Verdict
 orFault true c after = after
 orFault false c after = Fault c
 
+-- the checks of a row, in their order: the counts, the row, whether the span is good, and the row's entries
+abbrev pub judgeRow : Table → ℕ → Bool → Verdict
+judgeRow t y spanned =
+    orFault (countsGood t) Code.Table (orFault (ltb y (t .height)) Code.Row (orFault spanned Code.Span (orFault (rowGood t y) Code.Table Fine)))
+
 unfoldable pub judgeOf : Table → ℕ → ℕ → ℕ → ℕ → ℕ → ℕ → Verdict
-judgeOf t y x0 n l0 l1 l2 =
-    orFault (countsGood t) Code.Table
-    (orFault (ltb y (t .height)) Code.Row (orFault (spanGood x0 n l0 l1 l2) Code.Span (orFault (rowGood t y) Code.Table Fine)))
+judgeOf t y x0 n l0 l1 l2 = judgeRow t y (spanGood x0 n l0 l1 l2)
 
 -- ---- the call
 

@@ -2,8 +2,9 @@
 use mathlib.Core.Path.{_≡_}
 use mathlib.Core.Bool.{cond}
 use mathlib.Core.List.{List, [], _∷_, _++_, map}
-use Prim.Native.Nat.{ℕ, zero, suc, _+_, _<_}
+use Prim.Native.Nat.{ℕ, zero, suc, _+_, _*_, _<_}
 use lib.Dec.{eqb}
+use lib.ListN.{length}
 use Rattle.draw.specs.Draw.{Table, Channels, rowOf, updates}
 use Rattle.draw.specs.Parts.{Part, cuts, total, Draws, Whole}
 
@@ -41,6 +42,11 @@ pub data DrawnAll (t : Table) : List Job → Image → ℕ → Image → Type 0 
 abbrev pub pairs : Table → ℕ → ℕ → ℕ → ℕ
 pairs t W y zero = 0
 pairs t W y (suc n) = updates (t .segments) 0 W (rowOf t y) + pairs t W (suc y) n
+
+-- W columns of each entry, over n rows from y on
+abbrev pub mostPairs : Table → ℕ → ℕ → ℕ → ℕ
+mostPairs t W y zero = 0
+mostPairs t W y (suc n) = W * length (rowOf t y) + mostPairs t W (suc y) n
 
 -- the image drawn whole
 pub record WholeImage (t : Table) (W H : ℕ) (a : Image) (sum : ℕ) (w : Image) : Type 0 where

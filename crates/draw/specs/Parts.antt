@@ -5,7 +5,7 @@ use Prim.Native.Nat.{ℕ, _+_, _≤_}
 use lib.ListN.{length, take, drop}
 use lib.Ieee.{Float}
 use Rattle.shade.specs.Edit.{edit}
-use Rattle.draw.specs.Draw.{pixel, updates, Table, rowOf, toldOf, Channels, leaves, drawOf}
+use Rattle.draw.specs.Draw.{pixel, updates, Table, rowOf, toldOf, Channels, three, leaves, drawOf}
 use Rattle.draw.specs.declared.DrawAnswer.{DrawAnswer}
 
 -- a part of a row: its first column and how many columns it has
@@ -23,19 +23,19 @@ abbrev pub total : List ℕ → ℕ
 total [] = 0
 total (w ∷ ws) = w + total ws
 
--- m cells from column x on, lent as `&mut channel[x..x + m]`, and the channel once they have come back
-abbrev pub lent : ℕ → ℕ → List Float → List Float
-lent x m xs = take m (drop x xs)
+-- n cells of a channel from column x on, and the channel with others in their place
+abbrev pub cells : ℕ → ℕ → List Float → List Float
+cells x n xs = take n (drop x xs)
 
-abbrev pub back : ℕ → ℕ → List Float → List Float → List Float
-back x m xs zs = take x xs ++ (zs ++ drop m (drop x xs))
+abbrev pub placed : ℕ → ℕ → List Float → List Float → List Float
+placed x n xs zs = take x xs ++ (zs ++ drop n (drop x xs))
 
 -- the same of three channels
-abbrev pub lentOf : ℕ → ℕ → Channels → Channels
-lentOf x m a = record { r0 = lent x m (a .r0); r1 = lent x m (a .r1); r2 = lent x m (a .r2) }
+abbrev pub cellsOf : ℕ → ℕ → Channels → Channels
+cellsOf x n a = three (cells x n (a .r0)) (cells x n (a .r1)) (cells x n (a .r2))
 
-abbrev pub backOf : ℕ → ℕ → Channels → Channels → Channels
-backOf x m a z = record { r0 = back x m (a .r0) (z .r0); r1 = back x m (a .r1) (z .r1); r2 = back x m (a .r2) (z .r2) }
+abbrev pub placedIn : ℕ → ℕ → Channels → Channels → Channels
+placedIn x n a z = three (placed x n (a .r0) (z .r0)) (placed x n (a .r1) (z .r1)) (placed x n (a .r2) (z .r2))
 
 -- every channel has so many cells
 pub record Wide (W : ℕ) (a : Channels) : Type 0 where
@@ -43,16 +43,17 @@ pub record Wide (W : ℕ) (a : Channels) : Type 0 where
   pub w1 : length (a .r1) ≡ W
   pub w2 : length (a .r2) ≡ W
 
--- a part of row y drawn by an outcome that the contract allows, in m lent cells that hold at least the part: from the channels a to b, with a count of updates
+-- a part of row y drawn by an outcome that the contract allows: from the row's channels a to b, with a count of updates. The row may be stored anywhere: three slices are lent that
+-- begin with the part's cells of the row, as `&mut plane[y * stride + x0..]` or a strip in a buffer of its own, whatever stands behind; and the row has the cells that come back
 pub record Draws (t : Table) (y : ℕ) (p : Part) (a : Channels) (count : ℕ) (b : Channels) : Type 0 where
-  pub room : ℕ
+  pub lent : Channels
   pub answer : DrawAnswer
   pub left : Channels
-  pub holds : p .wide ≤ room
-  pub in-row : p .at + room ≤ length (a .r0)
-  pub outcome : leaves answer left ≡ drawOf t y (p .at) (p .wide) (lentOf (p .at) room a)
+  pub in-row : p .at + p .wide ≤ length (a .r0)
+  pub begins : cellsOf 0 (p .wide) lent ≡ cellsOf (p .at) (p .wide) a
+  pub outcome : leaves answer left ≡ drawOf t y (p .at) (p .wide) lent
   pub counted : count ≡ toldOf answer .updates
-  pub comes-back : b ≡ backOf (p .at) room a left
+  pub comes-back : b ≡ placedIn (p .at) (p .wide) a (cellsOf 0 (p .wide) left)
 
 -- parts of row y drawn one after another: from the channels a to w, with the updates summed
 pub data Drawn (t : Table) (y : ℕ) : List Part → Channels → ℕ → Channels → Type 0 where

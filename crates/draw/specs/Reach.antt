@@ -13,7 +13,7 @@ use Rattle.segments.specs.Segment.{segmentAt}
 use Rattle.segments.specs.Ranges.{Bound, under, at, over, rounded}
 use Rattle.segments.specs.declared.Segment.{Segment}
 use Rattle.segments.specs.declared.Range.{Range}
-use Rattle.draw.specs.Draw.{Table, rowOf, countsGood, rowGood, orFault}
+use Rattle.draw.specs.Draw.{Table, rowOf, orFault, judgeRow}
 use Rattle.draw.specs.declared.Verdict.{Verdict}
 use Rattle.draw.specs.declared.Verdict.the-variants.{Fine, Fault}
 use Rattle.draw.specs.declared.ReachAnswer.{ReachAnswer}
@@ -76,10 +76,9 @@ abbrev pub toldOf : ReachAnswer → ReachTold
 toldOf (Done a e) = record { number = 0; place = 0; first = a; past = e }
 toldOf (Refused c p) = record { number = numberOf c; place = p; first = 0; past = 0 }
 
+-- the width, then the checks of drawing but for the span
 unfoldable pub judgeReachOf : Table → ℕ → ℕ → Verdict
-judgeReachOf t y W =
-    orFault (leb W (2 ^ 23)) Code.Size
-    (orFault (countsGood t) Code.Table (orFault (ltb y (t .height)) Code.Row (orFault (rowGood t y) Code.Table Fine)))
+judgeReachOf t y W = orFault (leb W (2 ^ 23)) Code.Size (judgeRow t y true)
 
 abbrev pub reachAnswer : Verdict → Range → ReachAnswer
 reachAnswer Fine r = Done (r .first) (r .past)

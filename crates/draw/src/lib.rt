@@ -9,7 +9,7 @@ ghost use Rattle.segments.specs.Segment.{segmentAt};
 ghost use Rattle.segments.specs.Ranges.{hasColumn, rounded, columnPastOf};
 ghost use Rattle.shade.specs.Edit.{edit, firstCells};
 ghost use Rattle.shade.specs.Shade.{shaded};
-ghost use Rattle.draw.specs.Draw.{shadedInColumn, pixel, between, count, updates, tableOf, countsGood, spanGood, allBelow, entriesGood, judgeOf, three, leaves, drawOf};
+ghost use Rattle.draw.specs.Draw.{shadedInColumn, pixel, between, count, updates, tableOf, countsGood, spanGood, allBelow, entriesGood, judgeRow, judgeOf, three, leaves, drawOf};
 ghost use Rattle.draw.specs.Reach.{reachPast, none, spanning, reachOfSegment, joined, reachOver, judgeReachOf, tells, reachOf};
 use codes::Code;
 use segments::Range;
@@ -246,6 +246,42 @@ fn entries_good(
     all_below(entries, b, e, segment_count)
 }
 
+// The checks of a row, in their order, with the answer of the span's among them.
+fn judge_row(
+    segments: &[f32],
+    segment_count: u32,
+    entries: &[u32],
+    entry_count: u32,
+    row_starts: &[u32],
+    height: u32,
+    y: u32,
+    spanned: bool,
+) -> Verdict
+    ensures { λ r. ⌜ r ≡ judgeRow (tableOf (now (segments .entry)) «segment_count» (now (entries .entry)) «entry_count» (now («row_starts» .entry)) height) y spanned ⌝ }
+{
+    let counted = counts_good(
+        segments,
+        segment_count,
+        entries,
+        entry_count,
+        row_starts,
+        height,
+    );
+    if !counted {
+        return Verdict::Fault(Code::Table);
+    }
+    if height <= y {
+        return Verdict::Fault(Code::Row);
+    }
+    if !spanned {
+        return Verdict::Fault(Code::Span);
+    }
+    if entries_good(entries, entry_count, row_starts, segment_count, y) {
+        return Verdict::Fine;
+    }
+    Verdict::Fault(Code::Table)
+}
+
 // The checks of `draw`, in their order.
 fn judge(
     segments: &[f32],
@@ -263,26 +299,17 @@ fn judge(
 ) -> Verdict
     ensures { λ r. ⌜ r ≡ judgeOf (tableOf (now (segments .entry)) «segment_count» (now (entries .entry)) «entry_count» (now («row_starts» .entry)) height) y x0 n l0 l1 l2 ⌝ }
 {
-    if !counts_good(
+    let spanned = span_good(x0, n, l0, l1, l2);
+    judge_row(
         segments,
         segment_count,
         entries,
         entry_count,
         row_starts,
         height,
-    ) {
-        return Verdict::Fault(Code::Table);
-    }
-    if height <= y {
-        return Verdict::Fault(Code::Row);
-    }
-    if !span_good(x0, n, l0, l1, l2) {
-        return Verdict::Fault(Code::Span);
-    }
-    if !entries_good(entries, entry_count, row_starts, segment_count, y) {
-        return Verdict::Fault(Code::Table);
-    }
-    Verdict::Fine
+        y,
+        spanned,
+    )
 }
 
 // Draws n pixels of row y, from column x0 on, into three channels that begin at column x0.
@@ -441,23 +468,16 @@ fn judge_reach(
     if 8388608 < width {
         return Verdict::Fault(Code::Size);
     }
-    if !counts_good(
+    judge_row(
         segments,
         segment_count,
         entries,
         entry_count,
         row_starts,
         height,
-    ) {
-        return Verdict::Fault(Code::Table);
-    }
-    if height <= y {
-        return Verdict::Fault(Code::Row);
-    }
-    if !entries_good(entries, entry_count, row_starts, segment_count, y) {
-        return Verdict::Fault(Code::Table);
-    }
-    Verdict::Fine
+        y,
+        true,
+    )
 }
 
 // The first column and the one past the last that the segments of row y reach in an image of the width.

@@ -4,6 +4,7 @@ pub mod Pixels
 pub mod Accepted
 pub mod Tables
 pub mod Listings
+pub mod Keeping
 pub mod Pictures
 pub mod Rooms
 pub mod Makes

@@ -1,6 +1,5 @@
--- What a row of a built table lists: the segments that have it and no other, each once, ascending; and the last start is the entry count. Each is a law of the row table.
+-- What a row of a built table lists: the segments that have it and no other, once each, ascending; and the last start is the entry count. Each is a law of the row table.
 use mathlib.Core.Path.{_≡_, sym, ap, subst, _∙_}
-use mathlib.Core.Bool.{true}
 use mathlib.Core.List.{List, []}
 use Prim.Native.Nat.{ℕ, suc, _-_, _<_}
 use native.Mathlib.Omega.{arith}
@@ -9,11 +8,12 @@ use lib.Seq.{getD-append-seam}
 use Rattle.dequantize.specs.Judge.{Description}
 use Rattle.rows.specs.Rows.{inRow, startOf, upTo, padded}
 use Rattle.rows.specs.Steps.{cnt}
-use Rattle.rows.proofs.Users.{Member, each, found, rows-ascend, length-up-to}
+use Rattle.rows.proofs.Counts.{cnt-lt}
+use Rattle.rows.proofs.Users.{each, found, rows-ascend, length-up-to}
 use Rattle.table.specs.Table.{BuildRooms, Setting}
 use Rattle.table.specs.Table as build
 use Rattle.draw.specs.Draw.{rowOf}
-use Rattle.picture.specs.Picture.{built, BuiltTable}
+use Rattle.picture.specs.Picture.{built, BuiltTable, Lists}
 
 last-of : (f : ℕ → ℕ) (n m : ℕ) → getD (padded m (upTo f (suc n))) n 0 ≡ f n
 unfolding upTo
@@ -25,20 +25,12 @@ module _ {d : Description} {i : Setting} {r : BuildRooms} {o : build.BuildOutcom
   pub last-start : getD (o .starts) (i .height) 0 ≡ e
   last-start = ap (λ (l : List ℕ). getD l (i .height) 0) (t .starts) ∙ last-of (startOf (inRow (o .segments)) s) (i .height) (r .starts) ∙ sym (t .entry-count)
 
-  module _ (y : ℕ) (h : y < i .height) where
-    abbrev row : List ℕ
-    row = rowOf (built i o s e) y
-
-    -- an entry names a segment that has the row
-    pub names : (j : ℕ) → j < length row → Member (inRow (o .segments)) y s (getD row j 0)
-    names j l = rw (t .row y h) (each (inRow (o .segments)) y s j (rw (t .row y h) at l))
-
-    -- a later entry is greater, so no segment is listed twice
-    pub ascends : (j k : ℕ) → j < k → k < length row → getD row j 0 < getD row k 0
-    ascends j k l m = rw (t .row y h) (rows-ascend (inRow (o .segments)) y s j k l (rw (t .row y h) at m))
-
-    -- a segment that has the row is listed
-    pub listed-in : (k : ℕ) → k < s → inRow (o .segments) k y ≡ true → getD row (cnt (inRow (o .segments)) y k) 0 ≡ k
-    listed-in k l a = rw (t .row y h) (found (inRow (o .segments)) y s k l a)
+  -- each row lists the segments that have it, once each, ascending
+  pub lists : (y : ℕ) → y < i .height → Lists (λ k. inRow (o .segments) k y) s (rowOf (built i o s e) y)
+  lists y h = rw (t .row y h) (record {
+    passes = λ j l. let m = each (inRow (o .segments)) y s j l in (m .below, m .has-it);
+    ascends = rows-ascend (inRow (o .segments)) y s;
+    complete = λ k l a. record { index = cnt (inRow (o .segments)) y k; in-row = cnt-lt (inRow (o .segments)) y k s l a; is = found (inRow (o .segments)) y s k l a };
+  })
 
 -- Assumes nothing.

@@ -2,7 +2,7 @@
 use mathlib.Core.Path.{_≡_, refl, ap, _∙_}
 use mathlib.Core.Bool.{Bool, true, false, cond}
 use mathlib.Core.List.{List, [], _∷_, _++_, foldl-append}
-use Prim.Native.Nat.{ℕ, zero, suc, _+_, _*_, _≤_, _<_}
+use Prim.Native.Nat.{ℕ, zero, suc, _+_, _≤_, _<_}
 use native.Mathlib.Omega.{arith}
 use lib.ListN.{length, getD, take}
 use lib.Seq.{take-suc, take-length}
@@ -26,14 +26,6 @@ count-out : (s : Segment) (y x n : ℕ) → hasRow s y ≡ false → count (hasP
 count-out s y x zero e = refl
 count-out s y x (suc n) e = rw (e, count-out s y x n e)
 
-count-most : (p : ℕ → Bool) (x n : ℕ) → count p x n ≤ n
-count-most p x zero = omega arith
-count-most p x (suc n) = go (p (x + n)) (count-most p x n)
-  where
-    go : (b : Bool) → count p x n ≤ n → cond b 1 0 + count p x n ≤ suc n
-    go true h = omega arith
-    go false h = omega arith
-
 updates-append : (segments : List Float) (x n : ℕ) (is js : List ℕ) → updates segments x n (is ++ js) ≡ updates segments x n is + updates segments x n js
 updates-append segments x n [] js = omega arith
 updates-append segments x n (i ∷ is) js = omega (arith, updates-append segments x n is js)
@@ -41,14 +33,6 @@ updates-append segments x n (i ∷ is) js = omega (arith, updates-append segment
 pairs-append : (ss rs : List Segment) (W y : ℕ) → rowPairs (ss ++ rs) W y ≡ rowPairs ss W y + rowPairs rs W y
 pairs-append [] rs W y = omega arith
 pairs-append (s ∷ ss) rs W y = omega (arith, pairs-append ss rs W y)
-
--- each entry has at most all columns
-pub updates-most : (segments : List Float) (x n : ℕ) (is : List ℕ) → updates segments x n is ≤ n * length is
-updates-most segments x n [] = omega arith
-updates-most segments x n (i ∷ is) = within (n * length is) (n * suc (length is)) (omega arith) (count-most (hasColumn (segmentAt segments i)) x n) (updates-most segments x n is)
-  where
-    within : {a b : ℕ} (p q : ℕ) → q ≡ n + p → a ≤ n → b ≤ p → a + b ≤ q
-    within p q e h k = omega arith
 
 -- ---- a row
 

@@ -25,9 +25,7 @@ use Rattle.rows.proofs.Table.{rest-same}
 use Rattle.rows.proofs.Users as users
 use Rattle.table.specs.Table.{BuildRooms, Setting, BuildOutcome, zeros, padded}
 use Rattle.draw.proofs.Entries.{and-left, and-right}
-use Rattle.draw.specs.Draw.{pixel, updates, rowOf, allBelow, countsGood, spanGood, entriesGood, rowGood, judgeOf}
-use Rattle.draw.specs.Reach.{judgeReachOf}
-use Rattle.draw.specs.declared.Verdict.the-variants.{Fine}
+use Rattle.draw.specs.Draw.{pixel, updates, rowOf, allBelow, countsGood, entriesGood, rowGood}
 use Rattle.picture.specs.Picture.{Built, built, BuiltTable, segmentsOf, pixelOf, rowPairs}
 use Rattle.picture.proofs.Flat.{segment-at}
 use Rattle.picture.proofs.Pixels.{pixel-is, pairs-are}
@@ -157,15 +155,6 @@ module _ {d : Description} {i : Setting} {r : BuildRooms} {o : BuildOutcome} {s 
           le-leb (getD (o .starts) (y + 1) 0) e (rw (add-one y) (checks .ends)),
           n,
         )
-
-    -- no check of drawing or of reach refuses the table
-    pub draw-fine : (x0 n l0 l1 l2 : ℕ) → spanGood x0 n l0 l1 l2 ≡ true → judgeOf (built i o s e) y x0 n l0 l1 l2 ≡ Fine
-    unfolding judgeOf
-    draw-fine x0 n l0 l1 l2 g = rw (counts-good, lt-ltb y (i .height) h, g, row-good)
-
-    pub reach-fine : (W : ℕ) → W ≤ 2 ^ 23 → judgeReachOf (built i o s e) y W ≡ Fine
-    unfolding judgeReachOf
-    reach-fine W w = rw (le-leb W (2 ^ 23) w, counts-good, lt-ltb y (i .height) h, row-good)
 
     -- a pixel of the row, drawn by its entries, and the updates of its first W pixels
     pub row-pixel : (c x : ℕ) (v : Float) → pixel c (o .segments) y x (rowOf (built i o s e) y) v ≡ pixelOf c (segmentsOf d i r) y x v

@@ -1,9 +1,9 @@
 -- The picture of a list of segments: each pixel with the segments added that have it, and the pairs of a segment and a pixel that it has. Definitions only.
 use mathlib.Core.Path.{_≡_}
-use mathlib.Core.Bool.{Bool, cond, _&&_}
+use mathlib.Core.Bool.{Bool, true, cond, _&&_}
 use mathlib.Core.List.{List, [], _∷_, foldl}
 use Prim.Native.Nat.{ℕ, zero, suc, _+_, _<_}
-use lib.ListN.{length}
+use lib.ListN.{length, getD}
 use lib.Ieee.{Float}
 use Rattle.dequantize.specs.declared.judge.Judged.the-variants as Judged
 use Rattle.dequantize.specs.Judge.{Description, judgeOf}
@@ -74,6 +74,20 @@ pub record BuiltTable (d : Description) (i : Setting) (r : BuildRooms) (o : buil
   pub row : (y : ℕ) → y < i .height → rowOf (built i o s e) y ≡ listed (inRow (o .segments)) y s
   pub no-path : o .path ≡ zeros (r .path)
   pub no-walk : o .walk ≡ zeros (r .walk)
+
+-- ---- what a row lists
+
+-- a number stands in a list
+pub record Found (row : List ℕ) (i : ℕ) : Type 0 where
+  pub index : ℕ
+  pub in-row : index < length row
+  pub is : getD row index 0 ≡ i
+
+-- a list has the numbers below n that pass a test and no other, once each, ascending
+pub record Lists (test : ℕ → Bool) (n : ℕ) (row : List ℕ) : Type 0 where
+  pub passes : (j : ℕ) → j < length row → (getD row j 0 < n) × (test (getD row j 0) ≡ true)
+  pub ascends : (j k : ℕ) → j < k → k < length row → getD row j 0 < getD row k 0
+  pub complete : (i : ℕ) → i < n → test i ≡ true → Found row i
 
 -- ---- a row drawn
 

@@ -1,4 +1,7 @@
 -- Each way out is decided by the tests that led there.
+use Prim.Native.Nat.{_*_, _^_}
+use native.Mathlib.Omega.{arith}
+use lib.ListN.{length}
 use borrow.Author.Needs.{needs}
 use borrow.Author.Tests.{lt-leb, le-leb}
 use Rattle.draw.specs.Draw.{countsGood}
@@ -7,18 +10,24 @@ use Rattle.draw.proofs.counts_good.Tie as tie
 
 returns : tie.Need-returns
 unfolding countsGood
-returns c = rw (lt-leb _ _ (c .if1 .taken))
+returns c =
+    let A = c .before .args in
+    rw (lt-leb (A .segment-count) (2 ^ 24) (omega arith))
 
 mul-if2 : tie.Need-mul-if2
 mul-if2 c = search needs
 
 returns-2 : tie.Need-returns-2
 unfolding countsGood
-returns-2 c = rw (le-leb _ _ (c .before .if1 .left), lt-leb _ _ (c .if2 .taken))
+returns-2 c =
+    let A = c .before .before .args in
+    rw (le-leb (A .segment-count) (2 ^ 24) (omega arith), lt-leb (8 * A .segment-count) (length (A .segments .now)) (omega arith))
 
 returns-3 : tie.Need-returns-3
 unfolding countsGood
-returns-3 c = rw (le-leb _ _ (c .before .before .if1 .left), le-leb _ _ (c .before .if2 .left), lt-leb _ _ (c .if3 .taken))
+returns-3 c =
+    let A = c .before .before .before .args in
+    rw (le-leb (A .segment-count) (2 ^ 24) (omega arith), le-leb (8 * A .segment-count) (length (A .segments .now)) (omega arith), lt-leb (A .entry-count) (2 ^ 30) (omega arith))
 
 returns-4 : tie.Need-returns-4
 unfolding countsGood
