@@ -8,6 +8,7 @@ use Rattle.numbers.specs.Ln.{lnOf}
 use Rattle.list.specs.List.{ListRooms}
 use Rattle.reader.specs.Read.{Outcome, readOutcome}
 use Rattle.writer.specs.Write.{WriteOutcome, writeOf}
+use Rattle.write_laws.specs.Floats.{Floats}
 use Rattle.dequantize.specs.Judge.{Description}
 use Rattle.table.specs.Table.{Setting, buildOf}
 use Rattle.table.specs.Table as building
@@ -28,7 +29,10 @@ read-equation l configured pixels rooms o (reads κs _ _ _ _ _ _ _ _ _ _ _ _ _ _
 
 pub write-equation : (ns : List ℕ) (ss : List Float) (ds cs : List ℤ) (a : ℤ) (configured pixels room : ℕ) (o : WriteOutcome) → WriteCall ns ss ds cs a configured pixels room o
     → o ≡ writeOf ns ss ds cs a configured pixels room
-write-equation ns ss ds cs a configured pixels room o (writes κs _ _ _ _ _ _ _ _ _ _ _ _ _ _ _ _ _ p) = p
+write-equation ns ss ds cs a configured pixels room o (writes κs _ _ _ _ _ _ _ _ _ _ _ _ _ _ _ _ _ f p) = p
+
+pub write-floats : (ns : List ℕ) (ss : List Float) (ds cs : List ℤ) (a : ℤ) (configured pixels room : ℕ) (o : WriteOutcome) → WriteCall ns ss ds cs a configured pixels room o → Floats ss
+write-floats ns ss ds cs a configured pixels room o (writes κs _ _ _ _ _ _ _ _ _ _ _ _ _ _ _ _ _ f p) = f
 
 pub build-equation : (d : Description) (i : Setting) (r : building.BuildRooms) (o : building.BuildOutcome) → BuildCall d i r o → o ≡ buildOf d i r
 build-equation d i r o (builds κs _ _ _ _ _ _ _ _ _ _ _ _ _ _ _ _ _ _ _ _ _ _ _ _ _ _ _ _ _ _ _ _ _ p) = p

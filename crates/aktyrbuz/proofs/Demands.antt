@@ -34,7 +34,7 @@ use Rattle.picture.proofs.Keeping.{kept-lists, draw-fine, reach-fine}
 use Rattle.picture.proofs.Pictures as pictures
 use Rattle.picture.proofs.Rooms.{same-segments}
 use Rattle.aktyrbuz.specs.Demands.{ReadsAsSplineRs, WritesTheList, WrittenIsRead, ReadIsWritten, BuildsAsSplineRs, BuildsTheTable, DrawsAsSplineRs, ReachesByTheRule, LogsByItsSteps, RefusedLeavesZero, RefusedDrawsNothing, DrawCodes, ReachCodes, BuiltIsDrawn, OnceAscending, OtherRowsDontMatter, RowInParts, ImageInParts, KeepsOtherCells, RowUpdates, ImageUpdates, UpdatesSum, RoomChangesNothing, OneOutcome}
-use Rattle.aktyrbuz.proofs.Calls.{read-equation, write-equation, build-equation, draw-equation, reach-equation, ln-equation, told-by, reach-told-by, built-by, row-by, image-by}
+use Rattle.aktyrbuz.proofs.Calls.{read-equation, write-equation, write-floats, build-equation, draw-equation, reach-equation, ln-equation, told-by, reach-told-by, built-by, row-by, image-by}
 
 -- ---- the same numbers
 
@@ -45,8 +45,8 @@ pub writes-the-list : WritesTheList
 writes-the-list = write-equation
 
 pub written-is-read : WrittenIsRead
-written-is-read ns ss ds cs a configured pixels room o n floats w done rooms enough q r =
-    written-then-read ns ss ds cs a configured pixels room o n floats (write-equation ns ss ds cs a configured pixels room o w) done rooms enough q
+written-is-read ns ss ds cs a configured pixels room o n w done rooms enough q r =
+    written-then-read ns ss ds cs a configured pixels room o n (write-floats ns ss ds cs a configured pixels room o w) (write-equation ns ss ds cs a configured pixels room o w) done rooms enough q
     (read-equation _ configured pixels rooms q r)
 
 pub read-is-written : ReadIsWritten

@@ -3,3 +3,4 @@ pub mod Numbers
 pub mod Calls
 pub mod Readings
 pub mod Demands
+pub mod ListCodes

@@ -14,6 +14,7 @@ use Rattle.reader.specs.Read as reading
 use Rattle.reader.proofs.read.Reads as read
 use Rattle.writer.specs.Write as writing
 use Rattle.writer.proofs.write.Reads as write
+use Rattle.write_laws.specs.Floats.{Floats}
 use Rattle.dequantize.specs.Judge.{Description, descriptionOf}
 use Rattle.table.specs.Table.{Setting, settingOf}
 use Rattle.table.specs.Table as building
@@ -41,11 +42,11 @@ pub data ReadCall : List ℕ → ℕ → ℕ → ListRooms → reading.Outcome �
       → ReadCall (now list) configured pixels (reading.roomsOf (now counts) (now starts) (now deltas) (now coefficients))
       (reading.leaves r (now counts′) (now starts′) (now deltas′) (now coefficients′))
 
--- of a description, under two limits, with so many cells lent
+-- of a description, under two limits, with so many cells lent; the starts are f32, as every slice of f32 is that can be lent (the contract of `write_laws::lend`)
 pub data WriteCall : List ℕ → List Float → List ℤ → List ℤ → ℤ → ℕ → ℕ → ℕ → writing.WriteOutcome → Type 0 where
   writes : (κs : Lfts 5) (counts : _) (starts : _) (deltas : _) (coefficients : _) (adjustment : _) (configured : _) (pixels : _) (list : _) (r : _)
       (counts′ : _) (starts′ : _) (deltas′ : _) (coefficients′ : _) (adjustment′ : _) (configured′ : _) (pixels′ : _) (list′ : _)
-      → write.Post κs (counts, (starts, (deltas, (coefficients, (adjustment, (configured, (pixels, (list, tt)))))))) r
+      → Floats (now starts) → write.Post κs (counts, (starts, (deltas, (coefficients, (adjustment, (configured, (pixels, (list, tt)))))))) r
       (counts′, (starts′, (deltas′, (coefficients′, (adjustment′, (configured′, (pixels′, (list′, tt))))))))
       → WriteCall (now counts) (now starts) (now deltas) (now coefficients) adjustment configured pixels (length (now list)) (writing.leaves r (now list′))
 

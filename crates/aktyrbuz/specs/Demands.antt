@@ -14,7 +14,8 @@ use Rattle.codes.specs.declared.Code.{Code}
 use Rattle.numbers.specs.Whole.{roundOf}
 use Rattle.numbers.specs.Length.{lengthOf}
 use Rattle.numbers.specs.Ln.{lnOf}
-use Rattle.list.specs.List.{ListRooms, pointsOf, unpackSigned}
+use Rattle.shape.specs.Shape.{pointsOf}
+use Rattle.list.specs.List.{ListRooms, unpackSigned}
 use Rattle.list.specs.Steps.{zeroF32}
 use Rattle.reader.specs.Read.{Outcome, padded, readOutcome}
 use Rattle.reader.specs.Read as reading
@@ -22,8 +23,7 @@ use Rattle.reader.specs.declared.ReadAnswer.{ReadAnswer}
 use Rattle.writer.specs.Write.{WriteOutcome, writeOf}
 use Rattle.writer.specs.Write as writing
 use Rattle.writer.specs.declared.WriteAnswer.{WriteAnswer}
-use Rattle.write_laws.specs.Floats.{Floats}
-use Rattle.roundtrip.proofs.RoundTrip.{Enough}
+use Rattle.roundtrip.specs.Enough.{Enough}
 use Rattle.dequantize.specs.Limits.{splineAreaLimit}
 use Rattle.dequantize.specs.Coefficients.{invAdjustedQuant}
 use Rattle.dequantize.specs.Judge.{Description}
@@ -61,7 +61,7 @@ WritesTheList =
 -- what `write` accepts, `read` gives back under the same limits: the description, every number
 abbrev pub WrittenIsRead : Type 0
 WrittenIsRead =
-    (ns : List ℕ) (ss : List Float) (ds cs : List ℤ) (a : ℤ) (configured pixels room : ℕ) (o : WriteOutcome) (n : ℕ) → Floats ss
+    (ns : List ℕ) (ss : List Float) (ds cs : List ℤ) (a : ℤ) (configured pixels room : ℕ) (o : WriteOutcome) (n : ℕ)
     → WriteCall ns ss ds cs a configured pixels room o → o .answer ≡ WriteAnswer.Done n
     → (rooms : ListRooms) → Enough rooms ns ss ds cs → (q : Outcome) → ReadCall (take n (o .list)) configured pixels rooms q
     → q ≡ reading.leaves (ReadAnswer.Done (length ns) (pointsOf ns) a) (padded (rooms .counts) 0 ns) (padded (rooms .starts) zeroF32 ss)

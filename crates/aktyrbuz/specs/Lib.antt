@@ -2,3 +2,4 @@
 pub mod Exported
 pub mod Calls
 pub mod Demands
+pub mod ListCodes

@@ -11,7 +11,8 @@ use lib.Seq.{take-at, drop-at}
 use lib.IntN.{ℤ, pos, _+ℤ_, _-ℤ_, +ℤ-comm, +ℤ-negℤ-cancel}
 use borrow.Author.Tests.{ltb-false}
 use Rattle.codes.specs.declared.Code.{Code}
-use Rattle.list.specs.List.{unpackSigned, packSigned, posLimit, deltaLimit, beyond, ListRooms, Got, got, stop, Spline, spline, Splines, splines, Described, described, pointsOf, andThen, onto, coordinate, startsOf, deltasOf, coefficientsOf, splineIn, points, ontoSplines, splinesOf, describe, ended, afterStarts, lacking, readOf, startsList, splinesList, listOf, Near, Tame, Valid}
+use Rattle.shape.specs.Shape.{pointsOf}
+use Rattle.list.specs.List.{unpackSigned, packSigned, posLimit, deltaLimit, beyond, ListRooms, Got, got, stop, Spline, spline, Splines, splines, Described, described, andThen, onto, coordinate, startsOf, deltasOf, coefficientsOf, splineIn, points, ontoSplines, splinesOf, describe, ended, afterStarts, lacking, readOf, startsList, splinesList, listOf, Near, Tame, Valid}
 use Rattle.list.proofs.Signed.{pack-unpack}
 
 -- ---- a step that gave something

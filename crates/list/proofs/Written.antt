@@ -8,7 +8,8 @@ use lib.ListN.{length, take, drop, length-drop, take-append-drop}
 use lib.Seq.{length-take-le}
 use lib.IntN.{ℤ, _+ℤ_, _-ℤ_, +ℤ-comm, -ℤ-+ℤ-cancel}
 use borrow.Author.Tests.{le-ltb}
-use Rattle.list.specs.List.{unpackSigned, packSigned, got, spline, splines, pointsOf, startsOf, deltasOf, coefficientsOf, splineIn, splinesOf, startsList, splinesList, Near, Tame}
+use Rattle.shape.specs.Shape.{pointsOf}
+use Rattle.list.specs.List.{unpackSigned, packSigned, got, spline, splines, startsOf, deltasOf, coefficientsOf, splineIn, splinesOf, startsList, splinesList, Near, Tame}
 use Rattle.list.proofs.Signed.{unpack-pack}
 
 pub coefficients-written : (t : ℕ) (vs : List ℤ) (r : List ℕ) → coefficientsOf t (length vs) (map packSigned vs ++ r) ≡ got vs r

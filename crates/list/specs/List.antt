@@ -9,6 +9,7 @@ use lib.Dec.{eqb, leb, ltb}
 use lib.ListN.{length, take, drop}
 use lib.IntN.{ℤ, pos, negsuc, natAbs, _+ℤ_, _-ℤ_}
 use Rattle.codes.specs.declared.Code.{Code}
+use Rattle.shape.specs.Shape.{pointsOf}
 
 -- ---- signed values
 
@@ -64,10 +65,6 @@ pub data Splines : Type 0 where
 -- a whole list: the adjustment, the starts (x, y by turns), point counts, double deltas and coefficients
 pub data Described : Type 0 where
   described : ℤ → List ℤ → List ℕ → List ℤ → List ℤ → Described
-
-abbrev pub pointsOf : List ℕ → ℕ
-pointsOf [] = 0
-pointsOf (n ∷ ns) = n + pointsOf ns
 
 -- ---- reading
 

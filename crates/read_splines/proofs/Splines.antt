@@ -11,7 +11,8 @@ use lib.IntN.{ℤ}
 use borrow.Author.Tests.{lt-ltb, le-ltb}
 use Rattle.codes.specs.declared.Code.{Code}
 use Rattle.list.specs.declared.Next.{Next}
-use Rattle.list.specs.List.{packSigned, Got, got, stop, Spline, spline, Splines, splines, pointsOf, andThen, ontoSplines, deltasOf, coefficientsOf, splineIn, splinesOf}
+use Rattle.shape.specs.Shape.{pointsOf}
+use Rattle.list.specs.List.{packSigned, Got, got, stop, Spline, spline, Splines, splines, andThen, ontoSplines, deltasOf, coefficientsOf, splineIn, splinesOf}
 use Rattle.list.specs.Steps.{nextOf}
 use Rattle.list.proofs.Buffers.{part-tail, next-is, next-not}
 use Rattle.list.proofs.Accepted.{deltas-read, SplineRead, spline-read}

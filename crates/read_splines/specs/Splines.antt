@@ -3,7 +3,8 @@ use mathlib.Core.Path.{_≡_}
 use mathlib.Core.List.{List}
 use Prim.Native.Nat.{ℕ}
 use lib.IntN.{ℤ}
-use Rattle.list.specs.List.{Got, got, stop, Spline, spline, Splines, splines, pointsOf}
+use Rattle.shape.specs.Shape.{pointsOf}
+use Rattle.list.specs.List.{Got, got, stop, Spline, spline, Splines, splines}
 use Rattle.read_steps.specs.Steps.{Front}
 use Rattle.read_splines.specs.declared.Points.{Points}
 

@@ -3,26 +3,14 @@
 use mathlib.Core.Path.{_≡_, refl, sym, ap, subst, _∙_}
 use mathlib.Core.List.{List, []}
 use Prim.Native.Nat.{ℕ}
-use lib.ListN.{replicate}
-use lib.IntN.{ℤ, pos}
-use Rattle.codes.specs.Codes.{numberOf}
+use lib.IntN.{ℤ}
 use Rattle.codes.specs.declared.Code.{Code}
 use Rattle.list.specs.List.{ListRooms, Got, got, stop, Described, described, limitOf, readOf, listOf, Valid}
-use Rattle.list.specs.Steps.{zeroF32}
 use Rattle.list.proofs.RoundTrip.{Holds, written-is-read}
 use Rattle.reader.specs.declared.ReadAnswer.{ReadAnswer}
-use Rattle.reader.specs.Read.{Told, Outcome, outcome, readOutcome}
-use Rattle.reader.specs.Refusals.{ReadRefusal}
+use Rattle.reader.specs.Read.{Outcome, outcome, readOutcome}
+use Rattle.reader.specs.Refusals.{ReadRefusal, ReadRefused}
 use Rattle.reader.proofs.Refusals as table
-
--- an outcome of a refusal: the code's number, its place, and nothing but zeros
-pub record Refused (rooms : ListRooms) (c : Code) (p : ℕ) (o : Outcome) : Type 0 where
-  pub answer : o .answer ≡ ReadAnswer.Refused c p
-  pub told : _≡_ {A = Told} (o .told) (record { number = numberOf c; place = p; splines = 0; points = 0; adjustment = pos 0 })
-  pub counts : o .counts ≡ replicate (rooms .counts) 0
-  pub starts : o .starts ≡ replicate (rooms .starts) zeroF32
-  pub deltas : o .deltas ≡ replicate (rooms .deltas) (pos 0)
-  pub coefficients : o .coefficients ≡ replicate (rooms .coefficients) (pos 0)
 
 module _ (configured pixels : ℕ) (rooms : ListRooms) (list : List ℕ) where
   -- any two outcomes that the contract allows are equal
@@ -44,11 +32,11 @@ module _ (configured pixels : ℕ) (rooms : ListRooms) (list : List ℕ) where
             rw (x, y)
 
     -- what is in the table is refused, and leaves zeros
-    pub given-exactly : (c : Code) (p : ℕ) → ReadRefusal (limitOf configured pixels) rooms list c p → Refused rooms c p o
+    pub given-exactly : (c : Code) (p : ℕ) → ReadRefusal (limitOf configured pixels) rooms list c p → ReadRefused rooms c p o
     given-exactly c p h =
         let e = table.given-exactly (limitOf configured pixels) rooms list c (h .due) (h .rest) (h .reached) (h .given) in
         let at : readOf (limitOf configured pixels) rooms list ≡ stop c p = e ∙ ap (λ (q : ℕ). stop c q) (sym (h .place)) in
-        subst (Refused rooms c p) (sym (is ∙ ap (outcome rooms) at))
+        subst (ReadRefused rooms c p) (sym (is ∙ ap (outcome rooms) at))
         (record { answer = refl; told = refl; counts = refl; starts = refl; deltas = refl; coefficients = refl })
 
 -- what is written is read: the outcome of the list of a valid description is that description

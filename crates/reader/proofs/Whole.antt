@@ -12,7 +12,8 @@ use lib.Ieee.{Float}
 use borrow.Author.Tests.{lt-ltb, le-ltb}
 use Rattle.codes.specs.declared.Code.{Code}
 use Rattle.list.specs.declared.Next.{Next}
-use Rattle.list.specs.List.{unpackSigned, packSigned, ListRooms, Got, got, stop, Splines, splines, Described, described, pointsOf, andThen, startsOf, splinesOf, describe, ended, afterStarts, lacking, limitOf, readOf, startsList, splinesList}
+use Rattle.shape.specs.Shape.{pointsOf}
+use Rattle.list.specs.List.{unpackSigned, packSigned, ListRooms, Got, got, stop, Splines, splines, Described, described, andThen, startsOf, splinesOf, describe, ended, afterStarts, lacking, limitOf, readOf, startsList, splinesList}
 use Rattle.list.specs.Steps.{nextOf, f32Of, zeroF32}
 use Rattle.list.proofs.Buffers.{next-is, next-not}
 use Rattle.list.proofs.Accepted.{starts-read, splines-read}

@@ -5,7 +5,8 @@ use lib.ListN.{length, replicate}
 use lib.IntN.{ℤ, pos}
 use lib.Ieee.{Float}
 use Rattle.codes.specs.Codes.{numberOf}
-use Rattle.list.specs.List.{Got, got, stop, ListRooms, Described, described, pointsOf, limitOf, readOf}
+use Rattle.shape.specs.Shape.{pointsOf}
+use Rattle.list.specs.List.{Got, got, stop, ListRooms, Described, described, limitOf, readOf}
 use Rattle.list.specs.Steps.{f32Of, zeroF32}
 use Rattle.reader.specs.declared.ReadAnswer.{ReadAnswer}
 

@@ -6,11 +6,14 @@ use mathlib.Core.Bool.{Bool, true, false, cond}
 use mathlib.Core.List.{List, _∷_}
 use Prim.Native.Nat.{ℕ, zero, suc, _+_, _-_, _*_, _≤_, _<_}
 use lib.Dec.{eqb}
-use lib.ListN.{length}
+use lib.ListN.{length, replicate}
 use lib.IntN.{ℤ, pos}
 use Rattle.codes.specs.Codes.{numberOf}
 use Rattle.codes.specs.declared.Code.{Code}
 use Rattle.list.specs.List.{unpackSigned, posLimit, deltaLimit, beyond, ListRooms, coordinate, lacking}
+use Rattle.list.specs.Steps.{zeroF32}
+use Rattle.reader.specs.Read.{Told, Outcome}
+use Rattle.reader.specs.declared.ReadAnswer.{ReadAnswer}
 
 -- what the list holds next
 pub data Due : Type 0 where
@@ -92,3 +95,12 @@ pub record ReadRefusal (limit : ℕ) (rooms : ListRooms) (l : List ℕ) (c : Cod
   pub reached : Reached limit rooms l due rest
   pub given : DueRefusal limit rooms c due rest
   pub place : p ≡ placeOf c (length l) rest
+
+-- an outcome of a refusal: the code's number, its place, and nothing but zeros
+pub record ReadRefused (rooms : ListRooms) (c : Code) (p : ℕ) (o : Outcome) : Type 0 where
+  pub answer : o .answer ≡ ReadAnswer.Refused c p
+  pub told : _≡_ {A = Told} (o .told) (record { number = numberOf c; place = p; splines = 0; points = 0; adjustment = pos 0 })
+  pub counts : o .counts ≡ replicate (rooms .counts) 0
+  pub starts : o .starts ≡ replicate (rooms .starts) zeroF32
+  pub deltas : o .deltas ≡ replicate (rooms .deltas) (pos 0)
+  pub coefficients : o .coefficients ≡ replicate (rooms .coefficients) (pos 0)

@@ -5,7 +5,8 @@ use Prim.Native.Nat.{ℕ}
 use lib.ListN.{length, replicate}
 use lib.IntN.{ℤ, pos}
 use lib.Ieee.{Float}
-use Rattle.list.specs.List.{Got, got, stop, Described, described, pointsOf}
+use Rattle.shape.specs.Shape.{pointsOf}
+use Rattle.list.specs.List.{Got, got, stop, Described, described}
 use Rattle.list.specs.Steps.{f32Of, zeroF32}
 use Rattle.read_steps.specs.Steps.{Front}
 use Rattle.reader.specs.declared.ReadAnswer.{ReadAnswer}

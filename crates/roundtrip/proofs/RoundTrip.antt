@@ -12,7 +12,8 @@ use lib.IntN.{ℤ, pos}
 use lib.Ieee.{Float}
 use borrow.Author.Tests.{le-ltb}
 use Rattle.codes.specs.declared.Code.the-variants.{Room}
-use Rattle.list.specs.List.{ListRooms, Got, got, stop, Described, described, limitOf, pointsOf, readOf, listOf}
+use Rattle.shape.specs.Shape.{pointsOf}
+use Rattle.list.specs.List.{ListRooms, Got, got, stop, Described, described, limitOf, readOf, listOf}
 use Rattle.list.specs.Steps.{f32Of, zeroF32}
 use Rattle.list.proofs.RoundTrip.{Holds, written-is-read, read-is-written, read-is-valid}
 use Rattle.reader.specs.Read.{Outcome, padded, readOutcome}
@@ -25,13 +26,7 @@ use Rattle.writer.specs.declared.WriteAnswer.{WriteAnswer}
 use Rattle.writer.proofs.Checks.{passes, fine-before, both-fine, agreed, content-fine}
 use Rattle.write_laws.specs.Floats.{Floats}
 use Rattle.write_laws.proofs.Accepts.{fine-valid, valid-fine, wholes-back, floats-back}
-
--- rooms that hold a description
-pub record Enough (rooms : ListRooms) (ns : List ℕ) (ss : List Float) (ds cs : List ℤ) : Type 0 where
-  pub counts : length ns ≤ rooms .counts
-  pub starts : length ss ≤ rooms .starts
-  pub deltas : length ds ≤ rooms .deltas
-  pub coefficients : length cs ≤ rooms .coefficients
+use Rattle.roundtrip.specs.Enough.{Enough}
 
 -- ---- what an accepted call of `write` leaves
 

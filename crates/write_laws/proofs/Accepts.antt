@@ -12,7 +12,8 @@ use lib.Ieee.Exact.{HasValue}
 use lib.Ieee.Back.{round-whole, positive-back, negative-back}
 use borrow.Author.Tests.{le-ltb, lt-leb, ltb-false, leb-false}
 use Rattle.codes.specs.declared.Code.the-variants.{Coord, Points, Delta}
-use Rattle.list.specs.List.{posLimit, deltaLimit, beyond, pointsOf, Near, Tame, Valid}
+use Rattle.shape.specs.Shape.{pointsOf}
+use Rattle.list.specs.List.{posLimit, deltaLimit, beyond, Near, Tame, Valid}
 use Rattle.list.specs.Steps.{f32Of}
 use Rattle.writer.specs.Write.{firstFault, unfit, unfitAs, startChecks, deltaChecks, splineChecks, contentChecks, wholeOf}
 use Rattle.writer.specs.declared.Verdict.the-variants.{Fine}

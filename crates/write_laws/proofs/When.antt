@@ -1,8 +1,9 @@
--- `write` refuses with a code at a place exactly when the table gives that code at that place, and writes exactly when it gives none.
+-- `write` refuses with a code at a place exactly when the table of tests (Table.antt) gives that code at that place, and writes exactly when it gives none.
 -- Each list of checks is taken apart by recursion, both ways.
 use mathlib.Core.Path.{_≡_, refl, sym, ap, subst, _∙_}
 use mathlib.Core.Bool.{Bool, true, false, _||_}
 use mathlib.Core.List.{List, [], _∷_, _++_}
+use mathlib.Core.Logic.{_↔_}
 use Prim.Native.Nat.{ℕ, zero, suc, _+_, _-_, _*_, _≤_, _<_}
 use native.Mathlib.Omega.{arith}
 use lib.Dec.{T, ltb}
@@ -13,13 +14,15 @@ use lib.Ieee.{Float}
 use borrow.Author.Tests.{lt-ltb, le-ltb, ltb-true, ltb-false}
 use Rattle.codes.specs.declared.Code.{Code}
 use Rattle.codes.specs.declared.Code.the-variants.{Splines, Coord, Points, Delta, Room, Shape}
-use Rattle.list.specs.List.{deltaLimit, beyond, limitOf, pointsOf, Tame}
-use Rattle.writer.specs.Write.{Check, check, firstFault, misshapen, miscounted, unfitAs, startChecks, deltaChecks, splineChecks, contentChecks, valuesOf, WriteOutcome, outcome, writeOf}
+use Rattle.shape.specs.Shape.{pointsOf}
+use Rattle.list.specs.List.{deltaLimit, beyond, limitOf, Tame}
+use Rattle.writer.specs.Write.{Check, check, firstFault, misshapen, miscounted, unfitAs, startChecks, deltaChecks, splineChecks, contentChecks, valuesOf, outcome, writeOf}
 use Rattle.writer.specs.declared.Verdict.{Verdict}
 use Rattle.writer.specs.declared.Verdict.the-variants.{Fine, Fault}
 use Rattle.writer.specs.declared.WriteAnswer.the-variants.{Done, Refused}
 use Rattle.writer.proofs.Checks.{fails, passes, passed, faults-before, fine-before, both-fine, agreed, content-shape, content-count, content-start, content-rest, content-fine}
-use Rattle.write_laws.specs.Refusals.{unfitPair, FitPairs, wildPair, pointsBefore, valuesBefore, SplineRefusal, points, delta, WriteRefusal, shape, splines, coord, spline, room, Accepted}
+use Rattle.write_laws.specs.Refusals.{pointsBefore}
+use Rattle.write_laws.proofs.Table.{unfitPair, FitPairs, wildPair, valuesBefore, SplineRefusal, points, delta, Given, shape, splines, coord, spline, room, Passed}
 use Rattle.write_laws.proofs.Accepts.{fine-tame, tame-fine, fine-splines, splines-fine}
 
 none : firstFault [] ≡ Fine
@@ -266,14 +269,9 @@ module _ (limit : ℕ) where
 
 -- ---- the whole
 
--- each follows from the other
-pub record Exactly (A B : Type 0) : Type 0 where
-  pub to : A → B
-  pub from : B → A
-
 module _ (ns : List ℕ) (ss : List Float) (ds cs : List ℤ) (limit size rooms : ℕ) where
   abbrev Here : Code → ℕ → Type 0
-  Here c p = WriteRefusal ns ss ds cs limit size rooms c p
+  Here c p = Given ns ss ds cs limit size rooms c p
 
   abbrev content : List Check
   content = contentChecks ns ss ds cs limit
@@ -329,7 +327,7 @@ module _ (ns : List ℕ) (ss : List Float) (ds cs : List ℤ) (limit size rooms 
       ∙ fails _ Room rooms [] (lt-ltb rooms size h)
 
   -- nothing fails
-  fine-to : firstFault (content ++ last) ≡ Fine → Accepted ns ss ds cs limit size rooms size
+  fine-to : firstFault (content ++ last) ≡ Fine → Passed ns ss ds cs limit size rooms size
   fine-to e =
       let b = both-fine content last e in
       let f = content-fine ns ss ds cs limit (b .0) in
@@ -344,7 +342,7 @@ module _ (ns : List ℕ) (ss : List Float) (ds cs : List ℤ) (limit size rooms 
         all = refl;
       }
 
-  fine-from : (values : ℕ) → Accepted ns ss ds cs limit size rooms values → firstFault (content ++ last) ≡ Fine
+  fine-from : (values : ℕ) → Passed ns ss ds cs limit size rooms values → firstFault (content ++ last) ≡ Fine
   fine-from values g =
       let h = agreed ns ss ds cs (g .shaped) in
       fine-before content last
@@ -360,14 +358,13 @@ module _ (ns : List ℕ) (ss : List Float) (ds cs : List ℤ) (a : ℤ) (configu
   abbrev verdict : Verdict
   verdict = firstFault (contentChecks ns ss ds cs (limitOf configured pixels) ++ check (ltb rooms size) Room rooms ∷ [])
 
-  pub refused-exactly-when : (c : Code) (p : ℕ)
-      → Exactly (writeOf ns ss ds cs a configured pixels rooms .answer ≡ Refused c p) (WriteRefusal ns ss ds cs (limitOf configured pixels) size rooms c p)
+  pub refused-by-tests : (c : Code) (p : ℕ)
+      → writeOf ns ss ds cs a configured pixels rooms .answer ≡ Refused c p ↔ Given ns ss ds cs (limitOf configured pixels) size rooms c p
   unfolding writeOf
-  refused-exactly-when c p =
-      record {
-        to = λ e. given-to ns ss ds cs (limitOf configured pixels) size rooms c p (told verdict e);
-        from = λ g. ap (λ (v : Verdict). outcome rooms (valuesOf ns ss ds cs a) v .answer) (given-from ns ss ds cs (limitOf configured pixels) size rooms c p g);
-      }
+  refused-by-tests c p = (
+    λ e. given-to ns ss ds cs (limitOf configured pixels) size rooms c p (told verdict e),
+    λ g. ap (λ (v : Verdict). outcome rooms (valuesOf ns ss ds cs a) v .answer) (given-from ns ss ds cs (limitOf configured pixels) size rooms c p g),
+  )
     where
       told : (v : Verdict) → outcome rooms (valuesOf ns ss ds cs a) v .answer ≡ Refused c p → v ≡ Fault c p
       told Fine e = cc
@@ -377,24 +374,18 @@ module _ (ns : List ℕ) (ss : List Float) (ds cs : List ℤ) (a : ℤ) (configu
           cc
 
   -- and it writes so many values exactly when nothing is given
-  pub done-exactly-when : (n : ℕ) → Exactly (writeOf ns ss ds cs a configured pixels rooms .answer ≡ Done n) (Accepted ns ss ds cs (limitOf configured pixels) size rooms n)
+  pub done-by-tests : (n : ℕ) → writeOf ns ss ds cs a configured pixels rooms .answer ≡ Done n ↔ Passed ns ss ds cs (limitOf configured pixels) size rooms n
   unfolding writeOf
-  done-exactly-when n =
-      record {
-        to = λ e. told verdict refl e;
-        from =
-            λ g. ap (λ (v : Verdict). outcome rooms (valuesOf ns ss ds cs a) v .answer) (fine-from ns ss ds cs (limitOf configured pixels) size rooms n g)
-            ∙ ap Done (sym (g .all));
-      }
+  done-by-tests n = (
+    λ e. told verdict refl e,
+    λ g. ap (λ (v : Verdict). outcome rooms (valuesOf ns ss ds cs a) v .answer) (fine-from ns ss ds cs (limitOf configured pixels) size rooms n g)
+        ∙ ap Done (sym (g .all)),
+  )
     where
-      told : (v : Verdict) → verdict ≡ v → outcome rooms (valuesOf ns ss ds cs a) v .answer ≡ Done n → Accepted ns ss ds cs (limitOf configured pixels) size rooms n
+      told : (v : Verdict) → verdict ≡ v → outcome rooms (valuesOf ns ss ds cs a) v .answer ≡ Done n → Passed ns ss ds cs (limitOf configured pixels) size rooms n
       told (Fault d q) f e = let z : _≡_ {A = ℕ} 0 1 = cc in absurd (omega arith)
       told Fine f e =
           let k : size ≡ n = cc in
-          subst (λ (m : ℕ). Accepted ns ss ds cs (limitOf configured pixels) size rooms m) k (fine-to ns ss ds cs (limitOf configured pixels) size rooms f)
-
-  -- any two outcomes that the contract of `write` allows are equal
-  pub one-outcome : (o o′ : WriteOutcome) → o ≡ writeOf ns ss ds cs a configured pixels rooms → o′ ≡ writeOf ns ss ds cs a configured pixels rooms → o ≡ o′
-  one-outcome o o′ p q = p ∙ sym q
+          subst (λ (m : ℕ). Passed ns ss ds cs (limitOf configured pixels) size rooms m) k (fine-to ns ss ds cs (limitOf configured pixels) size rooms f)
 
 -- Assumes nothing.

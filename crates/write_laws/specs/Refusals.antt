@@ -1,80 +1,94 @@
--- Which code is given, and at which place of the list: the table of codes for writing, where the first check that fails is the one that is told.
+-- The codes of writing, and when each is given: the table of codes, for a description. The checks stand in list order, and the first that fails is told.
+-- That a call refuses exactly so is `refused-exactly-when` of proofs/Words.antt, and that it writes exactly otherwise is `done-exactly-when`.
 use mathlib.Core.Path.{_≡_}
-use mathlib.Core.Bool.{Bool, true, false, _||_}
-use mathlib.Core.List.{List, [], _∷_}
-use Prim.Native.Nat.{ℕ, zero, suc, _+_, _*_, _≤_, _<_}
-use lib.ListN.{length, take, getD}
-use lib.IntN.{ℤ}
-use lib.Ieee.{Float}
+use mathlib.Core.Bool.{Bool, true}
+use mathlib.Core.List.{List}
+use mathlib.Core.Logic.{_⊎_}
+use Prim.Native.Nat.{ℕ, suc, _+_, _*_, _%_, _^_, _≤_, _<_}
+use lib.Dec.{eqb}
+use lib.ListN.{length, take, replicate, getD}
+use lib.IntN.{ℤ, pos, natAbs}
+use lib.Ieee.{Float, nan, inf, fin, up, down}
+use Rattle.codes.specs.Codes.{numberOf}
 use Rattle.codes.specs.declared.Code.{Code}
 use Rattle.codes.specs.declared.Code.the-variants.{Splines, Coord, Points, Delta, Room, Shape}
-use Rattle.list.specs.List.{deltaLimit, beyond, pointsOf, Tame}
-use Rattle.writer.specs.Write.{misshapen, miscounted, unfitAs}
+use Rattle.shape.specs.Shape.{pointsOf, Shaped}
+use Rattle.writer.specs.Write.{Told, WriteOutcome}
+use Rattle.writer.specs.declared.WriteAnswer.{WriteAnswer}
 
--- pair k of the starts holds a number that can't be written
-abbrev pub unfitPair : Bool → List Float → ℕ → Bool
-unfitPair first [] k = false
-unfitPair first (x ∷ []) k = false
-unfitPair first (x ∷ y ∷ ss) zero = unfitAs first x || unfitAs first y
-unfitPair first (x ∷ y ∷ ss) (suc k) = unfitPair false ss k
+-- a number that can't be written as a start, which may be the first; `fin s m e` has the magnitude m * up e / down e, and is negative where s is true
+pub data Unfit (first : Bool) : Float → Type 0 where
+  no-number : Unfit first nan
+  infinite : {s : Bool} → Unfit first (inf s)
+  -- a magnitude of 2^23 or more
+  far : {s : Bool} {m : ℕ} {e : ℤ} → 2 ^ 23 * down e ≤ m * up e → Unfit first (fin s m e)
+  not-whole : {s : Bool} {m : ℕ} {e : ℤ} → (m * up e % down e ≡ 0 → ⊥) → Unfit first (fin s m e)
+  minus-zero : {e : ℤ} → Unfit first (fin true 0 e)
+  negative-first : {m : ℕ} {e : ℤ} → first ≡ true → 0 < m → Unfit first (fin true m e)
 
--- the first k pairs of the starts can be written
-abbrev pub FitPairs : Bool → ℕ → List Float → Type 0
-FitPairs first zero ss = Unit {0}
-FitPairs first (suc k) [] = Unit {0}
-FitPairs first (suc k) (x ∷ []) = Unit {0}
-FitPairs first (suc k) (x ∷ y ∷ ss) = ((unfitAs first x || unfitAs first y) ≡ false) × FitPairs false k ss
+-- pair k of the starts, numbers 2k and 2k + 1, holds a number that can't be written
+abbrev pub UnfitPair : List Float → ℕ → Type 0
+UnfitPair ss k = Unfit (eqb k 0) (getD ss (2 * k) nan) ⊎ Unfit (eqb k 0) (getD ss (2 * k + 1) nan)
 
 -- pair k of the double deltas holds one of magnitude 2^30 or more
-abbrev pub wildPair : List ℤ → ℕ → Bool
-wildPair [] k = false
-wildPair (x ∷ []) k = false
-wildPair (x ∷ y ∷ ds) zero = beyond deltaLimit x y
-wildPair (x ∷ y ∷ ds) (suc k) = wildPair ds k
+abbrev pub WildPair : List ℤ → ℕ → Type 0
+WildPair ds k = (2 ^ 30 ≤ natAbs (getD ds (2 * k) (pos 0))) ⊎ (2 ^ 30 ≤ natAbs (getD ds (2 * k + 1) (pos 0)))
+
+-- none of the first n is so
+abbrev pub NoneOf : ℕ → (ℕ → Type 0) → Type 0
+NoneOf n P = (k : ℕ) → k < n → P k → ⊥
 
 -- the points of the first k splines
 abbrev pub pointsBefore : ℕ → List ℕ → ℕ
 pointsBefore k ns = pointsOf (take k ns)
 
--- from the first point count to that of spline k: double deltas, 128 coefficients and a count for each spline before it
-abbrev pub valuesBefore : ℕ → List ℕ → ℕ
-valuesBefore k ns = 2 * pointsBefore k ns + 129 * k
+-- where the point count of spline k stands: behind the count, the starts, the adjustment, and a count, double deltas and 128 coefficients for each spline before it
+abbrev pub countPlace : ℕ → List ℕ → ℕ
+countPlace k ns = 2 + 2 * length ns + (2 * pointsBefore k ns + 129 * k)
 
--- a code and a place that the splines give, under a limit, with the points before them and the place of the first point count
-pub data SplineRefusal (limit total place : ℕ) (ns : List ℕ) (ds : List ℤ) : Code → ℕ → Type 0 where
-  -- 4: the running total passes the limit at spline k's count, and no double delta before it is wild
-  points : (k : ℕ) → k < length ns → total + pointsBefore k ns ≤ limit → limit < total + pointsBefore (suc k) ns
-      → Tame (take (2 * pointsBefore k ns) ds)
-      → SplineRefusal limit total place ns ds Points (place + valuesBefore k ns)
-  -- 5: pair j of spline k is wild, the running total is within the limit there, and no double delta before it is wild
-  delta : (k j : ℕ) → k < length ns → j < getD ns k 0 → total + pointsBefore (suc k) ns ≤ limit
-      → Tame (take (2 * (pointsBefore k ns + j)) ds) → wildPair ds (pointsBefore k ns + j) ≡ true
-      → SplineRefusal limit total place ns ds Delta (place + valuesBefore k ns + (1 + 2 * j))
+-- how many values the list of S splines and P points has
+abbrev pub listSize : ℕ → ℕ → ℕ
+listSize S P = 2 + 131 * S + 2 * P
 
--- a code and a place that a description gives, under a limit, where its list has so many values and so many cells are lent
-pub data WriteRefusal (ns : List ℕ) (ss : List Float) (ds cs : List ℤ) (limit size room : ℕ) : Code → ℕ → Type 0 where
+-- nothing is given up to the starts: lengths agree, the count is from 1 through the limit, and every start can be written
+pub record Started (ns : List ℕ) (ss : List Float) (ds cs : List ℤ) (limit : ℕ) : Type 0 where
+  pub shaped : Shaped ns ss ds cs
+  pub some : 0 < length ns
+  pub few : length ns ≤ limit
+  pub fit : NoneOf (length ns) (UnfitPair ss)
+
+-- the table: a code and a place that a description gives, under a limit, where so many cells are lent
+pub data WriteRefusal (ns : List ℕ) (ss : List Float) (ds cs : List ℤ) (limit room : ℕ) : Code → ℕ → Type 0 where
   -- 9: lengths disagree
-  shape : misshapen ns ss ds cs ≡ true → WriteRefusal ns ss ds cs limit size room Shape 0
+  shape : (Shaped ns ss ds cs → ⊥) → WriteRefusal ns ss ds cs limit room Shape 0
   -- 2: a count of 0 or above the limit
-  splines : misshapen ns ss ds cs ≡ false → miscounted limit (length ns) ≡ true → WriteRefusal ns ss ds cs limit size room Splines 0
+  splines : Shaped ns ss ds cs → (length ns ≡ 0) ⊎ (limit < length ns) → WriteRefusal ns ss ds cs limit room Splines 0
   -- 3: pair k of the starts is the first that can't be written
-  coord : misshapen ns ss ds cs ≡ false → miscounted limit (length ns) ≡ false
-      → (k : ℕ) → FitPairs true k ss → unfitPair true ss k ≡ true
-      → WriteRefusal ns ss ds cs limit size room Coord (1 + 2 * k)
-  -- 4 and 5: all starts can be written, and the splines give the code
-  spline : misshapen ns ss ds cs ≡ false → miscounted limit (length ns) ≡ false → FitPairs true (length ns) ss
-      → {c : Code} {p : ℕ} → SplineRefusal limit 0 (2 * length ns + 2) ns ds c p
-      → WriteRefusal ns ss ds cs limit size room c p
+  coord : Shaped ns ss ds cs → 0 < length ns → length ns ≤ limit
+      → (k : ℕ) → k < length ns → NoneOf k (UnfitPair ss) → UnfitPair ss k
+      → WriteRefusal ns ss ds cs limit room Coord (1 + 2 * k)
+  -- 4: the running total passes the limit at the count of spline k, and no double delta before it is wild
+  points : Started ns ss ds cs limit → (k : ℕ) → k < length ns → pointsBefore k ns ≤ limit → limit < pointsBefore (suc k) ns
+      → NoneOf (pointsBefore k ns) (WildPair ds)
+      → WriteRefusal ns ss ds cs limit room Points (countPlace k ns)
+  -- 5: pair j of spline k is wild, the running total is within the limit there, and no double delta before it is wild
+  delta : Started ns ss ds cs limit → (k j : ℕ) → k < length ns → j < getD ns k 0 → pointsBefore (suc k) ns ≤ limit
+      → NoneOf (pointsBefore k ns + j) (WildPair ds) → WildPair ds (pointsBefore k ns + j)
+      → WriteRefusal ns ss ds cs limit room Delta (countPlace k ns + 1 + 2 * j)
   -- 7: nothing else is given, and the list is too short
-  room : misshapen ns ss ds cs ≡ false → miscounted limit (length ns) ≡ false → FitPairs true (length ns) ss → pointsOf ns ≤ limit → Tame ds → room < size
-      → WriteRefusal ns ss ds cs limit size room Room room
+  room : Started ns ss ds cs limit → pointsOf ns ≤ limit → NoneOf (pointsOf ns) (WildPair ds) → room < listSize (length ns) (pointsOf ns)
+      → WriteRefusal ns ss ds cs limit room Room room
 
 -- 0: nothing is given, and so many values are written
-pub record Accepted (ns : List ℕ) (ss : List Float) (ds cs : List ℤ) (limit size room values : ℕ) : Type 0 where
-  pub shaped : misshapen ns ss ds cs ≡ false
-  pub counted : miscounted limit (length ns) ≡ false
-  pub fit : FitPairs true (length ns) ss
+pub record Accepted (ns : List ℕ) (ss : List Float) (ds cs : List ℤ) (limit room values : ℕ) : Type 0 where
+  pub started : Started ns ss ds cs limit
   pub within : pointsOf ns ≤ limit
-  pub tame : Tame ds
-  pub held : size ≤ room
-  pub all : values ≡ size
+  pub tame : NoneOf (pointsOf ns) (WildPair ds)
+  pub held : listSize (length ns) (pointsOf ns) ≤ room
+  pub all : values ≡ listSize (length ns) (pointsOf ns)
+
+-- an outcome of a refusal: the code's number, its place, no values, and nothing but zeros
+pub record WriteRefused (room : ℕ) (c : Code) (p : ℕ) (o : WriteOutcome) : Type 0 where
+  pub answer : o .answer ≡ WriteAnswer.Refused c p
+  pub told : _≡_ {A = Told} (o .told) (record { number = numberOf c; place = p; values = 0 })
+  pub list : o .list ≡ replicate room 0

@@ -14,7 +14,9 @@ use lib.Signed.{ltZ, leZ}
 use borrow.Author.Tests.{lt-ltb, le-ltb, le-leb, lt-leb, ltb-true, ltb-false, eq-eqb, ne-eqb, eqb-true, eqb-false, not-false}
 use Rattle.codes.specs.declared.Code.{Code}
 use Rattle.codes.specs.declared.Code.the-variants.{Splines, Coord, Points, Delta, Shape}
-use Rattle.list.specs.List.{deltaLimit, pointsOf}
+use Rattle.shape.proofs.Shape.{is-shaped, shaped-is}
+use Rattle.shape.specs.Shape.{pointsOf}
+use Rattle.list.specs.List.{deltaLimit}
 use Rattle.writer.specs.Write.{Check, check, firstFault, misshapen, miscounted, contentChecks, unfitAs, startChecks, deltaChecks, splineChecks}
 use Rattle.writer.specs.declared.Verdict.the-variants.{Fine, Fault}
 
@@ -56,44 +58,15 @@ both-fine [] ys e = (refl, e)
 both-fine (check true d q ∷ xs) ys e = let z : _≡_ {A = ℕ} 0 1 = cc in absurd (omega arith)
 both-fine (check false d q ∷ xs) ys e = both-fine xs ys e
 
--- the sum of what is left of the counts
-pub sum-turn : (ns : List ℕ) (i : ℕ) → i < length ns → pointsOf (drop i ns) ≡ getD ns i 0 + pointsOf (drop (i + 1) ns)
-sum-turn ns i h = rw (add-one, drop-cons ns i 0)
-
-pub sum-end : (ns : List ℕ) (i : ℕ) → length ns ≤ i → pointsOf (drop i ns) ≡ 0
-sum-end ns i h = rw (drop-of-length-le ns h)
-
-pub sum-left : (ns : List ℕ) (points left : ℕ) → left ≤ points → 0 + (points - left) ≡ pointsOf ns → eqb left 0 ≡ eqb (pointsOf ns) points
-sum-left ns points zero h e = sym (eq-eqb (pointsOf ns) points (omega arith))
-sum-left ns points (suc left) h e = ne-eqb (suc left) 0 (λ s. omega arith) ∙ sym (ne-eqb (pointsOf ns) points (λ s. omega arith))
-
--- the lengths, one after the other
+-- the lengths
 module _ (ns : List ℕ) (ss : List Float) (ds cs : List ℤ) where
-  pub off-starts : (length ss ≡ 2 * length ns → ⊥) → true ≡ misshapen ns ss ds cs
-  unfolding misshapen
-  off-starts e = rw (ne-eqb (length ss) (2 * length ns) e)
-
-  pub off-deltas : length ss ≡ 2 * length ns → (length ds ≡ 2 * pointsOf ns → ⊥) → true ≡ misshapen ns ss ds cs
-  unfolding misshapen
-  off-deltas d e = rw (eq-eqb (length ss) (2 * length ns) d, ne-eqb (length ds) (2 * pointsOf ns) e)
-
-  pub off-coefficients : length ss ≡ 2 * length ns → length ds ≡ 2 * pointsOf ns → (length cs ≡ 128 * length ns → ⊥) → true ≡ misshapen ns ss ds cs
-  unfolding misshapen
-  off-coefficients c d e = rw (eq-eqb (length ss) (2 * length ns) c, eq-eqb (length ds) (2 * pointsOf ns) d, ne-eqb (length cs) (128 * length ns) e)
-
   pub agree : length ss ≡ 2 * length ns → length ds ≡ 2 * pointsOf ns → length cs ≡ 128 * length ns → false ≡ misshapen ns ss ds cs
   unfolding misshapen
-  agree c d e = rw (eq-eqb (length ss) (2 * length ns) c, eq-eqb (length ds) (2 * pointsOf ns) d, eq-eqb (length cs) (128 * length ns) e)
+  agree c d e = sym (ap not (is-shaped ns ss ds cs (record { starts = c; deltas = d; coefficients = e })))
 
   pub agreed : misshapen ns ss ds cs ≡ false → (length ss ≡ 2 * length ns) × (length ds ≡ 2 * pointsOf ns) × (length cs ≡ 128 * length ns)
   unfolding misshapen
-  agreed e =
-      let a = neither (not (eqb (length ss) (2 * length ns))) (not (eqb (length ds) (2 * pointsOf ns)) || not (eqb (length cs) (128 * length ns))) e in
-      let b = neither (not (eqb (length ds) (2 * pointsOf ns))) (not (eqb (length cs) (128 * length ns))) (a .1) in (
-        eqb-true (length ss) (2 * length ns) (not-false _ (a .0)),
-        eqb-true (length ds) (2 * pointsOf ns) (not-false _ (b .0)),
-        eqb-true (length cs) (128 * length ns) (not-false _ (b .1)),
-      )
+  agreed e = let s = shaped-is ns ss ds cs (not-false _ e) in (s .starts, s .deltas, s .coefficients)
 
 -- whether a double delta is of magnitude 2^30 or more, from its order
 abbrev wild : ℤ → Bool

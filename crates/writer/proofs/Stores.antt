@@ -9,11 +9,13 @@ use lib.ListN.{length, take, drop, set, getD, replicate, length-set, length-drop
 use lib.Seq.{drop-cons, drop-drop, sets, length-sets, sets-eq, length-take-le}
 use lib.IntN.{ℤ, pos, natAbs, _-ℤ_}
 use lib.Ieee.{Float, nan}
-use Rattle.list.specs.List.{packSigned, pointsOf, startsList, splineList, splinesList}
+use Rattle.shape.specs.Shape.{pointsOf}
+use Rattle.list.specs.List.{packSigned, startsList, splineList, splinesList}
 use Rattle.writer.specs.Write.{firstFault, unfit, startChecks, wholeOf, valuesOf}
 use Rattle.writer.specs.Steps.{laterList}
 use Rattle.writer.specs.declared.Verdict.the-variants.{Fine}
-use Rattle.writer.proofs.Checks.{sum-turn, starts-fine}
+use Rattle.shape.proofs.Shape.{sum-turn}
+use Rattle.writer.proofs.Checks.{starts-fine}
 use Rattle.writer.proofs.Starts.{fit-any}
 
 -- stores of one list after another

@@ -6,7 +6,8 @@ use Prim.Native.Nat.{ℕ, _+_, _-_, _*_, _^_, _≤_, _<_}
 use lib.ListN.{length, drop, getD}
 use lib.IntN.{ℤ}
 use lib.Ieee.{Float, nan}
-use Rattle.list.specs.List.{startsList, pointsOf}
+use Rattle.shape.specs.Shape.{pointsOf}
+use Rattle.list.specs.List.{startsList}
 use Rattle.writer.specs.Write.{firstFault, startChecks, wholeOf}
 use Rattle.writer.specs.declared.Verdict.the-variants.{Fine}
 

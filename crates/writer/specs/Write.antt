@@ -10,7 +10,8 @@ use lib.Ieee.{Float, nan, inf, fin, binary32, ofBits, up, down, lt, toSigned}
 use Rattle.codes.specs.Codes.{numberOf}
 use Rattle.codes.specs.declared.Code.{Code}
 use Rattle.codes.specs.declared.Code.the-variants.{Splines, Coord, Points, Delta, Room, Shape}
-use Rattle.list.specs.List.{described, listOf, limitOf, posLimit, deltaLimit, beyond, pointsOf}
+use Rattle.shape.specs.Shape.{shaped}
+use Rattle.list.specs.List.{described, listOf, limitOf, posLimit, deltaLimit, beyond}
 use Rattle.writer.specs.declared.Verdict.{Verdict}
 use Rattle.writer.specs.declared.Verdict.the-variants.{Fine, Fault}
 use Rattle.writer.specs.declared.WriteAnswer.{WriteAnswer}
@@ -26,11 +27,9 @@ firstFault [] = Fine
 firstFault (check true c p ∷ rest) = Fault c p
 firstFault (check false c p ∷ rest) = firstFault rest
 
--- S counts need 2S start numbers, two delta numbers a point and 128S coefficients
+-- lengths disagree
 unfoldable pub misshapen : List ℕ → List Float → List ℤ → List ℤ → Bool
-misshapen counts starts deltas coefficients =
-    not (eqb (length starts) (2 * length counts))
-    || (not (eqb (length deltas) (2 * pointsOf counts)) || not (eqb (length coefficients) (128 * length counts)))
+misshapen counts starts deltas coefficients = not (shaped counts starts deltas coefficients)
 
 -- no spline, or more than the limit
 unfoldable pub miscounted : ℕ → ℕ → Bool

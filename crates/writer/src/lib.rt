@@ -3,15 +3,17 @@ use codes::Code;
 use list::clear_u32;
 use list::limit;
 use list::pack_signed;
+use shape::shape_good;
 ghost use mathlib.Core.Path.{_≡_};
 ghost use mathlib.Core.Bool.{Bool};
 ghost use mathlib.Core.List.{_∷_, _++_, map};
 ghost use Prim.Native.Nat.{_+_, _-_, _*_, _≤_, _<_, _^_, _%_};
-ghost use lib.Dec.{eqb, leb};
+ghost use lib.Dec.{leb};
 ghost use lib.ListN.{length, getD};
 ghost use lib.Seq.{sets};
 ghost use lib.IntN.{pos, natAbs, _-ℤ_};
-ghost use Rattle.list.specs.List.{packSigned, deltaLimit, pointsOf, startsList, splinesList};
+ghost use Rattle.shape.specs.Shape.{pointsOf};
+ghost use Rattle.list.specs.List.{packSigned, deltaLimit, startsList, splinesList};
 ghost use Rattle.writer.specs.Steps.{laterList, Writable};
 ghost use Rattle.writer.specs.Write.{firstFault, misshapen, unfit, unfitAs, startChecks, deltaChecks, splineChecks, contentChecks, wholeOf, valuesOf, leaves, writeOf};
 
@@ -26,44 +28,11 @@ pub enum Verdict {
     Fault(Code, usize),
 }
 
-// Whether the counts sum to just so many points: the sum itself may be too large to hold, so points are taken away instead.
-fn sum_is(counts: &[u32], points: usize) -> bool
-    ensures { λ r. ⌜ r ≡ eqb (pointsOf (now (counts .entry))) points ⌝ }
-{
-    let mut left = points;
-    let mut i = 0;
-    while i < counts.len() {
-        let n = counts[i] as usize;
-        if left < n {
-            return false;
-        }
-        left -= n;
-        i += 1;
-    }
-    left == 0
-}
-
-// Whether the lengths disagree: 128 times a count may be too large to hold, so the coefficients are divided instead.
+// Whether the lengths disagree.
 fn disagree(counts: &[u32], starts: &[f32], deltas: &[i32], coefficients: &[i32]) -> bool
     ensures { λ r. ⌜ r ≡ misshapen (now (counts .entry)) (now (starts .entry)) (now (deltas .entry)) (now (coefficients .entry)) ⌝ }
 {
-    let splines = counts.len();
-    if starts.len() != 2 * splines {
-        return true;
-    }
-    if deltas.len() % 2 != 0 {
-        return true;
-    }
-    if !sum_is(counts, deltas.len() / 2) {
-        return true;
-    }
-    if coefficients.len() / 128 != splines {
-        return true;
-    }
-    if coefficients.len() % 128 != 0 {
-        return true;
-    }
-    false
+    !shape_good(counts, starts, deltas, coefficients)
 }
 
 // Whether a double delta has magnitude 2^30 or more.

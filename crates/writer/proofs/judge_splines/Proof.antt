@@ -4,9 +4,10 @@ use Prim.Native.Nat.{_+_, _-_, _*_, _≤_}
 use native.Mathlib.Omega.{arith}
 use borrow.Author.Needs.{needs}
 use lib.ListN.{length, drop, getD}
-use Rattle.list.specs.List.{pointsOf}
+use Rattle.shape.specs.Shape.{pointsOf}
 use Rattle.writer.specs.Write.{firstFault, splineChecks}
-use Rattle.writer.proofs.Checks.{length-part, sum-turn, spline-over, spline-wild, spline-pass, splines-end}
+use Rattle.shape.proofs.Shape.{sum-turn}
+use Rattle.writer.proofs.Checks.{length-part, spline-over, spline-wild, spline-pass, splines-end}
 use Rattle.writer.proofs.judge_splines.Statement.{statement}
 use Rattle.writer.proofs.judge_splines.Tie as tie
 

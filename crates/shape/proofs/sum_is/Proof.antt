@@ -1,14 +1,14 @@
--- `writer::sum_is` meets its contract: what is left of the points stands against what is left of the counts.
+-- `sum_is`: what is left of the points stands against what is left of the counts.
 use mathlib.Core.Path.{_≡_, sym}
 use Prim.Native.Nat.{_+_, _-_, _≤_}
 use native.Mathlib.Omega.{arith}
 use borrow.Author.Needs.{needs}
 use borrow.Author.Tests.{ne-eqb}
 use lib.ListN.{length, drop}
-use Rattle.list.specs.List.{pointsOf}
-use Rattle.writer.proofs.Checks.{sum-turn, sum-end, sum-left}
-use Rattle.writer.proofs.sum_is.Statement.{statement}
-use Rattle.writer.proofs.sum_is.Tie as tie
+use Rattle.shape.specs.Shape.{pointsOf}
+use Rattle.shape.proofs.Shape.{sum-turn, sum-end, sum-left}
+use Rattle.shape.proofs.sum_is.Statement.{statement}
+use Rattle.shape.proofs.sum_is.Tie as tie
 
 abbrev Inv-loop : tie.InvT-loop
 Inv-loop counts points left₀ i₀ left i = (i ≤ length counts) × (left ≤ points) × (pointsOf (drop i counts) + (points - left) ≡ pointsOf counts)

@@ -1,0 +1,2 @@
+-- The definitions of the crate `shape`.
+pub mod Shape
