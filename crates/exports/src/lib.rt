@@ -1,0 +1,1 @@
+// Laws on the contracts of the exported calls, and no code.
