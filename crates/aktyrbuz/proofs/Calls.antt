@@ -12,7 +12,9 @@ use Rattle.write_laws.specs.Floats.{Floats}
 use Rattle.dequantize.specs.Judge.{Description}
 use Rattle.table.specs.Table.{Setting, buildOf}
 use Rattle.table.specs.Table as building
-use Rattle.picture.specs.Picture.{Built}
+use Rattle.segments.specs.declared.Segment.{Segment}
+use Rattle.picture.specs.Picture.{Built, segmentsOf}
+use Rattle.picture.proofs.Makes.{built-are}
 use Rattle.draw.specs.Draw.{Table, Channels, DrawOutcome, drawOf}
 use Rattle.draw.specs.Draw as drawing
 use Rattle.draw.specs.Parts.{Part, Draws, Drawn}
@@ -21,7 +23,7 @@ use Rattle.draw.specs.Image.{Job, DrawnAll}
 use Rattle.draw.specs.Image as images
 use Rattle.draw.specs.Reach.{ReachOutcome, reachOf}
 use Rattle.draw.specs.Reach as reaching
-use Rattle.aktyrbuz.specs.Calls.{ReadCall, reads, WriteCall, writes, BuildCall, builds, DrawCall, draws, ReachCall, reaches, LnCall, logs, BuildDone, PartCall, RowCalls, ImageCalls}
+use Rattle.aktyrbuz.specs.Calls.{ReadCall, reads, WriteCall, writes, BuildCall, builds, DrawCall, draws, ReachCall, reaches, LnCall, logs, BuildDone, KeptTable, PartCall, RowCalls, ImageCalls}
 use Rattle.aktyrbuz.specs.Calls as calls
 
 pub read-equation : (l : List ℕ) (configured pixels : ℕ) (rooms : ListRooms) (o : Outcome) → ReadCall l configured pixels rooms o → o ≡ readOutcome configured pixels rooms l
@@ -46,7 +48,11 @@ reach-equation t y W o (reaches κs _ _ _ _ _ _ _ _ _ _ _ _ _ _ _ _ _ p) = p
 pub ln-equation : (x r : Float) → LnCall x r → r ≡ lnOf x
 ln-equation x r (logs κs _ _ _ p) = p
 
--- what a drawing tells is told by its answer, and so is what a reach tells
+-- what a build tells is told by its answer, and so is what a drawing or a reach tells
+pub build-told-by : (d : Description) (i : Setting) (r : building.BuildRooms) (o : building.BuildOutcome) → BuildCall d i r o
+    → o ≡ building.leaves (o .answer) (o .path) (o .walk) (o .segments) (o .starts) (o .entries)
+build-told-by d i r o (builds κs _ _ _ _ _ _ _ _ _ _ _ _ _ _ _ _ _ _ _ _ _ _ _ _ _ _ _ _ _ _ _ _ _ p) = refl
+
 pub told-by : (t : Table) (y x0 n : ℕ) (a : Channels) (o : DrawOutcome) → DrawCall t y x0 n a o → o ≡ drawing.leaves (o .answer) (o .channels)
 told-by t y x0 n a o (draws κs _ _ _ _ _ _ _ _ _ _ _ _ _ _ _ _ _ _ _ _ _ _ _ _ _ p) = refl
 
@@ -57,6 +63,10 @@ reach-told-by t y W o (reaches κs _ _ _ _ _ _ _ _ _ _ _ _ _ _ _ _ _ p) = refl
 
 pub built-by : {d : Description} {i : Setting} {r : building.BuildRooms} {o : building.BuildOutcome} {s e estimate : ℕ} → BuildDone d i r o s e estimate → Built d i r o s e estimate
 built-by {d} {i} {r} {o} b = record { outcome = build-equation d i r o (b .called); done = b .done }
+
+-- the segments that the description makes are those of the build
+pub kept-are : {d : Description} {i : Setting} {segments : List Segment} {t : Table} (k : KeptTable d i segments t) → segments ≡ segmentsOf d i (k .rooms)
+kept-are {d} {i} {segments} k = built-are (built-by (k .done)) segments (k .makes)
 
 part-by : {t : Table} {y : ℕ} {p : Part} {a b : Channels} {count : ℕ} → PartCall t y p a count b → Draws t y p a count b
 part-by {t} {y} {p} {a} c =

@@ -32,9 +32,16 @@ use Rattle.picture.specs.Picture.{imagePairs}
 use Rattle.picture.proofs.Tables.{built-table}
 use Rattle.picture.proofs.Keeping.{kept-lists, draw-fine, reach-fine}
 use Rattle.picture.proofs.Pictures as pictures
-use Rattle.picture.proofs.Rooms.{same-segments}
-use Rattle.aktyrbuz.specs.Demands.{ReadsAsSplineRs, WritesTheList, WrittenIsRead, ReadIsWritten, BuildsAsSplineRs, BuildsTheTable, DrawsAsSplineRs, ReachesByTheRule, LogsByItsSteps, RefusedLeavesZero, RefusedDrawsNothing, DrawCodes, ReachCodes, BuiltIsDrawn, OnceAscending, OtherRowsDontMatter, RowInParts, ImageInParts, KeepsOtherCells, RowUpdates, ImageUpdates, UpdatesSum, RoomChangesNothing, OneOutcome}
-use Rattle.aktyrbuz.proofs.Calls.{read-equation, write-equation, write-floats, build-equation, draw-equation, reach-equation, ln-equation, told-by, reach-told-by, built-by, row-by, image-by}
+use Rattle.picture.proofs.Makes.{built-are}
+use Rattle.numbers.proofs.Ieee754.{ieee754}
+use Rattle.segments.proofs.Expressions.{as-spline-rs}
+use Rattle.dequantize.specs.Judge.{Description}
+use Rattle.table.proofs.Segments as making
+use Rattle.table.specs.declared.BuildAnswer.{BuildAnswer}
+use Rattle.aktyrbuz.specs.Demands.{ReadsAsSplineRs, WritesTheList, WrittenIsRead, ReadIsWritten, BuildsAsSplineRs, BuildsTheTable, EnoughRoomIsDone, NumbersByIeee754, DrawsAsSplineRs, ReachesByTheRule, LogsByItsSteps, RefusedLeavesZero, RefusedDrawsNothing, BuildCodes, DrawCodes, ReachCodes, CodesExactly, BuiltIsDrawn, OnceAscending, OtherRowsDontMatter, RowInParts, ImageInParts, KeepsOtherCells, RowUpdates, ImageUpdates, UpdatesSum, OneOutcome}
+use Rattle.aktyrbuz.specs.Calls.{BuildDone}
+use Rattle.aktyrbuz.proofs.ListCodes.{read-codes, write-codes}
+use Rattle.aktyrbuz.proofs.Calls.{read-equation, write-equation, write-floats, build-equation, draw-equation, reach-equation, ln-equation, told-by, build-told-by, reach-told-by, built-by, kept-are, row-by, image-by}
 
 -- ---- the same numbers
 
@@ -57,8 +64,27 @@ read-is-written configured pixels rooms l q s p a r done room fits o w =
 pub builds-as-spline-rs : BuildsAsSplineRs
 builds-as-spline-rs = build-equation
 
+done-answer : {d : Description} {i : building.Setting} {r : building.BuildRooms} {o : building.BuildOutcome} {s e estimate : ℕ} → BuildDone d i r o s e estimate
+    → building.buildOf d i r .answer ≡ BuildAnswer.Done s e estimate
+done-answer {d} {i} {r} {o} b = sym (ap (λ (u : building.BuildOutcome). u .answer) (build-equation d i r o (b .called))) ∙ b .done
+
 pub builds-the-table : BuildsTheTable
-builds-the-table d i r o s e estimate b = built-table (built-by b)
+builds-the-table = record {
+  made = λ d i r o s e estimate b. making.build-makes d i r s e estimate (done-answer b);
+  one = making.one-list;
+  table = λ d i r o s e estimate b segments m. rw (built-are (built-by b) segments m) (built-table (built-by b));
+}
+
+pub enough-room-is-done : EnoughRoomIsDone
+enough-room-is-done = record {
+  enough = λ d i r segments o n b. build-equation d i r o b ∙ making.enough-is-done d i r segments n;
+  more = λ d i r r′ o o′ s e estimate l b c.
+      let same = making.more-room-never-refuses d i r r′ s e estimate l (done-answer b) in
+      rw (build-equation d i r o (b .called), build-equation d i r′ o′ c) same;
+}
+
+pub numbers-by-ieee754 : NumbersByIeee754
+numbers-by-ieee754 = record { numbers = ieee754; ranges = as-spline-rs }
 
 pub draws-as-spline-rs : DrawsAsSplineRs
 draws-as-spline-rs = draw-equation
@@ -148,6 +174,18 @@ reach-codes = record {
       ap (λ (u : reaching.ReachOutcome). u .told) (reach-told-by t y W o d) ∙ ap reaching.toldOf (e ∙ ap (ReachAnswer.Refused c) place);
 }
 
+pub build-codes : BuildCodes
+build-codes = record {
+  exactly = λ d i r o b c p.
+      let is = ap (λ (u : building.BuildOutcome). u .answer) (build-equation d i r o b) in
+      let when = building-laws.refused-exactly d i r c p in
+      (λ e. when .0 (sym is ∙ e), λ l. is ∙ when .1 l);
+  told = λ d i r o b c p e. ap (λ (u : building.BuildOutcome). u .told) (build-told-by d i r o b) ∙ ap building.toldOf e;
+}
+
+pub codes-exactly : CodesExactly
+codes-exactly = record { read = read-codes; write = write-codes; build = build-codes; draw = draw-codes; reach = reach-codes }
+
 pub built-is-drawn : BuiltIsDrawn
 built-is-drawn = record {
   draw = λ d i segments t k y x0 n a o h f c.
@@ -172,12 +210,12 @@ other-rows-dont-matter = record {
 
 pub row-in-parts : RowInParts
 row-in-parts d i segments t k y W a w sum z =
-    rw (k .are)
+    rw (kept-are k)
     (pictures.row-in-parts (built-by (k .done)) (k .kept) W (z .narrow) y (z .in-image) (z .widths) (z .cut) (z .parts) (z .order) a w (z .wide) sum (row-by (z .drawn)))
 
 pub image-in-parts : ImageInParts
 image-in-parts d i segments t k W a w sum z y h =
-    rw (k .are)
+    rw (kept-are k)
     (pictures.image-in-parts (built-by (k .done)) (k .kept) W (z .narrow) (z .widths) (z .tall) (z .cut) (z .parts) (z .order) a w (z .wide) sum (image-by (z .drawn)) y
     (omega (arith, h, k .kept .height)))
 
@@ -191,20 +229,17 @@ row-updates : RowUpdates
 row-updates d i segments t k y W a w sum z =
     let exact = pictures.row-updates (built-by (k .done)) (k .kept) W (z .narrow) y (z .in-image) (z .widths) (z .cut) (z .parts) (z .order) a w (z .wide) sum (row-by (z .drawn)) in
     let most = pictures.row-updates-most (built-by (k .done)) (k .kept) W (z .narrow) y (z .in-image) (z .widths) (z .cut) (z .parts) (z .order) a w (z .wide) sum (row-by (z .drawn)) in
-    (rw (k .are) exact, most)
+    (rw (kept-are k) exact, most)
 
 image-updates : ImageUpdates
 image-updates d i segments t k W a w sum z =
     let exact = pictures.image-updates (built-by (k .done)) (k .kept) W (z .narrow) (z .widths) (z .tall) (z .cut) (z .parts) (z .order) a w (z .wide) sum (image-by (z .drawn)) in
     let most = pictures.image-updates-most (built-by (k .done)) (k .kept) W (z .narrow) (z .widths) (z .tall) (z .cut) (z .parts) (z .order) a w (z .wide) sum (image-by (z .drawn)) in
-    let same : sum ≡ imagePairs segments W 0 (t .height) = rw (k .are) exact in
+    let same : sum ≡ imagePairs segments W 0 (t .height) = rw (kept-are k) exact in
     (same ∙ ap (imagePairs segments W 0) (sym (k .kept .height)), subst (λ (n : ℕ). sum ≤ mostPairs t W 0 n) (sym (k .kept .height)) most)
 
 pub updates-sum : UpdatesSum
 updates-sum = record { row = row-updates; image = image-updates }
-
-pub room-changes-nothing : RoomChangesNothing
-room-changes-nothing d i segments others t u a b = a .are ∙ same-segments (built-by (a .done)) (built-by (b .done)) ∙ sym (b .are)
 
 -- ---- an equation determines its outcome
 

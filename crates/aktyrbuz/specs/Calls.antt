@@ -22,7 +22,8 @@ use Rattle.table.specs.declared.BuildAnswer.{BuildAnswer}
 use Rattle.table.proofs.build.Reads as build
 use Rattle.draw.specs.Draw.{Table, tableOf, Channels, three, DrawOutcome, leaves}
 use Rattle.segments.specs.declared.Segment.{Segment}
-use Rattle.picture.specs.Picture.{built, segmentsOf}
+use Rattle.table.specs.Segments.{Makes}
+use Rattle.picture.specs.Picture.{built}
 use Rattle.draw.specs.Alike.{Kept}
 use Rattle.draw.specs.Parts.{Part, cuts, total, cellsOf, placedIn, Wide}
 use Rattle.draw.specs.Image.{Job, job, jobs, Each, withRow}
@@ -86,7 +87,7 @@ pub record BuildDone (d : Description) (i : Setting) (r : building.BuildRooms) (
   pub called : BuildCall d i r o
   pub done : o .answer ≡ BuildAnswer.Done s e estimate
 
--- a table that a build left, in the cells that it filled or wherever it is kept, whatever stands behind its counts; and the segments of the description that it holds
+-- a table that a build left, in the cells that it filled or wherever it is kept, whatever stands behind its counts; and the segments that the description makes
 pub record KeptTable (d : Description) (i : Setting) (segments : List Segment) (t : Table) : Type 0 where
   pub rooms : building.BuildRooms
   pub outcome : building.BuildOutcome
@@ -95,7 +96,7 @@ pub record KeptTable (d : Description) (i : Setting) (segments : List Segment) (
   pub estimate : ℕ
   pub done : BuildDone d i rooms outcome s e estimate
   pub kept : Kept (built i outcome s e) t
-  pub are : segments ≡ segmentsOf d i rooms
+  pub makes : Makes d i segments
 
 -- ---- runs of drawing
 

@@ -14,6 +14,7 @@ use Rattle.codes.specs.declared.Code.{Code}
 use Rattle.numbers.specs.Whole.{roundOf}
 use Rattle.numbers.specs.Length.{lengthOf}
 use Rattle.numbers.specs.Ln.{lnOf}
+use Rattle.numbers.specs.Ieee754.{Ieee754}
 use Rattle.shape.specs.Shape.{pointsOf}
 use Rattle.list.specs.List.{ListRooms, unpackSigned}
 use Rattle.list.specs.Steps.{zeroF32}
@@ -31,8 +32,11 @@ use Rattle.segments.specs.declared.Segment.{Segment}
 use Rattle.segments.specs.Segment.{segmentAt}
 use Rattle.segments.specs.Ranges.{at, rounded, hasRow, hasColumn}
 use Rattle.segments.specs.Readings.{spot}
+use Rattle.segments.specs.Expressions.{AsSplineRs}
 use Rattle.table.specs.Table.{Setting, buildOf, zeros}
 use Rattle.table.specs.Table as building
+use Rattle.table.specs.Segments.{Makes, BuildMakes, NeedsMet, doneWith, NoLess, SameTable}
+use Rattle.table.specs.Refusals.{BuildRefusal}
 use Rattle.table.specs.declared.BuildAnswer.{BuildAnswer}
 use Rattle.picture.specs.Picture.{BuiltTable, Lists, rowPairs, imagePairs, RowPicture}
 use Rattle.draw.specs.Draw.{Table, rowOf, Channels, DrawOutcome, drawOf}
@@ -44,6 +48,7 @@ use Rattle.draw.specs.Image as drawing
 use Rattle.draw.specs.declared.DrawAnswer.{DrawAnswer}
 use Rattle.draw.specs.declared.ReachAnswer.{ReachAnswer}
 use Rattle.draw.specs.Reach.{ReachOutcome, reachOf}
+use Rattle.aktyrbuz.specs.ListCodes.{ReadCodes, WriteCodes}
 use Rattle.aktyrbuz.specs.Calls.{ReadCall, WriteCall, BuildCall, DrawCall, ReachCall, LnCall, BuildDone, KeptTable, RowRun, ImageRun}
 
 -- ---- the same numbers as spline.rs
@@ -79,10 +84,19 @@ ReadIsWritten =
 abbrev pub BuildsAsSplineRs : Type 0
 BuildsAsSplineRs = (d : Description) (i : Setting) (r : building.BuildRooms) (o : building.BuildOutcome) → BuildCall d i r o → o ≡ buildOf d i r
 
--- where it is done, the cells hold the segments of the description, and each row lists those that have it, once each, ascending
-abbrev pub BuildsTheTable : Type 0
-BuildsTheTable =
-    (d : Description) (i : Setting) (r : building.BuildRooms) (o : building.BuildOutcome) (s e estimate : ℕ) → BuildDone d i r o s e estimate → BuiltTable d i r o s e estimate
+-- where it is done, the description makes a list of segments, which is the only one whatever was lent; the cells hold them, and each row lists those that have it, once each, ascending
+pub record BuildsTheTable : Type 0 where
+  pub made : (d : Description) (i : Setting) (r : building.BuildRooms) (o : building.BuildOutcome) (s e estimate : ℕ) → BuildDone d i r o s e estimate → BuildMakes d i r s e estimate
+  pub one : (d : Description) (i : Setting) (segments others : List Segment) → Makes d i segments → Makes d i others → segments ≡ others
+  pub table : (d : Description) (i : Setting) (r : building.BuildRooms) (o : building.BuildOutcome) (s e estimate : ℕ) → BuildDone d i r o s e estimate
+      → (segments : List Segment) → Makes d i segments → BuiltTable d i r segments o s e estimate
+
+-- a build whose needs are met is done, and with at least as much room as one that is done it is done too, with the same counts and the same table
+pub record EnoughRoomIsDone : Type 0 where
+  pub enough : (d : Description) (i : Setting) (r : building.BuildRooms) (segments : List Segment) (o : building.BuildOutcome) → NeedsMet d i r segments → BuildCall d i r o
+      → o ≡ doneWith d i r segments
+  pub more : (d : Description) (i : Setting) (r r′ : building.BuildRooms) (o o′ : building.BuildOutcome) (s e estimate : ℕ) → NoLess r r′ → BuildDone d i r o s e estimate
+      → BuildCall d i r′ o′ → SameTable (i .height) s e o o′
 
 -- `draw` answers and leaves what `draw_segments` makes of the table and the channels, with the checks in their order
 abbrev pub DrawsAsSplineRs : Type 0
@@ -95,6 +109,11 @@ ReachesByTheRule = (t : Table) (y W : ℕ) (o : ReachOutcome) → ReachCall t y 
 -- `ln` is the scope's fixed sequence of steps
 abbrev pub LogsByItsSteps : Type 0
 LogsByItsSteps = (x r : Float) → LnCall x r → r ≡ lnOf x
+
+-- the root, the length, floor, ceil, R and the conversions are what IEEE 754 says; the R of starts and that of rows and columns are one, and rows and columns are spline.rs's expressions
+pub record NumbersByIeee754 : Type 0 where
+  pub numbers : Ieee754
+  pub ranges : AsSplineRs
 
 -- ---- refusals
 
@@ -139,6 +158,21 @@ pub record ReachCodes : Type 0 where
   pub exactly : (t : Table) (y W : ℕ) (o : ReachOutcome) → ReachCall t y W o → (c : Code) (p : ℕ) → (o .answer ≡ ReachAnswer.Refused c p) ↔ ReachRefusal t y W c p
   pub told : (t : Table) (y W : ℕ) (o : ReachOutcome) → ReachCall t y W o → (c : Code) (p : ℕ)
       → o .answer ≡ ReachAnswer.Refused c p → o .told ≡ record { number = numberOf c; place = 0; first = 0; past = 0 }
+
+-- a code of building is given exactly when its table of codes says, with number and place, and with counts of 0
+pub record BuildCodes : Type 0 where
+  pub exactly : (d : Description) (i : Setting) (r : building.BuildRooms) (o : building.BuildOutcome) → BuildCall d i r o → (c : Code) (p : ℕ)
+      → (o .answer ≡ BuildAnswer.Refused c p) ↔ BuildRefusal d i r c p
+  pub told : (d : Description) (i : Setting) (r : building.BuildRooms) (o : building.BuildOutcome) → BuildCall d i r o → (c : Code) (p : ℕ)
+      → o .answer ≡ BuildAnswer.Refused c p → o .told ≡ record { number = numberOf c; place = p; segments = 0; entries = 0; estimate = 0 }
+
+-- the codes of every call, each exactly when
+pub record CodesExactly : Type 0 where
+  pub read : ReadCodes
+  pub write : WriteCodes
+  pub build : BuildCodes
+  pub draw : DrawCodes
+  pub reach : ReachCodes
 
 -- a kept table is not refused: a part of any of its rows that lies within 2^23 columns and in the channels is drawn, and every row has its reach
 pub record BuiltIsDrawn : Type 0 where
@@ -196,11 +230,6 @@ ImageUpdates =
 pub record UpdatesSum : Type 0 where
   pub row : RowUpdates
   pub image : ImageUpdates
-
--- one description for one image has one list of segments, however much room was lent and wherever the table is kept
-abbrev pub RoomChangesNothing : Type 0
-RoomChangesNothing =
-    (d : Description) (i : Setting) (segments others : List Segment) (t u : Table) → KeptTable d i segments t → KeptTable d i others u → segments ≡ others
 
 -- ---- any two outcomes that a contract allows are equal
 

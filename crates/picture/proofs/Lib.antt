@@ -6,5 +6,4 @@ pub mod Tables
 pub mod Listings
 pub mod Keeping
 pub mod Pictures
-pub mod Rooms
 pub mod Makes

@@ -13,6 +13,7 @@ use Rattle.rows.proofs.Users.{each, found, rows-ascend, length-up-to}
 use Rattle.table.specs.Table.{BuildRooms, Setting}
 use Rattle.table.specs.Table as build
 use Rattle.draw.specs.Draw.{rowOf}
+use Rattle.segments.specs.declared.Segment.{Segment}
 use Rattle.picture.specs.Picture.{built, BuiltTable, Lists}
 
 last-of : (f : ℕ → ℕ) (n m : ℕ) → getD (padded m (upTo f (suc n))) n 0 ≡ f n
@@ -21,7 +22,7 @@ last-of f n m =
     List·getD-append (upTo f (suc n)) (replicate (m - length (upTo f (suc n))) 0) 0 n (omega (arith, length-up-to f (suc n)))
     ∙ subst (λ (k : ℕ). getD (upTo f (suc n)) k 0 ≡ f n) (length-up-to f n) (getD-append-seam (upTo f n) (f n) [] 0)
 
-module _ {d : Description} {i : Setting} {r : BuildRooms} {o : build.BuildOutcome} {s e estimate : ℕ} (t : BuiltTable d i r o s e estimate) where
+module _ {d : Description} {i : Setting} {r : BuildRooms} {own : List Segment} {o : build.BuildOutcome} {s e estimate : ℕ} (t : BuiltTable d i r own o s e estimate) where
   pub last-start : getD (o .starts) (i .height) 0 ≡ e
   last-start = ap (λ (l : List ℕ). getD l (i .height) 0) (t .starts) ∙ last-of (startOf (inRow (o .segments)) s) (i .height) (r .starts) ∙ sym (t .entry-count)
 

@@ -169,7 +169,7 @@ module _ {d : Description} {i : Setting} {r : BuildRooms} {o : BuildOutcome} {s 
         ∙ pairs-are (o .segments) (facts .segs) none (λ k l. segment-is k none l) (inRow (o .segments)) in-row W y
         ∙ ap (λ (l : List Segment). rowPairs l W y) segments-are
 
-  pub built-table : BuiltTable d i r o s e estimate
+  pub built-table : BuiltTable d i r (segmentsOf d i r) o s e estimate
   built-table = record {
     judged = facts .judged;
     count = sym (facts .size) ∙ ap length segments-are;

@@ -64,10 +64,10 @@ segmentsOf d i r = paintedSegments (painted d i r)
 
 -- what the table holds: the segments laid flat, the rows that list them, where each row starts, and zeros behind them and in the working cells; row y lists the segments
 -- that have it, once each, ascending
-pub record BuiltTable (d : Description) (i : Setting) (r : BuildRooms) (o : build.BuildOutcome) (s e estimate : ℕ) : Type 0 where
+pub record BuiltTable (d : Description) (i : Setting) (r : BuildRooms) (own : List Segment) (o : build.BuildOutcome) (s e estimate : ℕ) : Type 0 where
   pub judged : judgeOf d (givenOf i) ≡ Judged.Fine estimate
-  pub count : s ≡ length (segmentsOf d i r)
-  pub segments : o .segments ≡ padded (r .segments) (eights (segmentsOf d i r))
+  pub count : s ≡ length own
+  pub segments : o .segments ≡ padded (r .segments) (eights own)
   pub entry-count : e ≡ startOf (inRow (o .segments)) s (i .height)
   pub entries : o .entries ≡ listing.padded (r .entries) (rows (inRow (o .segments)) s (i .height))
   pub starts : o .starts ≡ listing.padded (r .starts) (upTo (startOf (inRow (o .segments)) s) (suc (i .height)))

@@ -15,7 +15,7 @@ use lib.Ieee.Exact.{HasValue}
 use Rattle.numbers.specs.Arith.{_⊕_, _⊖_}
 use Rattle.numbers.specs.Whole.{half, wholeBy, roundOf}
 use Rattle.numbers.proofs.Wholes.{half-id, digits}
-use Rattle.segments.specs.Ranges.{Bound, under, at, over, rounded, positive, beginsBy, lastsTo, hasRow, hasColumn}
+use Rattle.segments.specs.Ranges.{Bound, under, at, over, rounded, orZero, beginsBy, lastsTo, hasRow, hasColumn}
 use Rattle.segments.specs.Expressions.{boundOf, oneMoreI64, oneMoreUsize, asI64, asUsize, AsSplineRs}
 use Rattle.numbers.proofs.WholeParts.{round-value, half-le}
 
@@ -221,13 +221,13 @@ row-lasts (at (negsuc k)) y n = go (min (suc k) 9223372036854775808) (some k)
 row-lasts over y n = refl
 
 -- ---- columns
-column-begins : (b : Bound) (x : ℕ) → x < 18446744073709551615 → beginsBy (positive b) x ≡ leb (heldUsize b) x
+column-begins : (b : Bound) (x : ℕ) → x < 18446744073709551615 → beginsBy (orZero b) x ≡ leb (heldUsize b) x
 column-begins under x h = refl
 column-begins (at (pos n)) x h = capped n 18446744073709551615 x h
 column-begins (at (negsuc n)) x h = refl
 column-begins over x h = never-reached 18446744073709551615 x h
 
-column-lasts : (b : Bound) (x : ℕ) → Not 18446744073709551615 b → lastsTo 18446744073709551616 (positive b) x ≡ ltb x (oneMoreUsize (heldUsize b))
+column-lasts : (b : Bound) (x : ℕ) → Not 18446744073709551615 b → lastsTo 18446744073709551616 (orZero b) x ≡ ltb x (oneMoreUsize (heldUsize b))
 column-lasts under x n = leb-next x 0
 column-lasts (at (pos k)) x n = go (ltb k 18446744073709551616) (ltb→lt k 18446744073709551616) (nltb→le k 18446744073709551616)
   where
@@ -246,7 +246,7 @@ column-lasts (at (pos k)) x n = go (ltb k 18446744073709551616) (ltb→lt k 1844
 column-lasts (at (negsuc k)) x n = leb-next x 0
 column-lasts over x n = sym (leb·suc-zero x)
 
-not-positive : (c : ℕ) (b : Bound) → 0 < c → Not c b → Not c (positive b)
+not-positive : (c : ℕ) (b : Bound) → 0 < c → Not c b → Not c (orZero b)
 not-positive c under h n = λ e. lt-irrefl 0 (subst (λ (z : ℕ). 0 < z) (sym e) h)
 not-positive c (at (pos k)) h n = n
 not-positive c (at (negsuc k)) h n = λ e. lt-irrefl 0 (subst (λ (z : ℕ). 0 < z) (sym e) h)
@@ -265,10 +265,10 @@ module _ (lo hi : Float) (F : T (fits binary32 lo)) (G : T (fits binary32 hi)) w
       (row-lasts (rounded hi) y not-top ∙ ap (λ (z : ℤ). ltZ (pos y) (oneMoreI64 z)) (sym (i64-is hi G)))
       (λ t. row-begins (rounded lo) y (lasts-past 9223372036854775807 (rounded hi) y not-top t) ∙ ap (λ (z : ℤ). leZ z (pos y)) (sym (i64-is lo F)))
 
-  column-range : (x : ℕ) → (beginsBy (positive (rounded lo)) x && lastsTo (2 ^ 64) (positive (rounded hi)) x) ≡ (leb (asUsize lo) x && ltb x (oneMoreUsize (asUsize hi)))
-  column-range x = joined (beginsBy (positive (rounded lo)) x) (lastsTo (2 ^ 64) (positive (rounded hi)) x) (leb (asUsize lo) x) (ltb x (oneMoreUsize (asUsize hi)))
+  column-range : (x : ℕ) → (beginsBy (orZero (rounded lo)) x && lastsTo (2 ^ 64) (orZero (rounded hi)) x) ≡ (leb (asUsize lo) x && ltb x (oneMoreUsize (asUsize hi)))
+  column-range x = joined (beginsBy (orZero (rounded lo)) x) (lastsTo (2 ^ 64) (orZero (rounded hi)) x) (leb (asUsize lo) x) (ltb x (oneMoreUsize (asUsize hi)))
       (column-lasts (rounded hi) x not-end ∙ ap (λ (z : ℕ). ltb x (oneMoreUsize z)) (sym (usize-is hi G)))
-      (λ t. column-begins (rounded lo) x (lasts-past 18446744073709551615 (positive (rounded hi)) x (not-positive 18446744073709551615 (rounded hi) (lit≤ tt) not-end) t) ∙ ap (λ (z : ℕ). leb z x) (sym (usize-is lo F)))
+      (λ t. column-begins (rounded lo) x (lasts-past 18446744073709551615 (orZero (rounded hi)) x (not-positive 18446744073709551615 (rounded hi) (lit≤ tt) not-end) t) ∙ ap (λ (z : ℕ). leb z x) (sym (usize-is lo F)))
 
 pub as-spline-rs : AsSplineRs
 unfolding hasRow hasColumn
