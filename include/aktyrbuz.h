@@ -64,7 +64,8 @@ uint32_t aktyrbuz_write(const uint32_t *counts, size_t counts_len, const float *
 
 /* Builds the table of an image of width by height pixels: segments, and for each row those that touch it. The lengths of the description are exact.
  *
- * y_to_x and y_to_b are what X and B gain of Y (usually 0 and 1). level10 gives the greater area limit, high_precision longer reaches.
+ * y_to_x and y_to_b are what X and B gain of Y (usually 0 and 1). level10 gives the greater area limit, high_precision longer reaches:
+ * only with it are the rows those of the reference decoder, libjxl.
  * Rooms: path 2 floats a point, walk 3 floats a point, both for the longest spline and 0 on return; segments 8 floats each (centre x and y, distance,
  * 1/sigma, 0.25 sigma times multiplier, three colours); height + 1 row_starts; entries. Row y lists entries[row_starts[y]] up to but not including
  * entries[row_starts[y + 1]], ascending. Cells past the used part, and all cells after a refusal, are 0.
