@@ -22,6 +22,7 @@ pub struct Task {
     pub picture: bool,
     pub floats: bool,
     pub progress: bool,
+    pub high: bool,
 }
 
 // How many updates a part took; or it was not drawn, or not written.

@@ -81,7 +81,7 @@ fn is_within(n: u32, most: u32) -> bool {
 
 // The width and the height that the arguments from i on say.
 fn size_at(i: u8) -> Size
-    requires { ⌜ i ≤ 5 ⌝ }
+    requires { ⌜ i ≤ 6 ⌝ }
 {
     let Number::Is(width) = arguments::argument(i as usize) else {
         return Size::Not;
@@ -98,8 +98,8 @@ fn size_at(i: u8) -> Size
     Size::Of(width, height)
 }
 
-fn rows(i: u8) -> u8
-    requires { ⌜ i ≤ 4 ⌝ }
+fn rows(i: u8, high: bool) -> u8
+    requires { ⌜ i ≤ 5 ⌝ }
 {
     match size_at(i + 1) {
         Size::Not => say_size(),
@@ -112,6 +112,7 @@ fn rows(i: u8) -> u8
                 picture: false,
                 floats: false,
                 progress: false,
+                high: high,
             },
         ),
     }
@@ -132,7 +133,15 @@ fn kind_of(path: &[u8]) -> Kind {
 }
 
 // Draws the file that argument i names into a picture of this name.
-fn draw_to(i: u8, width: u32, height: u32, path: &[u8], floats: bool, progress: bool) -> u8 {
+fn draw_to(
+    i: u8,
+    width: u32,
+    height: u32,
+    path: &[u8],
+    floats: bool,
+    progress: bool,
+    high: bool,
+) -> u8 {
     let fd = os::open_overwrite(path);
     if fd < 0 {
         os::fail(path);
@@ -150,36 +159,37 @@ fn draw_to(i: u8, width: u32, height: u32, path: &[u8], floats: bool, progress: 
             picture: true,
             floats: floats,
             progress: progress,
+            high: high,
         },
     );
     libc::close(fd);
     status
 }
 
-fn draw_named(i: u8, width: u32, height: u32, path: &[u8], progress: bool) -> u8 {
+fn draw_named(i: u8, width: u32, height: u32, path: &[u8], progress: bool, high: bool) -> u8 {
     match kind_of(path) {
-        Kind::Tones => draw_to(i, width, height, path, false, progress),
-        Kind::Floats => draw_to(i, width, height, path, true, progress),
+        Kind::Tones => draw_to(i, width, height, path, false, progress, high),
+        Kind::Floats => draw_to(i, width, height, path, true, progress, high),
         Kind::Other => usage(),
     }
 }
 
-fn draw(i: u8, progress: bool) -> u8
-    requires { ⌜ i ≤ 4 ⌝ }
+fn draw(i: u8, progress: bool, high: bool) -> u8
+    requires { ⌜ i ≤ 5 ⌝ }
 {
     match size_at(i + 1) {
         Size::Not => say_size(),
         Size::Of(width, height) => {
             let mut held = io::buffer();
             let n = os::arg(i as usize + 3, &mut held);
-            draw_named(i, width, height, &held[..n], progress)
+            draw_named(i, width, height, &held[..n], progress, high)
         }
     }
 }
 
 // The command whose words begin at argument `at`.
-fn run(at: u8, progress: bool) -> u8
-    requires { ⌜ at ≤ 3 ⌝ }
+fn run(at: u8, progress: bool, high: bool) -> u8
+    requires { ⌜ at ≤ 4 ⌝ }
 {
     let first = at as usize;
     let words = os::arg_count();
@@ -193,25 +203,36 @@ fn run(at: u8, progress: bool) -> u8
         if words != first + 4 {
             return usage();
         }
-        return rows(at + 1);
+        return rows(at + 1, high);
     }
     if arguments::is_argument(first, b"draw") {
         if words != first + 5 {
             return usage();
         }
-        return draw(at + 1, progress);
+        return draw(at + 1, progress, high);
     }
     usage()
 }
 
-// Progress is told where it is asked for, or to a terminal.
+// Progress is told where it is asked for, or to a terminal; the precision is high where that is asked for. The two words may stand in any order.
 fn run_from(at: u8) -> u8
     requires { ⌜ at ≤ 2 ⌝ }
 {
-    if arguments::is_argument(at as usize, b"--progress") {
-        return run(at + 1, true);
+    let first = at as usize;
+    if arguments::is_argument(first, b"--progress") {
+        if arguments::is_argument(first + 1, b"--high") {
+            return run(at + 2, true, true);
+        }
+        return run(at + 1, true, false);
     }
-    run(at, libc::isatty(2) == 1)
+    let told = libc::isatty(2) == 1;
+    if arguments::is_argument(first, b"--high") {
+        if arguments::is_argument(first + 1, b"--progress") {
+            return run(at + 2, true, true);
+        }
+        return run(at + 1, told, true);
+    }
+    run(at, told, false)
 }
 
 // A status, as one digit; none after an end that is to be quiet.

@@ -9,14 +9,15 @@ use native.Mathlib.Omega.{arith}
 use lib.Dec.{ltb}
 use lib.ListN.{length}
 use lib.Ieee.{Float}
-use borrow.Author.Tests.{ltb-true, le-leb}
+use borrow.Author.Tests.{ltb-true}
 use Rattle.segments.specs.Segment.{segmentAt}
 use Rattle.segments.specs.Ranges.{hasColumn}
 use Rattle.shade.specs.Edit.{edit, firstCells}
 use Rattle.draw.specs.declared.Verdict.the-variants.{Fine}
-use Rattle.draw.specs.Draw.{pixel, count, updates, allBelow, spanGood, drawnChannel, Table, rowOf, judgeOf, Channels, drawOf}
+use Rattle.draw.specs.Draw.{pixel, count, updates, allBelow, drawnChannel, Table, rowOf, judgeOf, Channels, drawOf}
 use Rattle.draw.proofs.Entries.{and-left}
-use Rattle.draw.proofs.Checks.{SpanFacts, judged-fine, answer-done}
+use Rattle.draw.proofs.Checks.{judged-fine, answer-done}
+use Rattle.draw.proofs.Refusals.{span-fits}
 use Rattle.records.specs.Records.{isKnown, drawnChannelAlone, drawAlone, drawNumberOf}
 use Rattle.records.specs.Numbers.{KnownIsDrawn, UnknownIsRefused, RowOfOneIsItsNumber}
 use Rattle.records.proofs.Alone.{known-here, not-counted, not-fitting, not-known, drawn-alone}
@@ -28,10 +29,6 @@ pub unknown-is-refused : UnknownIsRefused
 unknown-is-refused xs c i y x0 n a h = sym (not-known (isKnown xs c i) (segmentAt xs i) y x0 n a (⊎-elim (not-counted xs c i) (not-fitting xs c i) h))
 
 -- ---- a row of one number
-
-span-is-good : {x0 n l0 l1 l2 : ℕ} → SpanFacts x0 n l0 l1 l2 → spanGood x0 n l0 l1 l2 ≡ true
-unfolding spanGood
-span-is-good {x0} {n} {l0} {l1} {l2} s = rw (le-leb (x0 + n) (2 ^ 23) (s .inside-image), le-leb n l0 (s .fits0), le-leb n l1 (s .fits1), le-leb n l2 (s .fits2)) refl
 
 module _ (t : Table) (i y x0 n : ℕ) (row : rowOf t y ≡ i ∷ []) where
   named : allBelow (t .segmentCount) (rowOf t y) ≡ true → i < t .segmentCount
@@ -49,6 +46,6 @@ row-of-one-is-its-number t i y x0 n a fine row =
     let known = known-here (t .segments) (t .segmentCount) i (named t i y x0 n row (p .row .all-named)) (p .counts .segments-fit) in
     let low : y < 2 ^ 23 = omega (arith, p .in-image, p .counts .low) in
     sym (answer-done t y x0 n a fine refl refl refl refl)
-    ∙ drawn-alone (isKnown (t .segments) (t .segmentCount) i) (segmentAt (t .segments) i) y x0 n a known low (span-is-good (p .span)) (updates-of-one t i y x0 n row) (drawn-one t i y x0 n row 0 (a .r0)) (drawn-one t i y x0 n row 1 (a .r1)) (drawn-one t i y x0 n row 2 (a .r2))
+    ∙ drawn-alone (isKnown (t .segments) (t .segmentCount) i) (segmentAt (t .segments) i) y x0 n a known low (span-fits x0 n (length (a .r0)) (length (a .r1)) (length (a .r2)) (p .span)) (updates-of-one t i y x0 n row) (drawn-one t i y x0 n row 0 (a .r0)) (drawn-one t i y x0 n row 1 (a .r1)) (drawn-one t i y x0 n row 2 (a .r2))
 
 -- Assumes nothing.

@@ -67,7 +67,7 @@ fn refuse(code: Code, place: usize) -> u8
     words::of_building(code, place)
 }
 
-// X gains nothing of Y and B all of it, as usual; the lesser precision and area limit.
+// X gains nothing of Y and B all of it, as usual; the precision that is asked for, and the lesser area limit.
 fn build(
     counts: &[u32],
     starts: &[f32],
@@ -85,6 +85,7 @@ fn build(
     let mut entries = [0u32; ENTRIES];
     let width = task.width;
     let height = task.height;
+    let high = task.high;
     match table::build(
         counts,
         starts,
@@ -95,7 +96,7 @@ fn build(
         height,
         0.0,
         1.0,
-        false,
+        high,
         false,
         &mut path,
         &mut walk,
@@ -112,6 +113,7 @@ fn build(
                     coefficients,
                     adjustment,
                     height,
+                    high,
                     &mut path,
                     &mut walk,
                     &mut segments,

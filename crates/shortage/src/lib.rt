@@ -12,13 +12,14 @@ enum Drawn {
     Short(usize),
 }
 
-// A description drawn, and its rows left out.
+// A description drawn in this precision, and its rows left out.
 fn draw_all(
     counts: &[u32],
     starts: &[f32],
     deltas: &[i32],
     coefficients: &[i32],
     adjustment: i32,
+    high: bool,
     path: &mut [f32],
     walk: &mut [f32],
     segments: &mut [f32],
@@ -35,7 +36,7 @@ fn draw_all(
         0,
         0.0,
         1.0,
-        false,
+        high,
         true,
         path,
         walk,
@@ -154,6 +155,7 @@ fn is_first_short(
         deltas,
         coefficients,
         adjustment,
+        false,
         path,
         walk,
         segments,
@@ -216,6 +218,7 @@ pub fn say(
     coefficients: &[i32],
     adjustment: i32,
     height: u32,
+    high: bool,
     path: &mut [f32],
     walk: &mut [f32],
     segments: &mut [f32],
@@ -228,6 +231,7 @@ pub fn say(
         deltas,
         coefficients,
         adjustment,
+        high,
         path,
         walk,
         segments,

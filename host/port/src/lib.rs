@@ -129,7 +129,7 @@ pub struct Image {
     pub y_to_x: f32,
     /// What B gains of Y.
     pub y_to_b: f32,
-    /// Whether segments reach until they add less than 10^-5, and not 10^-3.
+    /// Whether segments reach until they add less than 10^-5, and not 10^-3: only then are the rows those of the reference decoder, libjxl.
     pub high_precision: bool,
     /// Whether the greater area limit holds.
     pub level10: bool,

@@ -11,12 +11,15 @@ const CONFIGURED: u32 = 1 << 20;
 pub struct Size {
     pub width: u32,
     pub height: u32,
+    /// Built in high precision.
+    pub high: bool,
 }
 
 /// The size that the sample was made for.
 pub const WHOLE: Size = Size {
     width: fibres::WIDTH,
     height: fibres::HEIGHT,
+    high: false,
 };
 
 impl Size {
@@ -40,7 +43,11 @@ pub fn judged(size: Size) -> Result<Judged, String> {
     if read.outcome != Outcome::Done(description.clone()) || read.consumed != list.len() {
         return Err(String::from("spline.rs does not read the fibres back"));
     }
-    match oracle::build(&description, &Given::of(size.width, size.height)) {
+    let given = Given {
+        high_precision: size.high,
+        ..Given::of(size.width, size.height)
+    };
+    match oracle::build(&description, &given) {
         Outcome::Done(built) => Ok(Judged {
             description,
             list,

@@ -17,7 +17,7 @@ const USAGE: &str = "\
 usage, from the repository's top:
   samples make | check                 samples/fibres.values, and what it holds
   samples examples                     what examples/ have to print of it
-  samples read | rows WIDTH HEIGHT | draw WIDTH HEIGHT PICTURE
+  samples read | [--high] rows WIDTH HEIGHT | [--high] draw WIDTH HEIGHT PICTURE
                                        what ./gauge has to print of it, and its picture
 ";
 
@@ -61,25 +61,27 @@ fn draw(size: Size, path: &str) -> Result<String, String> {
     said::draw(&judged, size)
 }
 
-fn size(width: &str, height: &str) -> Option<Size> {
+fn size(width: &str, height: &str, high: bool) -> Option<Size> {
     Some(Size {
         width: width.parse().ok()?,
         height: height.parse().ok()?,
+        high,
     })
 }
 
 /// What the words ask for, or `None` where they ask for nothing.
 fn run(words: &[&str]) -> Option<Result<String, String>> {
-    Some(match *words {
+    let high = words.first() == Some(&"--high");
+    Some(match words[usize::from(high)..] {
         ["make"] => make(),
         ["check"] => check(),
         ["examples"] => judged(WHOLE).and_then(|judged| said::examples(&judged, WHOLE)),
         ["read"] => judged(WHOLE).map(|judged| said::read(&judged)),
         ["rows", width, height] => {
-            let size = size(width, height)?;
+            let size = size(width, height, high)?;
             judged(size).and_then(|judged| said::rows(&judged, size))
         }
-        ["draw", width, height, path] => draw(size(width, height)?, path),
+        ["draw", width, height, path] => draw(size(width, height, high)?, path),
         _ => return None,
     })
 }
