@@ -46,12 +46,12 @@ fn refused(code: Code) -> Spline
     }
 }
 
+// The rows come last: while the estimate is made, none of them takes stack.
 fn finished(c: &[i32], given: Given, manhattan: u64, coincide: bool) -> Spline
     requires { ⌜ 128 ≤ length (now c) ⌝ }
     ensures { λ r. ⌜ r ≡ finishedOf (now (c .entry)) given manhattan coincide ⌝ }
 {
     let quant = coefficients::inv_adjusted_quant(given.adjustment);
-    let rows = coefficients::rows_of(c, quant, given.y_to_x, given.y_to_b);
     let estimate = estimate::estimated_area(
         c,
         quant,
@@ -60,6 +60,7 @@ fn finished(c: &[i32], given: Given, manhattan: u64, coincide: bool) -> Spline
         given.limit,
         manhattan,
     );
+    let rows = coefficients::rows_of(c, quant, given.y_to_x, given.y_to_b);
     let x = rows.x;
     let y = rows.y;
     let b = rows.b;

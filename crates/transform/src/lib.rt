@@ -1,7 +1,12 @@
 // The transform: the colours and the width of a spline at a place of its path, from the four rows of coefficients.
 ghost use mathlib.Core.Path.{_≡_};
+ghost use mathlib.Core.Logic.{_⊎_};
+ghost use Prim.Native.Nat.{_+_, _-_, _%_, _≤_, _<_};
+ghost use lib.ListN.{getD};
+ghost use lib.Ieee.{nan};
+ghost use Rattle.numbers.specs.Arith.{_⊗_};
 ghost use Rattle.dequantize.specs.Coefficients.{table};
-ghost use Rattle.transform.specs.Transform.{dctMultiplier, cosineAt, dotOf, sumsOf};
+ghost use Rattle.transform.specs.Transform.{dctMultiplier, cosineAt, sumOf, sumsOf};
 use dequantize::Spline;
 
 // k times the f32 number π/32.
@@ -48,52 +53,101 @@ pub struct Sums {
     pub sigma: f32,
 }
 
-fn dct_multipliers() -> [f32; 32]
-    ensures { λ r. ⌜ r ≡ table dctMultiplier 32 ⌝ }
+// Eight entries of the table, those from 0, 8, 16 or 24 on, at literal indices: so no copy of the table is made.
+fn dct_multipliers(from: usize) -> [f32; 8]
+    requires { ⌜ (from % 8 ≡ 0) × (from < 32) ⌝ }
+    ensures { λ r. ⌜ r ≡ table (λ j. dctMultiplier (from + j)) 8 ⌝ }
 {
-    DCT_MULTIPLIERS
+    let m = DCT_MULTIPLIERS;
+    match from {
+        0 => [m[0], m[1], m[2], m[3], m[4], m[5], m[6], m[7]],
+        8 => [m[8], m[9], m[10], m[11], m[12], m[13], m[14], m[15]],
+        16 => [m[16], m[17], m[18], m[19], m[20], m[21], m[22], m[23]],
+        _ => [m[24], m[25], m[26], m[27], m[28], m[29], m[30], m[31]],
+    }
 }
 
-// The cosines that all four sums use.
-fn precomputed_cosines(t: f32) -> [f32; 32]
-    ensures { λ r. ⌜ r ≡ table (cosineAt t) 32 ⌝ }
+// Eight cosines.
+fn cosines(from: usize, t: f32) -> [f32; 8]
+    requires { ⌜ (from % 8 ≡ 0) × (from < 32) ⌝ }
+    ensures { λ r. ⌜ r ≡ table (λ j. cosineAt t (from + j)) 8 ⌝ }
 {
-    let multipliers = dct_multipliers();
+    let multipliers = dct_multipliers(from);
     let tandhalf = t + 0.5;
-    let mut cosines = [0.0; 32];
-    let mut i = 0;
-    while i < 32 {
-        cosines[i] = numbers::fast_cos(multipliers[i] * tandhalf);
-        i += 1;
+    let mut eight = [0.0; 8];
+    let mut j = 0;
+    while j < 8 {
+        eight[j] = numbers::fast_cos(multipliers[j] * tandhalf);
+        j += 1;
     }
-    cosines
+    eight
 }
 
-// The sum of the products, from the first on, times the root of 2.
-fn continuous_idct_fast(row: [f32; 32], cosines: [f32; 32]) -> f32
-    ensures { λ r. ⌜ r ≡ dotOf row cosines ⌝ }
+// A running sum of a row gets eight products more, one after another. The first product of all begins it.
+fn fed(sum: f32, row: &[f32; 32], eight: [f32; 8], from: usize, t: f32) -> f32
+    requires { ⌜ (from + 8 ≤ 32) × (eight ≡ table (λ j. cosineAt t (from + j)) 8) × ((from ≡ 0) ⊎ (sum ≡ sumOf (λ i. getD (now row) i nan ⊗ getD (table (cosineAt t) 32) i nan) (from - 1))) ⌝ }
+    ensures { λ r. ⌜ r ≡ sumOf (λ i. getD (now (row .entry)) i nan ⊗ getD (table (cosineAt t) 32) i nan) (from + 7) ⌝ }
 {
-    let mut sum = row[0] * cosines[0];
-    let mut i = 1;
-    while i < 32 {
-        sum = sum + row[i] * cosines[i];
-        i += 1;
+    let first = row[from] * eight[0];
+    let mut s = if from == 0 { first } else { sum + first };
+    let mut j = 1;
+    while j < 8 {
+        s = s + row[from + j] * eight[j];
+        j += 1;
     }
-    sum * 1.4142135
+    s
+}
+
+// The four running sums get eight products more: each cosine is worked out once, and fed to all four.
+fn more(
+    sums: Sums,
+    x: &[f32; 32],
+    y: &[f32; 32],
+    b: &[f32; 32],
+    sigma: &[f32; 32],
+    from: usize,
+    t: f32,
+) -> Sums
+    requires { ⌜ (from % 8 ≡ 0) × (from < 32)
+        × ((from ≡ 0) ⊎ (sums .x ≡ sumOf (λ i. getD (now x) i nan ⊗ getD (table (cosineAt t) 32) i nan) (from - 1)))
+        × ((from ≡ 0) ⊎ (sums .y ≡ sumOf (λ i. getD (now y) i nan ⊗ getD (table (cosineAt t) 32) i nan) (from - 1)))
+        × ((from ≡ 0) ⊎ (sums .b ≡ sumOf (λ i. getD (now b) i nan ⊗ getD (table (cosineAt t) 32) i nan) (from - 1)))
+        × ((from ≡ 0) ⊎ (sums .sigma ≡ sumOf (λ i. getD (now sigma) i nan ⊗ getD (table (cosineAt t) 32) i nan) (from - 1))) ⌝ }
+    ensures { λ r. ⌜ (r .x ≡ sumOf (λ i. getD (now (x .entry)) i nan ⊗ getD (table (cosineAt t) 32) i nan) (from + 7))
+        × (r .y ≡ sumOf (λ i. getD (now (y .entry)) i nan ⊗ getD (table (cosineAt t) 32) i nan) (from + 7))
+        × (r .b ≡ sumOf (λ i. getD (now (b .entry)) i nan ⊗ getD (table (cosineAt t) 32) i nan) (from + 7))
+        × (r .sigma ≡ sumOf (λ i. getD (now (sigma .entry)) i nan ⊗ getD (table (cosineAt t) 32) i nan) (from + 7)) ⌝ }
+{
+    let eight = cosines(from, t);
+    Sums {
+        x: fed(sums.x, x, eight, from, t),
+        y: fed(sums.y, y, eight, from, t),
+        b: fed(sums.b, b, eight, from, t),
+        sigma: fed(sums.sigma, sigma, eight, from, t),
+    }
 }
 
 pub fn sums_at(spline: Spline, t: f32) -> Sums
     ensures { λ r. ⌜ r ≡ sumsOf spline t ⌝ }
 {
-    let cosines = precomputed_cosines(t);
     let x = spline.x;
     let y = spline.y;
     let b = spline.b;
     let sigma = spline.sigma;
+    let none = Sums {
+        x: 0.0,
+        y: 0.0,
+        b: 0.0,
+        sigma: 0.0,
+    };
+    let one = more(none, &x, &y, &b, &sigma, 0, t);
+    let two = more(one, &x, &y, &b, &sigma, 8, t);
+    let three = more(two, &x, &y, &b, &sigma, 16, t);
+    let all = more(three, &x, &y, &b, &sigma, 24, t);
     Sums {
-        x: continuous_idct_fast(x, cosines),
-        y: continuous_idct_fast(y, cosines),
-        b: continuous_idct_fast(b, cosines),
-        sigma: continuous_idct_fast(sigma, cosines),
+        x: all.x * 1.4142135,
+        y: all.y * 1.4142135,
+        b: all.b * 1.4142135,
+        sigma: all.sigma * 1.4142135,
     }
 }

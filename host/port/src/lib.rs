@@ -1,5 +1,6 @@
 //! The proved port through its C interface, as safe calls on slices.
 
+pub mod stack;
 pub mod symbols;
 
 /// What a call fills: the place, then the counts, then zeros.

@@ -1,46 +1,32 @@
--- `sums_at`: the cosines once, then one law over the row, four times.
-use borrow.Author.Needs.{needs}
+-- `sums_at`: eight products of each row after eight, then one law over the row, four times.
+use mathlib.Core.Path.{refl}
+use mathlib.Core.Logic.{inl, inr}
+use native.Mathlib.Omega.{arith}
 use Rattle.transform.specs.Transform.{sumsOf}
-use Rattle.transform.proofs.Dots.{idct-is}
+use Rattle.transform.proofs.Dots.{scaled-is}
 use Rattle.transform.proofs.sums_at.Statement.{statement}
 use Rattle.transform.proofs.sums_at.Tie as tie
 
-precomputed-cosines-requires : tie.Need-precomputed-cosines-requires
-precomputed-cosines-requires c κs = search needs
+more-requires : tie.Need-more-requires
+more-requires c κs = (refl, omega arith, inl refl, inl refl, inl refl, inl refl)
 
-continuous-idct-fast-requires : tie.Need-continuous-idct-fast-requires
-continuous-idct-fast-requires c κs = search needs
+more-requires-2 : tie.Need-more-requires-2
+more-requires-2 c κs = let m = c .before .before .before .before .more .ensures in (refl, omega arith, inr (m .0), inr (m .1), inr (m .2), inr (m .3))
 
-continuous-idct-fast-requires-2 : tie.Need-continuous-idct-fast-requires-2
-continuous-idct-fast-requires-2 c κs = search needs
+more-requires-3 : tie.Need-more-requires-3
+more-requires-3 c κs = let m = c .before .before .before .before .more2 .ensures in (refl, omega arith, inr (m .0), inr (m .1), inr (m .2), inr (m .3))
 
-continuous-idct-fast-requires-3 : tie.Need-continuous-idct-fast-requires-3
-continuous-idct-fast-requires-3 c κs = search needs
-
-continuous-idct-fast-requires-4 : tie.Need-continuous-idct-fast-requires-4
-continuous-idct-fast-requires-4 c κs = search needs
+more-requires-4 : tie.Need-more-requires-4
+more-requires-4 c κs = let m = c .before .before .before .before .more3 .ensures in (refl, omega arith, inr (m .0), inr (m .1), inr (m .2), inr (m .3))
 
 returns : tie.Need-returns
 unfolding sumsOf
 returns c =
-    let s = c .before .before .before .before .before .before .before .before .before .args .spline in
-    let t = c .before .before .before .before .before .before .before .before .before .args .t in
-    let cosines = c .before .before .before .before .before .before .before .before .precomputed-cosines .ensures in
-    let x = idct-is (s .x) t cosines (c .before .before .before .continuous-idct-fast .ensures) in
-    let y = idct-is (s .y) t cosines (c .before .before .continuous-idct-fast2 .ensures) in
-    let b = idct-is (s .b) t cosines (c .before .continuous-idct-fast3 .ensures) in
-    let sigma = idct-is (s .sigma) t cosines (c .continuous-idct-fast4 .ensures) in
-    rw (x, y, b, sigma)
+    let a = c .before .before .before .before .before .before .before .before .before .before .before .before .before .before .before .before .before .before .before .before .before .before .before .before .before .before .before .before .args in
+    let m = c .before .before .before .before .more4 .ensures in
+    rw (scaled-is (a .spline .x) (a .t) (m .0), scaled-is (a .spline .y) (a .t) (m .1), scaled-is (a .spline .b) (a .t) (m .2), scaled-is (a .spline .sigma) (a .t) (m .3))
 
 pub sums-at-spec : {M : Type 1} → statement M
-sums-at-spec =
-    tie.close
-    (tie.spec
-    precomputed-cosines-requires
-    continuous-idct-fast-requires
-    continuous-idct-fast-requires-2
-    continuous-idct-fast-requires-3
-    continuous-idct-fast-requires-4
-    returns)
+sums-at-spec = tie.close (tie.spec more-requires more-requires-2 more-requires-3 more-requires-4 returns)
 
 -- Assumes nothing.

@@ -2,7 +2,7 @@
 //!
 //! `measure` prints both. `measure read POINTS` and `measure write POINTS` make one call, for a counter of instructions.
 
-use std::arch::asm;
+use port::stack::stack_of;
 use std::process::ExitCode;
 use std::time::Instant;
 
@@ -210,37 +210,4 @@ impl Picture {
         assert_eq!(code, 0, "draw is refused");
         assert!(answer[1] > 0, "nothing is drawn");
     }
-}
-
-/// Bytes of the stack that a measured call is given, and what it is painted with.
-const STACK: usize = 1 << 20;
-const PAINT: u8 = 0xa5;
-
-/// How deep into a painted stack of its own this call writes.
-fn stack_of<F: FnMut()>(mut call: F) -> usize {
-    let mut stack = vec![PAINT; STACK];
-    // SAFETY: the end of the buffer, rounded down to 16 bytes as the C interface asks.
-    let top = unsafe { stack.as_mut_ptr().add(STACK) };
-    let top = top.wrapping_sub(top as usize % 16);
-    // SAFETY: `run` takes the call that `argument` points to; r12 outlives any C function; the buffer is used by nothing else.
-    unsafe {
-        asm!(
-            "mov r12, rsp",
-            "mov rsp, {top}",
-            "call {run}",
-            "mov rsp, r12",
-            top = in(reg) top,
-            run = in(reg) run::<F> as extern "C" fn(*mut F),
-            in("rdi") &raw mut call,
-            out("r12") _,
-            clobber_abi("C"),
-        );
-    }
-    let untouched = stack.iter().take_while(|&&byte| byte == PAINT).count();
-    top as usize - (stack.as_ptr() as usize + untouched)
-}
-
-extern "C" fn run<F: FnMut()>(call: *mut F) {
-    // SAFETY: `stack_of` hands over its own closure.
-    unsafe { (*call)() }
 }
