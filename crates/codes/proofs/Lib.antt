@@ -1,2 +1,3 @@
 -- The laws of the crate `codes`.
 pub mod Codes
+pub mod Decides

@@ -14,7 +14,8 @@ use Rattle.dequantize.specs.declared.control_points.Place.{Place}
 use Rattle.dequantize.specs.declared.control_points.Run.{Run}
 use Rattle.dequantize.specs.declared.control_points.Traced.{Traced}
 use Rattle.dequantize.specs.declared.control_points.Traced.the-variants.{On, Stop}
-use Rattle.dequantize.proofs.Pairs.{both, point-range}
+use Rattle.codes.proofs.Decides.{both}
+use Rattle.dequantize.proofs.Pairs.{point-range}
 use Rattle.dequantize.proofs.Near.{eqb-same, eqZ, near-is}
 use Rattle.dequantize.proofs.Steps.{onto, step-went}
 

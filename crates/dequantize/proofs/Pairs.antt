@@ -10,6 +10,7 @@ use borrow.Author.Tests.{ltb-true, leb-true, le-leb}
 use mir.Syntax.{w32}
 use mir.Val.{SFits, toZ, ofZ}
 use mir.Facts.{toZ-ofZ}
+use Rattle.codes.proofs.Decides.{both}
 use Rattle.dequantize.specs.ControlPoints.{inRange, belowDeltaLimit, validPointPos, validDoubleDelta}
 use Rattle.dequantize.specs.Asked.{Fine}
 use Rattle.dequantize.specs.declared.control_points.Pair.{Pair}
@@ -41,10 +42,6 @@ limit-mag (negsuc n) h = go (ltb n 1073741823) h (ltb-true n 1073741823)
     go : (t : Bool) → cond t true false ≡ true → (t ≡ true → n < 1073741823) → n < 1073741824
     go true h g = let k : n < 1073741823 = g refl in omega arith
     go false h g = absurd (true≢false (sym h))
-
-pub both : (s t : Bool) → cond s t false ≡ true → (s ≡ true) × (t ≡ true)
-both true t h = (refl, h)
-both false t h = absurd (true≢false (sym h))
 
 pub point-range : (p : Pair) → validPointPos p ≡ true → (inRange (p .x) ≡ true) × (inRange (p .y) ≡ true)
 unfolding validPointPos

@@ -9,6 +9,7 @@ use lib.IntN.{ℤ, pos, negsuc, natAbs}
 use lib.Signed.{leZ, ltZ, leZ-yes, ltZ-yes}
 use lib.Ieee.{Float, isNan}
 use borrow.Author.Tests.{leb-true, leb-false, le-leb, lt-leb, ltb-true, ltb-false, lt-ltb, le-ltb}
+use Rattle.codes.proofs.Decides.{Decides, both, both-decide}
 use Rattle.dequantize.specs.ControlPoints.{inRange, belowDeltaLimit, validPointPos, validDoubleDelta, roundedOf, joined, startingPoint}
 use Rattle.dequantize.specs.Refusals.{InRange, Beyond, Inside, Outside, Small, Large, wholeOf, RoundsTo, Strays}
 use Rattle.dequantize.specs.declared.control_points.Pair.{Pair}
@@ -16,14 +17,6 @@ use Rattle.dequantize.specs.declared.control_points.Whole.{Whole}
 use Rattle.dequantize.specs.declared.control_points.Whole.the-variants as W
 use Rattle.dequantize.specs.declared.control_points.Start.{Start}
 use Rattle.dequantize.specs.declared.control_points.Start.the-variants as S
-use Rattle.dequantize.proofs.Pairs.{both}
-
--- the test b passes exactly where yes, and fails exactly where no
-pub record Decides (b : Bool) (yes no : Type 0) : Type 0 where
-  pub passed : b ≡ true → yes
-  pub passes : yes → b ≡ true
-  pub failed : b ≡ false → no
-  pub fails : no → b ≡ false
 
 -- ---- tests
 
@@ -34,30 +27,6 @@ holds false e = absurd (true≢false (sym e))
 is-true : (b : Bool) → T b → b ≡ true
 is-true true t = refl
 is-true false t = absurd t
-
-pub at-most : (m n : ℕ) → Decides (leb m n) (m ≤ n) (n < m)
-at-most m n = record { passed = leb-true m n; passes = le-leb m n; failed = leb-false m n; fails = lt-leb m n }
-
--- of two tests both pass, or one fails
-pub pair-decides : {a b : Bool} {A B A′ B′ : Type 0} → Decides a A A′ → Decides b B B′ → Decides (cond a b false) (A × B) (A′ ⊎ B′)
-pair-decides {a} {b} {A} {B} {A′} {B′} p q = record {
-  passed = λ h. let k = both a b h in (p .passed (k .0), q .passed (k .1));
-  passes = λ y. rw (p .passes (y .0), q .passes (y .1));
-  failed = λ h. one a refl h;
-  fails = λ n. other n;
-}
-  where
-    one : (t : Bool) → a ≡ t → cond t b false ≡ false → A′ ⊎ B′
-    one true e h = inr (q .failed h)
-    one false e h = inl (p .failed e)
-
-    last : (t : Bool) → b ≡ false → cond t b false ≡ false
-    last true e = e
-    last false e = refl
-
-    other : A′ ⊎ B′ → cond a b false ≡ false
-    other (inl n) = rw (p .fails n)
-    other (inr n) = last a (q .fails n)
 
 -- ---- ranges
 
@@ -86,7 +55,7 @@ range-decides v = record { passed = in-range v; passes = range-in v; failed = be
 
 pub point-decides : (p : Pair) → Decides (validPointPos p) (Inside p) (Outside p)
 unfolding validPointPos
-point-decides p = pair-decides (range-decides (p .x)) (range-decides (p .y))
+point-decides p = both-decide (range-decides (p .x)) (range-decides (p .y))
 
 -- ---- magnitudes
 
@@ -115,7 +84,7 @@ magnitude-decides v = record { passed = below v; passes = is-below v; failed = a
 
 pub double-delta-decides : (p : Pair) → Decides (validDoubleDelta p) (Small p) (Large p)
 unfolding validDoubleDelta
-double-delta-decides p = pair-decides (magnitude-decides (p .x)) (magnitude-decides (p .y))
+double-delta-decides p = both-decide (magnitude-decides (p .x)) (magnitude-decides (p .y))
 
 -- ---- starts
 

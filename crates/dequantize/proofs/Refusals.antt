@@ -25,7 +25,7 @@ use Rattle.dequantize.specs.declared.control_points.Traced.{Traced}
 use Rattle.dequantize.specs.declared.control_points.Traced.the-variants as T
 use Rattle.dequantize.specs.declared.judge.Settled.the-variants.{Total, Stop}
 use Rattle.dequantize.specs.declared.judge.Judged.the-variants.{Fine, Refused}
-use Rattle.dequantize.proofs.Pairs.{both}
+use Rattle.codes.proofs.Decides.{both}
 use Rattle.dequantize.proofs.Coincide.{same-point}
 use Rattle.dequantize.proofs.Walks.{allInRange, points-in-range}
 use Rattle.dequantize.proofs.Exactly.{OfTrace, trace-code}

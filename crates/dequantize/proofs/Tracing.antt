@@ -22,7 +22,8 @@ use Rattle.dequantize.specs.declared.control_points.Traced.{Traced}
 use Rattle.dequantize.specs.declared.control_points.Traced.the-variants.{On, Stop}
 use Rattle.dequantize.proofs.Steps.{onto, step-went, trace-more, trace-done}
 use Rattle.dequantize.proofs.Walks.{points-more}
-use Rattle.dequantize.proofs.Ranges.{Decides, at-most, point-decides, double-delta-decides}
+use Rattle.codes.proofs.Decides.{Decides, at-most}
+use Rattle.dequantize.proofs.Ranges.{point-decides, double-delta-decides}
 
 module _ (limit : ℕ) (start : Pair) (ds : List ℤ) where
   -- ---- a run

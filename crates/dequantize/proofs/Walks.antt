@@ -13,7 +13,8 @@ use Rattle.dequantize.specs.declared.control_points.Place.{Place}
 use Rattle.dequantize.specs.declared.control_points.Run.{Run}
 use Rattle.dequantize.specs.declared.control_points.Traced.{Traced}
 use Rattle.dequantize.specs.declared.control_points.Traced.the-variants.{On, Stop}
-use Rattle.dequantize.proofs.Pairs.{both, point-fine, double-delta-fine}
+use Rattle.codes.proofs.Decides.{both}
+use Rattle.dequantize.proofs.Pairs.{point-fine, double-delta-fine}
 use Rattle.dequantize.proofs.Steps.{onto, step-went, pair-drop}
 use Rattle.dequantize.proofs.Coincide.{controlOf}
 

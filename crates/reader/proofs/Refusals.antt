@@ -9,12 +9,24 @@ use native.Mathlib.Nat.{not-suc-le-zero, sub-zero}
 use native.Mathlib.Omega.{arith}
 use lib.Dec.{ltb}
 use lib.ListN.{length}
-use lib.IntN.{ℤ, pos}
+use lib.IntN.{ℤ, pos, natAbs}
 use borrow.Author.Tests.{lt-ltb, le-ltb, ltb-true, ltb-false}
 use Rattle.codes.specs.declared.Code.{Code}
+use Rattle.codes.proofs.Decides.{Decides, at-most, less-than, either-decides}
 use Rattle.list.specs.List.{unpackSigned, posLimit, deltaLimit, beyond, ListRooms, Got, got, stop, Spline, spline, Splines, splines, Described, andThen, onto, coordinate, startsOf, deltasOf, coefficientsOf, splineIn, ontoSplines, splinesOf, describe, ended, afterStarts, lacking, readOf}
 use Rattle.list.specs.List as L
-use Rattle.reader.specs.Refusals.{Due, count, starts, adjustment, points, deltas, coefficients, nothing, wants, Reached, begin, counted, started, all-started, adjusted, pointed, moved, all-moved, weighed, all-weighed, all-pointed, DueRefusal, short, many-splines, far-start, many-points, far-delta, left-over, no-room, no-deltas, placeOf, ReadRefusal}
+use Rattle.reader.specs.Refusals.{Due, count, starts, adjustment, points, deltas, coefficients, nothing, wants, Reached, begin, counted, started, all-started, adjusted, pointed, moved, all-moved, weighed, all-weighed, all-pointed, DueRefusal, short, many-splines, far-start, many-points, far-delta, left-over, no-room, no-deltas, placeOf, ReadRefusal, Far, Close, FewCells, EnoughCells}
+
+-- ---- the tests of the code, and what the table says of numbers
+
+decides-far : (limit : ℕ) (x y : ℤ) → Decides (beyond limit x y) (Far limit x y) (Close limit x y)
+decides-far limit x y = either-decides (at-most limit (natAbs x)) (at-most limit (natAbs y))
+
+decides-cells : (rooms : ListRooms) (s : ℕ) → Decides (lacking rooms s) (FewCells rooms s) (EnoughCells rooms s)
+decides-cells rooms s =
+    either-decides (less-than (rooms .counts) s) (either-decides (less-than (rooms .starts) (2 * s)) (less-than (rooms .coefficients) (128 * s)))
+
+-- ---- one direction
 
 -- what becomes of reading
 data Fate : Type 0 where
@@ -205,11 +217,11 @@ module _ (limit : ℕ) (rooms : ListRooms) (t : ℕ) where
   unfolding startsOf deltasOf coefficientsOf
   given-at u (short {d} {r} h) = ends d r h
   given-at u (many-splines {v} {r} h) = rw (lt-ltb limit (v + 1) h)
-  given-at u (far-start h) = rw h
+  given-at u (far-start {first = first} {x = x} {y = y} {a = a} {b = b} h) = rw (decides-far posLimit (coordinate first x a) (coordinate first y b) .passes h)
   given-at u (many-points {s} {used} {n} {r} h) = points-step s used n r ∙ rw (lt-ltb (limit - used) n (omega (arith, u .0)))
-  given-at u (far-delta h) = rw h
+  given-at u (far-delta {a = a} {b = b} h) = rw (decides-far deltaLimit (unpackSigned a) (unpackSigned b) .passes h)
   given-at u left-over = refl
-  given-at u (no-room {v} {r} h w) = rw (le-ltb limit (v + 1) h, w)
+  given-at u (no-room {v} {r} h w) = rw (le-ltb limit (v + 1) h, decides-cells rooms (v + 1) .passes w)
   given-at u (no-deltas {s} {used} {n} {r} h w) =
       points-step s used n r ∙ rw (le-ltb (limit - used) n (omega arith), lt-ltb (rooms .deltas - 2 * used) (2 * n) (omega (arith, u .1)))
 
@@ -217,12 +229,12 @@ module _ (limit : ℕ) (rooms : ListRooms) (t : ℕ) where
 
   reached-from : {l : List ℕ} {d : Due} {r : List ℕ} → Reached limit rooms l d r → countFrom l ≡ from d r
   reached-from begin = refl
-  reached-from (counted {v} {r} q h w) = reached-from q ∙ rw (le-ltb limit (v + 1) h, w)
-  reached-from (started {s} {n} {first} {x} {y} {a} {b} {r} q h) = reached-from q ∙ starts-step s n first x y a b r h
+  reached-from (counted {v} {r} q h w) = reached-from q ∙ rw (le-ltb limit (v + 1) h, decides-cells rooms (v + 1) .fails w)
+  reached-from (started {s} {n} {first} {x} {y} {a} {b} {r} q h) = reached-from q ∙ starts-step s n first x y a b r (decides-far posLimit (coordinate first x a) (coordinate first y b) .fails h)
   reached-from (all-started {s} {first} {x} {y} {r} q) = reached-from q ∙ starts-end s first x y r
   reached-from (adjusted q) = reached-from q
   reached-from (pointed {s} {used} {n} {r} q h w) = reached-from q ∙ points-on s used n r h w
-  reached-from (moved {s} {used} {n} {a} {b} {r} q h) = reached-from q ∙ deltas-step s used n a b r h
+  reached-from (moved {s} {used} {n} {a} {b} {r} q h) = reached-from q ∙ deltas-step s used n a b r (decides-far deltaLimit (unpackSigned a) (unpackSigned b) .fails h)
   reached-from (all-moved {s} {used} {r} q) = reached-from q ∙ deltas-end s used r
   reached-from (weighed {s} {used} {n} {u} {r} q) = reached-from q ∙ coefficients-step s used n u r
   reached-from (all-weighed {s} {used} {r} q) = reached-from q ∙ coefficients-end s used r
@@ -299,8 +311,8 @@ module _ (limit : ℕ) (rooms : ListRooms) (l : List ℕ) (f : Fate) where
       where
         test : (w : Bool) → beyond deltaLimit (unpackSigned a) (unpackSigned b) ≡ w
             → (Reached limit rooms l (deltas s used n) r → deltasFrom limit rooms t s used n r ≡ f → Met limit rooms l f) → Met limit rooms l f
-        test true w next = stopped (deltas s used (suc n)) (a ∷ b ∷ r) q (far-delta w) e
-        test false w next = next (moved q w) (sym (deltas-step limit rooms t s used n a b r w) ∙ e)
+        test true w next = stopped (deltas s used (suc n)) (a ∷ b ∷ r) q (far-delta (decides-far deltaLimit (unpackSigned a) (unpackSigned b) .passed w)) e
+        test false w next = next (moved q (decides-far deltaLimit (unpackSigned a) (unpackSigned b) .failed w)) (sym (deltas-step limit rooms t s used n a b r w) ∙ e)
 
   find-splines : (s used : ℕ) (r : List ℕ) → Reached limit rooms l (points s used) r → splinesFrom limit rooms t s used r ≡ f → Met limit rooms l f
   find-splines zero used r q e = find-end r (all-pointed q) (sym (splines-end limit rooms t used r) ∙ e)
@@ -335,8 +347,8 @@ module _ (limit : ℕ) (rooms : ListRooms) (l : List ℕ) (f : Fate) where
           → (Reached limit rooms l (starts s n false (coordinate first x a) (coordinate first y b)) r
           → startsFrom limit rooms t s n false (coordinate first x a) (coordinate first y b) r ≡ f → Met limit rooms l f)
           → Met limit rooms l f
-      test true w next = stopped (starts s (suc n) first x y) (a ∷ b ∷ r) q (far-start w) e
-      test false w next = next (started q w) (sym (starts-step limit rooms t s n first x y a b r w) ∙ e)
+      test true w next = stopped (starts s (suc n) first x y) (a ∷ b ∷ r) q (far-start (decides-far posLimit (coordinate first x a) (coordinate first y b) .passed w)) e
+      test false w next = next (started q (decides-far posLimit (coordinate first x a) (coordinate first y b) .failed w)) (sym (starts-step limit rooms t s n first x y a b r w) ∙ e)
 
   find-count : (r : List ℕ) → Reached limit rooms l count r → countFrom limit rooms t r ≡ f → Met limit rooms l f
   find-count [] q e = stopped count [] q (short (omega arith)) e
@@ -344,9 +356,9 @@ module _ (limit : ℕ) (rooms : ListRooms) (l : List ℕ) (f : Fate) where
     where
       test : (x y : Bool) → ltb limit (v + 1) ≡ x → lacking rooms (v + 1) ≡ y → Met limit rooms l f
       test true y h w = stopped count (v ∷ r) q (many-splines (ltb-true limit (v + 1) h)) e
-      test false true h w = stopped count (v ∷ r) q (no-room (ltb-false limit (v + 1) h) w) e
+      test false true h w = stopped count (v ∷ r) q (no-room (ltb-false limit (v + 1) h) (decides-cells rooms (v + 1) .passed w)) e
       test false false h w =
-          find-starts (v + 1) (v + 1) true (pos 0) (pos 0) r (counted q (ltb-false limit (v + 1) h) w)
+          find-starts (v + 1) (v + 1) true (pos 0) (pos 0) r (counted q (ltb-false limit (v + 1) h) (decides-cells rooms (v + 1) .failed w))
           (rw (h, w) at e)
 
 -- what is given is said by the table
