@@ -616,12 +616,9 @@ pub fn max(a: f32, b: f32) -> f32
     ensures { λ r. ⌜ r ≡ maxOf a b ⌝ }
 {
     if a != a {
-        b
-    } else if a < b {
-        b
-    } else {
-        a
+        return b;
     }
+    if a < b { b } else { a }
 }
 
 // Whether x is an infinity of either sign.
