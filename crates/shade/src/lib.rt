@@ -70,8 +70,8 @@ fn turned(turn: bool, x: f32) -> f32
 fn erf(x: f32) -> f32
     ensures { λ r. ⌜ Alike r (fastErff x) ⌝ }
 {
-    let firstCells = x < 0.0;
-    turned(firstCells, erf_core(turned(firstCells, x)))
+    let negative = x < 0.0;
+    turned(negative, erf_core(turned(negative, x)))
 }
 
 // What a segment adds at a distance, before its colours.
