@@ -16,7 +16,7 @@ use Rattle.curve.specs.declared.Point.{Point}
 use Rattle.curve.specs.declared.Window.{Window}
 use Rattle.curve.specs.declared.Curved.the-variants.{Points, Room}
 use Rattle.curve.specs.Windows.{windowPoint}
-use Rattle.curve.specs.Curve.{pointOf, pointsOf, reflected, closing, windowOf, windowsFrom, windowsOf, interpolated, windowPoints, allPoints, lastOf, drawCentripetalCatmullRomSpline, pathOf, PathLength, flat, curvedOf, curvedOn}
+use Rattle.curve.specs.Curve.{pointOf, asPoints, reflected, closing, windowOf, windowsFrom, windowsOf, interpolated, windowPoints, allPoints, lastOf, drawCentripetalCatmullRomSpline, pathOf, PathLength, flat, curvedOf, curvedOn}
 
 -- ---- two numbers a point
 
@@ -105,16 +105,16 @@ length-drawn p (q ∷ l) =
     length-append (allPoints (windowsFrom (reflected p q) p q (closing p q l))) (lastOf q l ∷ [])
     ∙ omega (arith, length-all (reflected p q) p q (closing p q l), length-closing p q l)
 
-length-points : (l : List Pair) → length (pointsOf l) ≡ length l
-unfolding pointsOf
+length-points : (l : List Pair) → length (asPoints l) ≡ length l
+unfolding asPoints
 length-points [] = refl
 length-points (p ∷ l) = ap suc (length-points l)
 
 -- 16 points for each double delta, and one
 pub length-path : (start : Pair) (ds : List ℤ) → length (pathOf start ds) ≡ 16 * (length ds / 2) + 1
-unfolding pathOf controlPoints pointsOf
+unfolding pathOf controlPoints asPoints
 length-path start ds =
-    length-drawn (pointOf start) (pointsOf (laterPoints (placeAt start) ds))
+    length-drawn (pointOf start) (asPoints (laterPoints (placeAt start) ds))
     ∙ omega (arith, length-points (laterPoints (placeAt start) ds), points-length (placeAt start) ds)
 
 pub path-length : PathLength
@@ -123,7 +123,7 @@ path-length start ds = omega (arith, length-path start ds, points-length (placeA
 
 -- the start alone
 pub path-one : (start : Pair) (ds : List ℤ) → length ds < 2 → flat (pathOf start ds) ≡ two (pointOf start)
-unfolding pathOf controlPoints pointsOf drawCentripetalCatmullRomSpline flat
+unfolding pathOf controlPoints asPoints drawCentripetalCatmullRomSpline flat
 path-one start ds h = rw (points-done (placeAt start) ds h)
 
 -- ---- the answer and the buffer

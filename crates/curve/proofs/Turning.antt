@@ -23,7 +23,7 @@ use Rattle.curve.specs.declared.Point.{Point}
 use Rattle.curve.specs.declared.Window.{Window}
 use Rattle.curve.specs.declared.Turn.{Turn}
 use Rattle.curve.specs.Points.{absPoint}
-use Rattle.curve.specs.Curve.{pointOf, pointsOf, reflected, rootDistance, windowOf, windowPoints, pathOf, flat}
+use Rattle.curve.specs.Curve.{pointOf, asPoints, reflected, rootDistance, windowOf, windowPoints, pathOf, flat}
 use Rattle.curve.specs.Turns.{rootLength, nextPlace, firstTurn, nextTurn, turnWindow, lastWindow}
 use Rattle.curve.proofs.Wholes.{add-wholes, sub-wholes}
 use Rattle.curve.proofs.Paths.{two, length-flat-window, restPath, rest-last, rest-more, path-flat}
@@ -222,24 +222,24 @@ module _ (t : Turn) (ds : List ℤ) (k : ℕ) (u : Under t ds k) where
 
 -- what is still to come of the path at a turn before the pair k
 unfoldable pub turnPath : Turn → List ℤ → ℕ → List Float
-turnPath t ds k = restPath (t .p) (t .q) (t .r) (pointsOf (laterPoints (t .place) (drop (2 * k) ds)))
+turnPath t ds k = restPath (t .p) (t .q) (t .r) (asPoints (laterPoints (t .place) (drop (2 * k) ds)))
 
 pub path-begin : (start : Pair) (ds : List ℤ) → 2 ≤ length ds → flat (pathOf start ds) ≡ turnPath (firstTurn start (nextPlace (placeAt start) ds 0)) ds 1
-unfolding pathOf controlPoints pointsOf firstTurn turnPath
+unfolding pathOf controlPoints asPoints firstTurn turnPath
 path-begin start ds h =
     let l = laterPoints (nextPlace (placeAt start) ds 0) (drop 2 ds) in
-    rw (points-more (placeAt start) ds 0 h) (path-flat (pointOf start) (pointOf (nextPlace (placeAt start) ds 0 .point)) (pointsOf l))
+    rw (points-more (placeAt start) ds 0 h) (path-flat (pointOf start) (pointOf (nextPlace (placeAt start) ds 0 .point)) (asPoints l))
 
 module _ (t : Turn) (ds : List ℤ) (k : ℕ) (u : Under t ds k) where
   path-step : 2 * k + 2 ≤ length ds → let n = nextTurn t (nextPlace (t .place) ds k) in turnPath t ds k ≡ flat (windowPoints (turnWindow t (n .r) (n .d1))) ++ turnPath n ds (k + 1)
-  unfolding turnPath pointsOf nextTurn
+  unfolding turnPath asPoints nextTurn
   path-step h =
       let n = nextPlace (t .place) ds k in
       rw (turn-window t ds k u h, points-more (t .place) ds k h)
-      (rest-more (t .p) (t .q) (t .r) (pointOf (n .point)) (pointsOf (laterPoints n (drop (2 * (k + 1)) ds))))
+      (rest-more (t .p) (t .q) (t .r) (pointOf (n .point)) (asPoints (laterPoints n (drop (2 * (k + 1)) ds))))
 
   path-last : length ds < 2 * k + 2 → turnPath t ds k ≡ flat (windowPoints (lastWindow t)) ++ two (t .r)
-  unfolding turnPath pointsOf
+  unfolding turnPath asPoints
   path-last h =
       let e : laterPoints (t .place) (drop (2 * k) ds) ≡ [] = points-done (t .place) (drop (2 * k) ds) (rw length-drop (omega arith)) in
       rw (last-window t ds k u, e) (rest-last (t .p) (t .q) (t .r))

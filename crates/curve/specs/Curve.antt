@@ -24,9 +24,9 @@ use Rattle.curve.specs.Windows.{windowPoint}
 abbrev pub pointOf : Pair → Point
 pointOf p = record { x = ofInt binary32 (p .x); y = ofInt binary32 (p .y) }
 
-unfoldable pub pointsOf : List Pair → List Point
-pointsOf [] = []
-pointsOf (p ∷ l) = pointOf p ∷ pointsOf l
+unfoldable pub asPoints : List Pair → List Point
+asPoints [] = []
+asPoints (p ∷ l) = pointOf p ∷ asPoints l
 
 -- ---- windows
 
@@ -89,7 +89,7 @@ drawCentripetalCatmullRomSpline (p ∷ q ∷ l) = allPoints (windowsOf p q l) ++
 
 -- the path of the spline that begins at start and has the double deltas ds
 unfoldable pub pathOf : Pair → List ℤ → List Point
-pathOf start ds = drawCentripetalCatmullRomSpline (pointsOf (controlPoints start ds))
+pathOf start ds = drawCentripetalCatmullRomSpline (asPoints (controlPoints start ds))
 
 -- 16(n - 1) + 1 points for n control points: 1 for one
 abbrev pub PathLength : Type 0

@@ -7,8 +7,9 @@ use native.Mathlib.Omega.{arith}
 use lib.ListN.{length, getD, take, drop}
 use lib.Ieee.{nan}
 use Rattle.codes.specs.declared.Code.{Code}
+use Rattle.shape.specs.Shape.{pointsOf}
 use Rattle.dequantize.specs.Dequantize.{dequantizeOf}
-use Rattle.dequantize.specs.Judge.{Description, Shaped, pointsOf, startX, startY, deltasAt, deltasOf, coefficientsOf, splineOf, settleOf, judgeFrom, judgeOf}
+use Rattle.dequantize.specs.Judge.{Description, Shaped, startX, startY, deltasAt, deltasOf, coefficientsOf, splineOf, settleOf, judgeFrom, judgeOf}
 use Rattle.dequantize.specs.declared.Given.{Given}
 use Rattle.dequantize.specs.declared.Spline.{Spline}
 use Rattle.dequantize.specs.declared.judge.Settled.{Settled}

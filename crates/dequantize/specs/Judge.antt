@@ -7,6 +7,8 @@ use lib.Dec.{leb, eqb}
 use lib.IntN.{ℤ}
 use lib.ListN.{length, getD, take, drop}
 use lib.Ieee.{Float, nan}
+use Rattle.shape.specs.Shape as Shape
+use Rattle.shape.specs.Shape.{pointsOf}
 use Rattle.codes.specs.Codes.{numberOf}
 use Rattle.codes.specs.declared.Code.the-variants.{Area, Coincide}
 use Rattle.numbers.specs.Saturating.{satAdd}
@@ -29,15 +31,9 @@ pub record Description : Type 0 where
 abbrev pub descriptionOf : List ℕ → List Float → List ℤ → List ℤ → Description
 descriptionOf counts starts deltas coefficients = record { counts = counts; starts = starts; deltas = deltas; coefficients = coefficients }
 
-abbrev pub pointsOf : List ℕ → ℕ
-pointsOf [] = 0
-pointsOf (n ∷ ns) = n + pointsOf ns
-
 -- what SHAPE asks for
-pub record Shaped (d : Description) : Type 0 where
-  pub starts : length (d .starts) ≡ 2 * length (d .counts)
-  pub deltas : length (d .deltas) ≡ 2 * pointsOf (d .counts)
-  pub coefficients : length (d .coefficients) ≡ 128 * length (d .counts)
+abbrev pub Shaped : Description → Type 0
+Shaped d = Shape.Shaped (d .counts) (d .starts) (d .deltas) (d .coefficients)
 
 -- ---- the spline k
 

@@ -181,7 +181,7 @@ fn judged_of(
 ) -> Judged
     ensures { λ r. ⌜ r ≡ judgedOf (descriptionOf (now (counts .entry)) (now (starts .entry)) (now (deltas .entry)) (now (coefficients .entry))) given ⌝ }
 {
-    if !table::shape_good(counts, starts, deltas, coefficients) {
+    if !shape::shape_good(counts, starts, deltas, coefficients) {
         return Judged::Refused(Code::Shape, 0);
     }
     dequantize::judge::judge(counts, starts, deltas, coefficients, given)

@@ -8,12 +8,13 @@ use Prim.Native.Nat.{ℕ, suc, _*_, _^_, _≤_, _<_}
 use native.Mathlib.Omega.{arith}
 use lib.Dec.{leb}
 use lib.ListN.{length}
-use borrow.Author.Tests.{leb-true, leb-false, le-leb, lt-leb, eq-eqb}
+use borrow.Author.Tests.{leb-true, leb-false, le-leb, lt-leb}
 use Rattle.codes.specs.declared.Code.{Code}
 use Rattle.codes.specs.declared.Code.the-variants as Code
+use Rattle.shape.proofs.Shape as Shape
 use Rattle.dequantize.specs.declared.judge.Judged.{Judged}
 use Rattle.dequantize.specs.declared.judge.Judged.the-variants as Judged
-use Rattle.dequantize.specs.Judge.{Description, Shaped, pointsOf, totalOf, judgeOf}
+use Rattle.dequantize.specs.Judge.{Description, Shaped, totalOf, judgeOf}
 use Rattle.dequantize.specs.Refusals.{AllPass}
 use Rattle.dequantize.proofs.Refusals.{fine-all, all-fine, judged-exactly}
 use Rattle.segments.specs.declared.Segment.{Segment}
@@ -43,16 +44,10 @@ not-sized a b m (inl h) = rw (lt-leb a m h)
 not-sized a b m (inr h) = rw (lt-leb b m h) (and-false (leb a m))
 
 is-shaped : (d : Description) → Shaped d → shaped d ≡ true
-unfolding shaped
-is-shaped d s =
-    rw (eq-eqb (length (d .starts)) (2 * length (d .counts)) (s .starts), eq-eqb (length (d .deltas)) (2 * pointsOf (d .counts)) (s .deltas), eq-eqb (length (d .coefficients)) (128 * length (d .counts)) (s .coefficients))
+is-shaped d = Shape.is-shaped (d .counts) (d .starts) (d .deltas) (d .coefficients)
 
 not-shaped : (d : Description) → (Shaped d → ⊥) → shaped d ≡ false
-not-shaped d n = go (shaped d) refl
-  where
-    go : (t : Bool) → shaped d ≡ t → t ≡ false
-    go true p = absurd (n (agreed d p))
-    go false p = refl
+not-shaped d = Shape.not-shaped (d .counts) (d .starts) (d .deltas) (d .coefficients)
 
 module _ (d : Description) (i : Setting) (r : BuildRooms) where
   -- ---- a line of the table gives its code, and needs that are met a table

@@ -2,7 +2,7 @@
 use mathlib.Core.Bool.{Bool, true, false, _&&_}
 use mathlib.Core.List.{List, _++_}
 use Prim.Native.Nat.{ℕ, suc, _-_, _*_, _^_}
-use lib.Dec.{leb, eqb}
+use lib.Dec.{leb}
 use lib.IntN.{ℤ}
 use lib.ListN.{length, replicate}
 use lib.Ieee.{Float, binary32, ofBits}
@@ -13,7 +13,8 @@ use Rattle.dequantize.specs.declared.Given.{Given}
 use Rattle.dequantize.specs.declared.judge.Judged.{Judged}
 use Rattle.dequantize.specs.declared.judge.Judged.the-variants as Judged
 use Rattle.dequantize.specs.Limits.{splineAreaLimit}
-use Rattle.dequantize.specs.Judge.{Description, pointsOf, judgeOf}
+use Rattle.dequantize.specs.Judge.{Description, judgeOf}
+use Rattle.shape.specs.Shape as Shape
 use Rattle.curve.specs.Curve.{pathRoom}
 use Rattle.walk.specs.Walk.{walkRoom}
 use Rattle.points.specs.Points.{segmentRoom, eights}
@@ -121,10 +122,8 @@ abbrev pub sized : ℕ → ℕ → Bool
 sized width height = leb width (2 ^ 23) && leb height (2 ^ 23)
 
 -- lengths that agree
-unfoldable pub shaped : Description → Bool
-shaped d =
-    eqb (length (d .starts)) (2 * length (d .counts))
-    && (eqb (length (d .deltas)) (2 * pointsOf (d .counts)) && eqb (length (d .coefficients)) (128 * length (d .counts)))
+abbrev pub shaped : Description → Bool
+shaped d = Shape.shaped (d .counts) (d .starts) (d .deltas) (d .coefficients)
 
 abbrev pub orRefused : Bool → Code → Judged → Judged
 orRefused true code rest = rest

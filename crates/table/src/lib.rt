@@ -2,15 +2,14 @@
 // every lent cell zero.
 ghost use mathlib.Core.Path.{_≡_};
 ghost use Prim.Native.Nat.{_*_, _≤_, _<_, _^_};
-ghost use lib.Dec.{eqb};
 ghost use lib.ListN.{length, take};
-ghost use Rattle.dequantize.specs.Judge.{Shaped, descriptionOf, pointsOf};
+ghost use Rattle.dequantize.specs.Judge.{Shaped, descriptionOf};
 ghost use Rattle.curve.specs.Curve.{pathRoom};
 ghost use Rattle.walk.specs.Walk.{walkRoom};
 ghost use Rattle.points.specs.Points.{segmentRoom};
 ghost use Rattle.painting.specs.Painting.{Passed, paintOf};
 ghost use Rattle.rows.specs.Rows.{inRow, built};
-ghost use Rattle.table.specs.Table.{roomsOf, settingOf, givenOf, leaves, refusedWith, sized, shaped, verdictOf, afterRows, afterPaint, buildOf};
+ghost use Rattle.table.specs.Table.{roomsOf, settingOf, givenOf, leaves, refusedWith, sized, verdictOf, afterRows, afterPaint, buildOf};
 use codes::Code;
 use dequantize::Given;
 use dequantize::judge::Judged;
@@ -53,43 +52,6 @@ fn size_good(width: u32, height: u32) -> bool
     height <= 8388608
 }
 
-// Whether the counts sum to just so many points: the sum itself may be too large to hold, so points are taken away instead.
-fn sum_is(counts: &[u32], points: usize) -> bool
-    ensures { λ r. ⌜ r ≡ eqb (pointsOf (now (counts .entry))) points ⌝ }
-{
-    let mut left = points;
-    let mut i = 0;
-    while i < counts.len() {
-        let n = counts[i] as usize;
-        if left < n {
-            return false;
-        }
-        left -= n;
-        i += 1;
-    }
-    left == 0
-}
-
-// Whether the lengths agree: 128 times a count may be too large to hold, so the coefficients are divided instead.
-pub fn shape_good(counts: &[u32], starts: &[f32], deltas: &[i32], coefficients: &[i32]) -> bool
-    ensures { λ r. ⌜ r ≡ shaped (descriptionOf (now (counts .entry)) (now (starts .entry)) (now (deltas .entry)) (now (coefficients .entry))) ⌝ }
-{
-    let splines = counts.len();
-    if starts.len() != 2 * splines {
-        return false;
-    }
-    if deltas.len() % 2 != 0 {
-        return false;
-    }
-    if coefficients.len() % 128 != 0 {
-        return false;
-    }
-    if coefficients.len() / 128 != splines {
-        return false;
-    }
-    sum_is(counts, deltas.len() / 2)
-}
-
 // All checks before any drawing, in their order.
 fn judge_all(
     counts: &[u32],
@@ -104,7 +66,7 @@ fn judge_all(
     ensures { λ r. ⌜ r ≡ verdictOf (descriptionOf (now (counts .entry)) (now (starts .entry)) (now (deltas .entry)) (now (coefficients .entry))) given width height rows ⌝ }
 {
     let small = size_good(width, height);
-    let agrees = shape_good(counts, starts, deltas, coefficients);
+    let agrees = shape::shape_good(counts, starts, deltas, coefficients);
     if !small {
         return Judged::Refused(Code::Size, 0);
     }
