@@ -5,6 +5,7 @@
  */
 #include "aktyrbuz.h"
 
+#include <float.h>
 #include <inttypes.h>
 #include <stdio.h>
 #include <stdlib.h>
@@ -21,6 +22,7 @@ struct description {
 /* What a build leaves. */
 struct table {
     float *segments;
+    uint64_t *owners;
     uint32_t *row_starts, *entries;
     size_t segments_len, entries_len;
     uint32_t segment_count, entry_count, height;
@@ -78,7 +80,7 @@ static struct description read_all(const uint32_t *list, size_t len, uint32_t pi
     return d;
 }
 
-/* Nobody knows beforehand how many segments there will be: the rooms double until they are enough, up to 116 MiB. */
+/* Nobody knows beforehand how many segments there will be: the rooms double until they are enough, up to 124 MiB. */
 static struct table build_all(const struct description *d, uint32_t width, uint32_t height) {
     struct table t = {0};
     int64_t answer[5];
@@ -90,15 +92,16 @@ static struct table build_all(const struct description *d, uint32_t width, uint3
         t.segments_len = 8 * points;
         t.entries_len = 16 * points;
         t.segments = realloc(t.segments, t.segments_len * sizeof *t.segments);
+        t.owners = realloc(t.owners, points * sizeof *t.owners);
         t.entries = realloc(t.entries, t.entries_len * sizeof *t.entries);
         t.row_starts = realloc(t.row_starts, ((size_t)height + 1) * sizeof *t.row_starts);
-        if (!t.segments || !t.entries || !t.row_starts) {
+        if (!t.segments || !t.owners || !t.entries || !t.row_starts) {
             fprintf(stderr, "no memory for a table\n");
             exit(1);
         }
         code = aktyrbuz_build(d->counts, d->splines, d->starts, 2 * d->splines, d->deltas, 2 * d->points, d->coefficients, 128 * d->splines,
                               d->adjustment, width, height, 0, 1, false, false, path, 2 * points, walk, 3 * points, t.segments, t.segments_len,
-                              t.row_starts, (size_t)height + 1, t.entries, t.entries_len, answer);
+                              t.owners, points, t.row_starts, (size_t)height + 1, t.entries, t.entries_len, answer);
         free(path);
         free(walk);
         points *= 2;
@@ -110,10 +113,26 @@ static struct table build_all(const struct description *d, uint32_t width, uint3
     return t;
 }
 
+/* The trace that an operator touches: of the segments that row y lists, the one with the nearest centre tells its spline. */
+static void touch(const struct table *t, uint32_t x, uint32_t y) {
+    double nearest = DBL_MAX;
+    uint64_t trace = 0;
+    for (uint32_t i = t->row_starts[y]; i < t->row_starts[y + 1]; i++) {
+        const float *segment = t->segments + 8 * (size_t)t->entries[i];
+        double dx = (double)x - segment[0], dy = (double)y - segment[1], square = dx * dx + dy * dy;
+        if (square < nearest) {
+            nearest = square;
+            trace = t->owners[t->entries[i]];
+        }
+    }
+    printf("touch: column %" PRIu32 ", row %" PRIu32 " is of trace %" PRIu64 "\n", x, y, trace);
+}
+
 static void draw_all(const struct table *t, uint32_t width) {
     float *channels = room(3 * (size_t)width, sizeof *channels);
     int64_t answer[5], updates = 0;
     float brightest = 0;
+    uint32_t at_x = 0, at_y = 0;
     for (uint32_t y = 0; y < t->height; y++) {
         for (size_t i = 0; i < 3 * (size_t)width; i++)
             channels[i] = 0;
@@ -123,10 +142,15 @@ static void draw_all(const struct table *t, uint32_t width) {
               answer);
         updates += answer[1];
         for (size_t x = 0; x < width; x++)
-            if (channels[width + x] > brightest)
+            if (channels[width + x] > brightest) {
                 brightest = channels[width + x];
+                at_x = (uint32_t)x;
+                at_y = y;
+            }
     }
     printf("draw: %" PRId64 " updates, the brightest Y is %.3f\n", updates, brightest);
+    if (brightest > 0)
+        touch(t, at_x, at_y);
     free(channels);
 }
 
@@ -144,6 +168,6 @@ int main(int argc, char **argv) {
     draw_all(&t, width);
     free(list);
     free(d.counts), free(d.starts), free(d.deltas), free(d.coefficients);
-    free(t.segments), free(t.row_starts), free(t.entries);
+    free(t.segments), free(t.owners), free(t.row_starts), free(t.entries);
     return 0;
 }

@@ -29,13 +29,24 @@ fn run(path: &str, width: u32, height: u32) -> Result<(), Box<dyn Error>> {
         counts.segments, counts.entries, counts.estimate
     );
 
-    let (mut updates, mut brightest) = (0, 0.0f32);
+    let (mut updates, mut brightest, mut at) = (0, 0.0f32, (0, 0));
     for y in 0..height {
         let [mut x, mut luma, mut b] = [(); 3].map(|()| vec![0.0; width as usize]);
         updates += table.draw_row(y, 0, [&mut x, &mut luma, &mut b])?;
-        brightest = luma.into_iter().fold(brightest, f32::max);
+        for (x, luma) in (0..).zip(luma) {
+            if luma > brightest {
+                (brightest, at) = (luma, (x, y));
+            }
+        }
     }
     println!("draw: {updates} updates, the brightest Y is {brightest:.3}");
+    // Which fibre an operator touches there.
+    if let Some(near) = table.at(at.0, at.1).first() {
+        println!(
+            "touch: column {}, row {} is of trace {}",
+            at.0, at.1, near.trace
+        );
+    }
     Ok(())
 }
 

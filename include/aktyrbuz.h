@@ -67,14 +67,15 @@ uint32_t aktyrbuz_write(const uint32_t *counts, size_t counts_len, const float *
  * y_to_x and y_to_b are what X and B gain of Y (usually 0 and 1). level10 gives the greater area limit, high_precision longer reaches:
  * only with it are the rows those of the reference decoder, libjxl.
  * Rooms: path 2 floats a point, walk 3 floats a point, both for the longest spline and 0 on return; segments 8 floats each (centre x and y, distance,
- * 1/sigma, 0.25 sigma times multiplier, three colours); height + 1 row_starts; entries. Row y lists entries[row_starts[y]] up to but not including
- * entries[row_starts[y + 1]], ascending. Cells past the used part, and all cells after a refusal, are 0.
+ * 1/sigma, 0.25 sigma times multiplier, three colours); owners one cell a segment, the number of its spline, which never falls from one segment to the next;
+ * height + 1 row_starts; entries. Row y lists entries[row_starts[y]] up to but not including entries[row_starts[y + 1]], ascending. As many segments fit as
+ * both segments and owners have room for. Cells past the used part, and all cells after a refusal, are 0.
  * Place: the number of a spline; SIZE, SHAPE, and ROOM of row_starts and entries: 0. Counts: segments, entries, estimate. */
 uint32_t aktyrbuz_build(const uint32_t *counts, size_t counts_len, const float *starts, size_t starts_len,
                         const int32_t *deltas, size_t deltas_len, const int32_t *coefficients, size_t coefficients_len,
                         int32_t adjustment, uint32_t width, uint32_t height, float y_to_x, float y_to_b,
                         bool high_precision, bool level10,
-                        float *path, size_t path_len, float *walk, size_t walk_len, float *segments, size_t segments_len,
+                        float *path, size_t path_len, float *walk, size_t walk_len, float *segments, size_t segments_len, uint64_t *owners, size_t owners_len,
                         uint32_t *row_starts, size_t row_starts_len, uint32_t *entries, size_t entries_len, int64_t answer[5]);
 
 /* Adds the segments of row y to the pixels x0 up to but not including x0 + n. Each channel begins at pixel x0; what they hold before stays and is added to.

@@ -37,7 +37,7 @@ pub write-floats : (ns : List ℕ) (ss : List Float) (ds cs : List ℤ) (a : ℤ
 write-floats ns ss ds cs a configured pixels room o (writes κs _ _ _ _ _ _ _ _ _ _ _ _ _ _ _ _ _ f p) = f
 
 pub build-equation : (d : Description) (i : Setting) (r : building.BuildRooms) (o : building.BuildOutcome) → BuildCall d i r o → o ≡ buildOf d i r
-build-equation d i r o (builds κs _ _ _ _ _ _ _ _ _ _ _ _ _ _ _ _ _ _ _ _ _ _ _ _ _ _ _ _ _ _ _ _ _ p) = p
+build-equation d i r o (builds κs _ _ _ _ _ _ _ _ _ _ _ _ _ _ _ _ _ _ _ _ _ _ _ _ _ _ _ _ _ _ _ _ _ _ _ p) = p
 
 pub draw-equation : (t : Table) (y x0 n : ℕ) (a : Channels) (o : DrawOutcome) → DrawCall t y x0 n a o → o ≡ drawOf t y x0 n a
 draw-equation t y x0 n a o (draws κs _ _ _ _ _ _ _ _ _ _ _ _ _ _ _ _ _ _ _ _ _ _ _ _ _ p) = p
@@ -50,8 +50,8 @@ ln-equation x r (logs κs _ _ _ p) = p
 
 -- what a build tells is told by its answer, and so is what a drawing or a reach tells
 pub build-told-by : (d : Description) (i : Setting) (r : building.BuildRooms) (o : building.BuildOutcome) → BuildCall d i r o
-    → o ≡ building.leaves (o .answer) (o .path) (o .walk) (o .segments) (o .starts) (o .entries)
-build-told-by d i r o (builds κs _ _ _ _ _ _ _ _ _ _ _ _ _ _ _ _ _ _ _ _ _ _ _ _ _ _ _ _ _ _ _ _ _ p) = refl
+    → o ≡ building.leaves (o .answer) (o .path) (o .walk) (o .segments) (o .owners) (o .starts) (o .entries)
+build-told-by d i r o (builds κs _ _ _ _ _ _ _ _ _ _ _ _ _ _ _ _ _ _ _ _ _ _ _ _ _ _ _ _ _ _ _ _ _ _ _ p) = refl
 
 pub told-by : (t : Table) (y x0 n : ℕ) (a : Channels) (o : DrawOutcome) → DrawCall t y x0 n a o → o ≡ drawing.leaves (o .answer) (o .channels)
 told-by t y x0 n a o (draws κs _ _ _ _ _ _ _ _ _ _ _ _ _ _ _ _ _ _ _ _ _ _ _ _ _ p) = refl

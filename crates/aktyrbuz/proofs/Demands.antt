@@ -77,7 +77,7 @@ builds-the-table = record {
 
 pub enough-room-is-done : EnoughRoomIsDone
 enough-room-is-done = record {
-  enough = λ d i r segments o n b. build-equation d i r o b ∙ making.enough-is-done d i r segments n;
+  enough = λ d i r segments owners o n b. build-equation d i r o b ∙ making.enough-is-done d i r segments owners n;
   more = λ d i r r′ o o′ s e estimate l b c.
       let same = making.more-room-never-refuses d i r r′ s e estimate l (done-answer b) in
       rw (build-equation d i r o (b .called), build-equation d i r′ o′ c) same;
@@ -123,6 +123,7 @@ refused-leaves-zero = record {
         path = ap (λ (u : building.BuildOutcome). u .path) z;
         walk = ap (λ (u : building.BuildOutcome). u .walk) z;
         segments = ap (λ (u : building.BuildOutcome). u .segments) z;
+        owners = ap (λ (u : building.BuildOutcome). u .owners) z;
         starts = ap (λ (u : building.BuildOutcome). u .starts) z;
         entries = ap (λ (u : building.BuildOutcome). u .entries) z;
       };

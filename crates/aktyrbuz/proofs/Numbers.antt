@@ -34,10 +34,10 @@ pub write-exported : {o : Write.WriteOutcome} (r : WriteAnswer) (t : Told) (five
     → writeLeaves (t .number) five l ≡ writeExport o
 write-exported r t five l p q s = rw (← p, s, q)
 
-pub build-exported : {t : Build.BuildOutcome} (r : BuildAnswer) (told : Told) (five : List ℤ) (path walk segments : List Float) (starts entries : List ℕ)
-    → Build.leaves r path walk segments starts entries ≡ t → told ≡ toldBuild r → five ≡ toldIn told
-    → buildLeaves (told .number) five path walk segments starts entries ≡ buildExport t
-build-exported r told five path walk segments starts entries p q s = rw (← p, s, q)
+pub build-exported : {t : Build.BuildOutcome} (r : BuildAnswer) (told : Told) (five : List ℤ) (path walk segments : List Float) (owners starts entries : List ℕ)
+    → Build.leaves r path walk segments owners starts entries ≡ t → told ≡ toldBuild r → five ≡ toldIn told
+    → buildLeaves (told .number) five path walk segments owners starts entries ≡ buildExport t
+build-exported r told five path walk segments owners starts entries p q s = rw (← p, s, q)
 
 pub draw-exported : {o : Draw.DrawOutcome} (r : DrawAnswer) (t : Told) (five : List ℤ) (a : Draw.Channels)
     → Draw.leaves r a ≡ o → t ≡ toldDraw r → five ≡ toldIn t

@@ -53,13 +53,13 @@ pub data WriteCall : List ℕ → List Float → List ℤ → List ℤ → ℤ �
 
 -- of a description, for an image, with so many cells lent
 pub data BuildCall : Description → Setting → building.BuildRooms → building.BuildOutcome → Type 0 where
-  builds : (κs : Lfts 9) (counts : _) (starts : _) (deltas : _) (coefficients : _) (adjustment : _) (width : _) (height : _) (ytox : _) (ytob : _) (high : _) (level10 : _) (path : _) (walk : _) (segments : _) (rowStarts : _) (entries : _) (r : _)
-      (counts′ : _) (starts′ : _) (deltas′ : _) (coefficients′ : _) (adjustment′ : _) (width′ : _) (height′ : _) (ytox′ : _) (ytob′ : _) (high′ : _) (level10′ : _) (path′ : _) (walk′ : _) (segments′ : _) (rowStarts′ : _) (entries′ : _)
-      → build.Post κs (counts, (starts, (deltas, (coefficients, (adjustment, (width, (height, (ytox, (ytob, (high, (level10, (path, (walk, (segments, (rowStarts, (entries, tt)))))))))))))))) r
-      (counts′, (starts′, (deltas′, (coefficients′, (adjustment′, (width′, (height′, (ytox′, (ytob′, (high′, (level10′, (path′, (walk′, (segments′, (rowStarts′, (entries′, tt))))))))))))))))
+  builds : (κs : Lfts 10) (counts : _) (starts : _) (deltas : _) (coefficients : _) (adjustment : _) (width : _) (height : _) (ytox : _) (ytob : _) (high : _) (level10 : _) (path : _) (walk : _) (segments : _) (owners : _) (rowStarts : _) (entries : _) (r : _)
+      (counts′ : _) (starts′ : _) (deltas′ : _) (coefficients′ : _) (adjustment′ : _) (width′ : _) (height′ : _) (ytox′ : _) (ytob′ : _) (high′ : _) (level10′ : _) (path′ : _) (walk′ : _) (segments′ : _) (owners′ : _) (rowStarts′ : _) (entries′ : _)
+      → build.Post κs (counts, (starts, (deltas, (coefficients, (adjustment, (width, (height, (ytox, (ytob, (high, (level10, (path, (walk, (segments, (owners, (rowStarts, (entries, tt))))))))))))))))) r
+      (counts′, (starts′, (deltas′, (coefficients′, (adjustment′, (width′, (height′, (ytox′, (ytob′, (high′, (level10′, (path′, (walk′, (segments′, (owners′, (rowStarts′, (entries′, tt)))))))))))))))))
       → BuildCall (descriptionOf (now counts) (now starts) (now deltas) (now coefficients)) (settingOf adjustment width height ytox ytob high level10)
-      (building.roomsOf (now path) (now walk) (now segments) (now rowStarts) (now entries))
-      (building.leaves r (now path′) (now walk′) (now segments′) (now rowStarts′) (now entries′))
+      (building.roomsOf (now path) (now walk) (now segments) (now owners) (now rowStarts) (now entries))
+      (building.leaves r (now path′) (now walk′) (now segments′) (now owners′) (now rowStarts′) (now entries′))
 
 -- of row y of a table, n pixels from column x0 on, with channels lent that begin there
 pub data DrawCall : Table → ℕ → ℕ → ℕ → Channels → DrawOutcome → Type 0 where

@@ -93,8 +93,8 @@ pub record BuildsTheTable : Type 0 where
 
 -- a build whose needs are met is done, and with at least as much room as one that is done it is done too, with the same counts and the same table
 pub record EnoughRoomIsDone : Type 0 where
-  pub enough : (d : Description) (i : Setting) (r : building.BuildRooms) (segments : List Segment) (o : building.BuildOutcome) → NeedsMet d i r segments → BuildCall d i r o
-      → o ≡ doneWith d i r segments
+  pub enough : (d : Description) (i : Setting) (r : building.BuildRooms) (segments : List Segment) (owners : List ℕ) (o : building.BuildOutcome) → NeedsMet d i r segments owners → BuildCall d i r o
+      → o ≡ doneWith d i r segments owners
   pub more : (d : Description) (i : Setting) (r r′ : building.BuildRooms) (o o′ : building.BuildOutcome) (s e estimate : ℕ) → NoLess r r′ → BuildDone d i r o s e estimate
       → BuildCall d i r′ o′ → SameTable (i .height) s e o o′
 
@@ -129,6 +129,7 @@ pub record BuildZeros (rooms : building.BuildRooms) (o : building.BuildOutcome) 
   pub path : o .path ≡ zeros (rooms .path)
   pub walk : o .walk ≡ zeros (rooms .walk)
   pub segments : o .segments ≡ zeros (rooms .segments)
+  pub owners : o .owners ≡ replicate (rooms .owners) 0
   pub starts : o .starts ≡ replicate (rooms .starts) 0
   pub entries : o .entries ≡ replicate (rooms .entries) 0
 

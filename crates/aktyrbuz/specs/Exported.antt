@@ -83,23 +83,25 @@ pub record BuildExport : Type 0 where
   pub path : List Float
   pub walk : List Float
   pub segments : List Float
+  pub owners : List ℕ
   pub starts : List ℕ
   pub entries : List ℕ
 
-abbrev pub buildLeaves : ℕ → List ℤ → List Float → List Float → List Float → List ℕ → List ℕ → BuildExport
-buildLeaves r five path walk segments starts entries = record {
+abbrev pub buildLeaves : ℕ → List ℤ → List Float → List Float → List Float → List ℕ → List ℕ → List ℕ → BuildExport
+buildLeaves r five path walk segments owners starts entries = record {
   number = r;
   answer = five;
   path = path;
   walk = walk;
   segments = segments;
+  owners = owners;
   starts = starts;
   entries = entries;
 }
 
 abbrev pub buildExport : BuildOutcome → BuildExport
 buildExport t =
-    buildLeaves (toldBuild (t .answer) .number) (toldIn (toldBuild (t .answer))) (t .path) (t .walk) (t .segments) (t .starts) (t .entries)
+    buildLeaves (toldBuild (t .answer) .number) (toldIn (toldBuild (t .answer))) (t .path) (t .walk) (t .segments) (t .owners) (t .starts) (t .entries)
 
 pub record DrawExport : Type 0 where
   pub number : ℕ

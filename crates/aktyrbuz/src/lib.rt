@@ -223,12 +223,13 @@ pub extern "C" fn aktyrbuz_build(
     path: &mut [f32],
     walk: &mut [f32],
     segments: &mut [f32],
+    owners: &mut [u64],
     row_starts: &mut [u32],
     entries: &mut [u32],
     answer: &mut [i64; 5],
 ) -> u32
-    ensures { λ r. ⌜ buildLeaves r (now (answer .exit)) (now (path .exit)) (now (walk .exit)) (now (segments .exit)) (now («row_starts» .exit)) (now (entries .exit))
-        ≡ buildExport (buildOf (descriptionOf (now (counts .entry)) (now (starts .entry)) (now (deltas .entry)) (now (coefficients .entry))) (settingOf adjustment width height «y_to_x» «y_to_b» «high_precision» level10) (build.roomsOf (now (path .entry)) (now (walk .entry)) (now (segments .entry)) (now («row_starts» .entry)) (now (entries .entry)))) ⌝ }
+    ensures { λ r. ⌜ buildLeaves r (now (answer .exit)) (now (path .exit)) (now (walk .exit)) (now (segments .exit)) (now (owners .exit)) (now («row_starts» .exit)) (now (entries .exit))
+        ≡ buildExport (buildOf (descriptionOf (now (counts .entry)) (now (starts .entry)) (now (deltas .entry)) (now (coefficients .entry))) (settingOf adjustment width height «y_to_x» «y_to_b» «high_precision» level10) (build.roomsOf (now (path .entry)) (now (walk .entry)) (now (segments .entry)) (now (owners .entry)) (now («row_starts» .entry)) (now (entries .entry)))) ⌝ }
 {
     let told = told_build(table::build(
         counts,
@@ -245,6 +246,7 @@ pub extern "C" fn aktyrbuz_build(
         path,
         walk,
         segments,
+        owners,
         row_starts,
         entries,
     ));

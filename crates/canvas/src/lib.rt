@@ -14,12 +14,20 @@ const BYTES: usize = 24576;
 // The bytes of the longest head, and more.
 const HEAD: usize = 64;
 
-// What is asked of a table: rows, or a picture of either kind in an open file.
+// What is asked of a description: to be told, its rows, its picture, or the traces that have the pixel in this column and row.
+pub enum Asked {
+    Told,
+    Rows,
+    Picture,
+    Touch(u32, u32),
+}
+
+// What is asked, of an image of this size (no rows and columns where there is none), and where a picture of either kind goes.
 pub struct Task {
     pub width: u32,
     pub height: u32,
+    pub asked: Asked,
     pub fd: i32,
-    pub picture: bool,
     pub floats: bool,
     pub progress: bool,
     pub high: bool,

@@ -60,21 +60,21 @@ write-whole ns ss ds cs a configured pixels room =
     (firstFault (contentChecks ns ss ds cs (limitOf configured pixels) ++ check (ltb room (length (valuesOf ns ss ds cs a))) Room room ∷ []))
 
 abbrev BuildWhole : BuildOutcome → Type 0
-BuildWhole o = building.leaves (o .answer) (o .path) (o .walk) (o .segments) (o .starts) (o .entries) ≡ o
+BuildWhole o = building.leaves (o .answer) (o .path) (o .walk) (o .segments) (o .owners) (o .starts) (o .entries) ≡ o
 
-rows-whole : (r : BuildRooms) (estimate count : ℕ) (numbers : List Float) (o : rows.Outcome) → BuildWhole (afterRows r estimate count numbers o)
+rows-whole : (r : BuildRooms) (estimate count : ℕ) (numbers : List Float) (owners : List ℕ) (o : rows.Outcome) → BuildWhole (afterRows r estimate count numbers owners o)
 unfolding refusedWith
-rows-whole r estimate count numbers o = go (o .answer) refl
+rows-whole r estimate count numbers owners o = go (o .answer) refl
   where
-    go : (l : Listed) → o .answer ≡ l → BuildWhole (afterRows r estimate count numbers o)
+    go : (l : Listed) → o .answer ≡ l → BuildWhole (afterRows r estimate count numbers owners o)
     go listed.Room e = rw e
     go (listed.Entries n) e = rw e
 
 paint-whole : (r : BuildRooms) (height estimate : ℕ) (p : Painted) → BuildWhole (afterPaint r height estimate p)
 unfolding refusedWith
 paint-whole r height estimate (NoRoomAt k) = refl
-paint-whole r height estimate (All segs) =
-    rows-whole r estimate (length segs) (eights segs) (rows.built (rows.inRow (eights segs)) (length segs) height (r .starts) (r .entries))
+paint-whole r height estimate (All segs owners) =
+    rows-whole r estimate (length segs) (eights segs) owners (rows.built (rows.inRow (eights segs)) (length segs) height (r .starts) (r .entries))
 
 judge-whole : (r : BuildRooms) (height : ℕ) (j : Judged) (p : Painted) → BuildWhole (afterJudge r height j p)
 unfolding refusedWith
@@ -150,16 +150,16 @@ tells-reach t y W x (reaches κs segments segmentCount entries entryCount rowSta
 
 tells-build : (d : Description) (i : Setting) (r : BuildRooms) (x : BuildExport) → BuildExportCall d i r x → Tells (calls.BuildCall d i r) buildExport x
 tells-build d i rooms x
-    (builds κs counts starts deltas coefficients adjustment width height ytox ytob high level10 path walk segments rowStarts entries answer r
-    counts′ starts′ deltas′ coefficients′ adjustment′ width′ height′ ytox′ ytob′ high′ level10′ path′ walk′ segments′ rowStarts′ entries′ answer′ p) =
+    (builds κs counts starts deltas coefficients adjustment width height ytox ytob high level10 path walk segments owners rowStarts entries answer r
+    counts′ starts′ deltas′ coefficients′ adjustment′ width′ height′ ytox′ ytob′ high′ level10′ path′ walk′ segments′ owners′ rowStarts′ entries′ answer′ p) =
     let o = buildOf d i rooms in
-    let same : building.leaves (o .answer) (now path′) (now walk′) (now segments′) (now rowStarts′) (now entries′) ≡ o
-    = rw (ap (λ (u : BuildExport). u .path) p, ap (λ (u : BuildExport). u .walk) p, ap (λ (u : BuildExport). u .segments) p, ap (λ (u : BuildExport). u .starts) p, ap (λ (u : BuildExport). u .entries) p)
+    let same : building.leaves (o .answer) (now path′) (now walk′) (now segments′) (now owners′) (now rowStarts′) (now entries′) ≡ o
+    = rw (ap (λ (u : BuildExport). u .path) p, ap (λ (u : BuildExport). u .walk) p, ap (λ (u : BuildExport). u .segments) p, ap (λ (u : BuildExport). u .owners) p, ap (λ (u : BuildExport). u .starts) p, ap (λ (u : BuildExport). u .entries) p)
     (build-whole d i rooms) in
     record {
-      outcome = building.leaves (o .answer) (now path′) (now walk′) (now segments′) (now rowStarts′) (now entries′);
-      called = calls.builds (κs .1) counts starts deltas coefficients adjustment width height ytox ytob high level10 path walk segments rowStarts entries (o .answer)
-          counts′ starts′ deltas′ coefficients′ adjustment′ width′ height′ ytox′ ytob′ high′ level10′ path′ walk′ segments′ rowStarts′ entries′ same;
+      outcome = building.leaves (o .answer) (now path′) (now walk′) (now segments′) (now owners′) (now rowStarts′) (now entries′);
+      called = calls.builds (κs .1) counts starts deltas coefficients adjustment width height ytox ytob high level10 path walk segments owners rowStarts entries (o .answer)
+          counts′ starts′ deltas′ coefficients′ adjustment′ width′ height′ ytox′ ytob′ high′ level10′ path′ walk′ segments′ owners′ rowStarts′ entries′ same;
       is = p ∙ ap buildExport (sym same);
     }
 
@@ -186,7 +186,7 @@ write-equation : (ns : List ℕ) (ss : List Float) (ds cs : List ℤ) (a : ℤ) 
 write-equation ns ss ds cs a configured pixels room x (writes κs _ _ _ _ _ _ _ _ _ _ _ _ _ _ _ _ _ _ _ f p) = p
 
 build-equation : (d : Description) (i : Setting) (r : BuildRooms) (x : BuildExport) → BuildExportCall d i r x → x ≡ buildExport (buildOf d i r)
-build-equation d i r x (builds κs _ _ _ _ _ _ _ _ _ _ _ _ _ _ _ _ _ _ _ _ _ _ _ _ _ _ _ _ _ _ _ _ _ _ _ p) = p
+build-equation d i r x (builds κs _ _ _ _ _ _ _ _ _ _ _ _ _ _ _ _ _ _ _ _ _ _ _ _ _ _ _ _ _ _ _ _ _ _ _ _ _ p) = p
 
 draw-equation : (t : Table) (y x0 n : ℕ) (a : Channels) (x : DrawExport) → DrawExportCall t y x0 n a x → x ≡ drawExport (drawOf t y x0 n a)
 draw-equation t y x0 n a x (draws κs _ _ _ _ _ _ _ _ _ _ _ _ _ _ _ _ _ _ _ _ _ _ _ _ _ _ _ p) = p

@@ -46,13 +46,13 @@ pub data WriteExportCall : List ℕ → List Float → List ℤ → List ℤ →
 
 -- of a description, for an image, with so many cells lent
 pub data BuildExportCall : Description → Setting → building.BuildRooms → BuildExport → Type 0 where
-  builds : (κs : Lfts 10) (counts : _) (starts : _) (deltas : _) (coefficients : _) (adjustment : _) (width : _) (height : _) (ytox : _) (ytob : _) (high : _) (level10 : _) (path : _) (walk : _) (segments : _) (rowStarts : _) (entries : _) (answer : _) (r : _)
-      (counts′ : _) (starts′ : _) (deltas′ : _) (coefficients′ : _) (adjustment′ : _) (width′ : _) (height′ : _) (ytox′ : _) (ytob′ : _) (high′ : _) (level10′ : _) (path′ : _) (walk′ : _) (segments′ : _) (rowStarts′ : _) (entries′ : _) (answer′ : _)
-      → build-contract.Post κs (counts, (starts, (deltas, (coefficients, (adjustment, (width, (height, (ytox, (ytob, (high, (level10, (path, (walk, (segments, (rowStarts, (entries, (answer, tt))))))))))))))))) r
-      (counts′, (starts′, (deltas′, (coefficients′, (adjustment′, (width′, (height′, (ytox′, (ytob′, (high′, (level10′, (path′, (walk′, (segments′, (rowStarts′, (entries′, (answer′, tt)))))))))))))))))
+  builds : (κs : Lfts 11) (counts : _) (starts : _) (deltas : _) (coefficients : _) (adjustment : _) (width : _) (height : _) (ytox : _) (ytob : _) (high : _) (level10 : _) (path : _) (walk : _) (segments : _) (owners : _) (rowStarts : _) (entries : _) (answer : _) (r : _)
+      (counts′ : _) (starts′ : _) (deltas′ : _) (coefficients′ : _) (adjustment′ : _) (width′ : _) (height′ : _) (ytox′ : _) (ytob′ : _) (high′ : _) (level10′ : _) (path′ : _) (walk′ : _) (segments′ : _) (owners′ : _) (rowStarts′ : _) (entries′ : _) (answer′ : _)
+      → build-contract.Post κs (counts, (starts, (deltas, (coefficients, (adjustment, (width, (height, (ytox, (ytob, (high, (level10, (path, (walk, (segments, (owners, (rowStarts, (entries, (answer, tt)))))))))))))))))) r
+      (counts′, (starts′, (deltas′, (coefficients′, (adjustment′, (width′, (height′, (ytox′, (ytob′, (high′, (level10′, (path′, (walk′, (segments′, (owners′, (rowStarts′, (entries′, (answer′, tt))))))))))))))))))
       → BuildExportCall (descriptionOf (now counts) (now starts) (now deltas) (now coefficients)) (settingOf adjustment width height ytox ytob high level10)
-      (building.roomsOf (now path) (now walk) (now segments) (now rowStarts) (now entries))
-      (buildLeaves r (now answer′) (now path′) (now walk′) (now segments′) (now rowStarts′) (now entries′))
+      (building.roomsOf (now path) (now walk) (now segments) (now owners) (now rowStarts) (now entries))
+      (buildLeaves r (now answer′) (now path′) (now walk′) (now segments′) (now owners′) (now rowStarts′) (now entries′))
 
 -- of row y of a table, n pixels from column x0 on, with channels lent that begin there
 pub data DrawExportCall : Table → ℕ → ℕ → ℕ → Channels → DrawExport → Type 0 where

@@ -1,18 +1,19 @@
-// What a list of decoded values holds, what it draws, and which rows: `gauge read`, `gauge draw`, `gauge rows`.
+// What a list of decoded values holds, what it draws, which rows, and whose a pixel is: `gauge read`, `gauge draw`, `gauge rows`, `gauge touch`.
 // A program has no exit status: with `--status` it is written as a digit to descriptor 3 (0: done, 1: refused, 2: wrong use).
 mod arguments;
 mod files;
 
 ghost use Prim.Native.Nat.{_≤_};
 use arguments::Number;
+use canvas::Asked;
 use canvas::Task;
 use files::Loaded;
 
 const VALUES: usize = 65536;
 
-// The size of an image, by two arguments.
-enum Size {
-    Of(u32, u32),
+// The size of an image or a pixel of it, by two arguments.
+enum Two {
+    Are(u32, u32),
     Not,
 }
 
@@ -26,7 +27,7 @@ enum Kind {
 fn usage() -> u8 {
     words::wrong(
         2,
-        b"usage: gauge read VALUES, gauge rows VALUES WIDTH HEIGHT, or gauge draw VALUES WIDTH HEIGHT PICTURE.ppm or .pfm\n",
+        b"usage: gauge read VALUES, gauge rows VALUES WIDTH HEIGHT, gauge touch VALUES WIDTH HEIGHT X Y, or gauge draw VALUES WIDTH HEIGHT PICTURE.ppm or .pfm\n",
         &[],
     )
 }
@@ -39,37 +40,44 @@ fn say_size() -> u8 {
     )
 }
 
-// The list is the first n of the values.
-fn read_first(values: &[u32], n: usize) -> u8 {
+fn say_pixel() -> u8 {
+    words::wrong(
+        2,
+        b"a column X below the width and a row Y below the height are due\n",
+        &[],
+    )
+}
+
+// What is asked of a list, the first n of the values.
+fn perform_first(values: &[u32], n: usize, task: Task) -> u8 {
     if values.len() < n {
         return 2;
     }
-    rooms::read_list(&values[..n])
+    rooms::of_list(&values[..n], task)
 }
 
-// Reads the file that argument i names.
-fn read(i: usize) -> u8 {
+// What is asked of the file that argument i names.
+fn perform(i: usize, task: Task) -> u8 {
     let mut values = [0u32; VALUES];
     match files::load(i, &mut values) {
         Loaded::Status(status) => status,
-        Loaded::Values(n) => read_first(&values, n),
+        Loaded::Values(n) => perform_first(&values, n, task),
     }
 }
 
-fn build_values(values: &[u32], n: usize, task: Task) -> u8 {
-    if values.len() < n {
-        return 2;
-    }
-    rooms::build_list(&values[..n], task)
-}
-
-// Builds the file that argument i names, and does what is asked of the table.
-fn build(i: usize, task: Task) -> u8 {
-    let mut values = [0u32; VALUES];
-    match files::load(i, &mut values) {
-        Loaded::Status(status) => status,
-        Loaded::Values(n) => build_values(&values, n, task),
-    }
+fn read(i: u8) -> u8 {
+    perform(
+        i as usize,
+        Task {
+            width: 0,
+            height: 0,
+            asked: Asked::Told,
+            fd: 1,
+            floats: false,
+            progress: false,
+            high: false,
+        },
+    )
 }
 
 fn is_within(n: u32, most: u32) -> bool {
@@ -79,42 +87,98 @@ fn is_within(n: u32, most: u32) -> bool {
     n <= most
 }
 
-// The width and the height that the arguments from i on say.
-fn size_at(i: u8) -> Size
-    requires { ⌜ i ≤ 6 ⌝ }
+// The two numbers that the arguments from i on say.
+fn two_at(i: u8) -> Two
+    requires { ⌜ i ≤ 8 ⌝ }
 {
-    let Number::Is(width) = arguments::argument(i as usize) else {
-        return Size::Not;
+    let Number::Is(a) = arguments::argument(i as usize) else {
+        return Two::Not;
     };
-    let Number::Is(height) = arguments::argument(i as usize + 1) else {
-        return Size::Not;
+    let Number::Is(b) = arguments::argument(i as usize + 1) else {
+        return Two::Not;
+    };
+    Two::Are(a, b)
+}
+
+// The width and the height that the arguments from i on say.
+fn size_at(i: u8) -> Two
+    requires { ⌜ i ≤ 8 ⌝ }
+{
+    let Two::Are(width, height) = two_at(i) else {
+        return Two::Not;
     };
     if !is_within(width, 8388608) {
-        return Size::Not;
+        return Two::Not;
     }
     if !is_within(height, 16384) {
-        return Size::Not;
+        return Two::Not;
     }
-    Size::Of(width, height)
+    Two::Are(width, height)
 }
 
 fn rows(i: u8, high: bool) -> u8
     requires { ⌜ i ≤ 5 ⌝ }
 {
     match size_at(i + 1) {
-        Size::Not => say_size(),
-        Size::Of(width, height) => build(
+        Two::Not => say_size(),
+        Two::Are(width, height) => perform(
             i as usize,
             Task {
                 width: width,
                 height: height,
+                asked: Asked::Rows,
                 fd: 1,
-                picture: false,
                 floats: false,
                 progress: false,
                 high: high,
             },
         ),
+    }
+}
+
+// The column and the row, in an image of this size, that the arguments from i on say.
+fn pixel_at(i: u8, width: u32, height: u32) -> Two
+    requires { ⌜ i ≤ 8 ⌝ }
+{
+    let Two::Are(x, y) = two_at(i) else {
+        return Two::Not;
+    };
+    if width <= x {
+        return Two::Not;
+    }
+    if height <= y {
+        return Two::Not;
+    }
+    Two::Are(x, y)
+}
+
+// The traces of the file that argument i names that have a pixel of an image of this size.
+fn touch_in(i: u8, width: u32, height: u32, high: bool) -> u8
+    requires { ⌜ i ≤ 5 ⌝ }
+{
+    match pixel_at(i + 3, width, height) {
+        Two::Not => say_pixel(),
+        Two::Are(x, y) => perform(
+            i as usize,
+            Task {
+                width: width,
+                height: height,
+                asked: Asked::Touch(x, y),
+                fd: 1,
+                floats: false,
+                progress: false,
+                high: high,
+            },
+        ),
+    }
+}
+
+fn touch(i: u8, high: bool) -> u8
+    requires { ⌜ i ≤ 5 ⌝ }
+{
+    match size_at(i + 1) {
+        Two::Not => say_size(),
+        Two::Are(width, height) => touch_in(i, width, height, high),
     }
 }
 
@@ -150,13 +214,13 @@ fn draw_to(
     if fd == 1 {
         return words::wrong(1, b"standard output is closed\n", &[]);
     }
-    let status = build(
+    let status = perform(
         i as usize,
         Task {
             width: width,
             height: height,
+            asked: Asked::Picture,
             fd: fd,
-            picture: true,
             floats: floats,
             progress: progress,
             high: high,
@@ -178,8 +242,8 @@ fn draw(i: u8, progress: bool, high: bool) -> u8
     requires { ⌜ i ≤ 5 ⌝ }
 {
     match size_at(i + 1) {
-        Size::Not => say_size(),
-        Size::Of(width, height) => {
+        Two::Not => say_size(),
+        Two::Are(width, height) => {
             let mut held = io::buffer();
             let n = os::arg(i as usize + 3, &mut held);
             draw_named(i, width, height, &held[..n], progress, high)
@@ -197,13 +261,19 @@ fn run(at: u8, progress: bool, high: bool) -> u8
         if words != first + 2 {
             return usage();
         }
-        return read(first + 1);
+        return read(at + 1);
     }
     if arguments::is_argument(first, b"rows") {
         if words != first + 4 {
             return usage();
         }
         return rows(at + 1, high);
+    }
+    if arguments::is_argument(first, b"touch") {
+        if words != first + 6 {
+            return usage();
+        }
+        return touch(at + 1, high);
     }
     if arguments::is_argument(first, b"draw") {
         if words != first + 5 {

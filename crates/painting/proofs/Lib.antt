@@ -1,4 +1,5 @@
 -- The laws of the crate `painting`.
 pub mod Starts
 pub mod Painting
+pub mod Rooms
 pub mod Segments

@@ -1,4 +1,4 @@
--- A description has one list of segments; drawing gives it where every spline has room, whatever more is lent, and stops at the first spline that lacks room.
+-- A description has one list of segments with their owners; drawing gives it where every spline has room, whatever more is lent, and stops at the first spline that lacks room.
 use mathlib.Core.Path.{_≡_, refl, sym, ap, subst, _∙_}
 use mathlib.Core.Bool.{Bool, true, false, cond}
 use mathlib.Core.List.{List, [], _++_}
@@ -7,7 +7,7 @@ use Prim.Native.Nat.{ℕ, zero, suc, _+_, _-_, _*_, _/_, _^_, _≤_, _<_, min}
 use native.Mathlib.Omega.{arith}
 use lib.Dec.{leb}
 use lib.IntN.{ℤ}
-use lib.ListN.{length, getD, take, drop, length-append, length-drop}
+use lib.ListN.{length, getD, take, drop, length-append, length-drop, length-replicate}
 use lib.Seq.{length-take-le}
 use lib.Ieee.{Float}
 use borrow.Author.Tests.{leb-true, leb-false, le-leb, lt-leb}
@@ -26,7 +26,8 @@ use Rattle.curve.proofs.Paths.{length-path}
 use Rattle.walk.specs.Walk.{PointToDraw, Walk, More, Ended, walkIn, Walks, walkRoom}
 use Rattle.walk.proofs.Fuel.{walk-within, walk-enough, walk-one, walk-fewer}
 use Rattle.points.specs.declared.Filled.the-variants.{Count, Room}
-use Rattle.points.specs.Points.{segmentRoom, filledOf}
+use Rattle.points.specs.Points.{filledOf}
+use Rattle.owners.specs.Owners.{ownedRoom, ownersOf}
 use Rattle.strand.specs.Strand.{Strand, NoRoom, Segments, walkSegments, afterWalk, strandOf, strandFilled, segmentsOf}
 use Rattle.painting.specs.Painting.{strandAt, strandOfSpline, Painted, All, NoRoomAt, afterStrand, paintFrom, paintOf, Passed}
 use Rattle.painting.specs.Segments.{SplineMakes, MakesUpTo, none-made, one-made, pathNeeds, Suffices, Lacks, SplineFits, DrawnUpTo, none-drawn, one-drawn, SplineLacks, path-lacks, walk-lacks, segments-lack, FirstLacks}
@@ -37,7 +38,7 @@ differ e = absurd (omega arith)
 -- ---- one list of segments
 
 module _ (d : Description) (g : Given) (high : Bool) where
-  spline-one : (k : ℕ) (xs ys : List Segment) → SplineMakes d g high k xs → SplineMakes d g high k ys → xs ≡ ys
+  pub spline-one : (k : ℕ) (xs ys : List Segment) → SplineMakes d g high k xs → SplineMakes d g high k ys → xs ≡ ys
   spline-one k xs ys a b =
       let q : At (a .start) ≡ At (b .start) = sym (a .begins) ∙ b .begins in
       let s : a .start ≡ b .start = cc in
@@ -45,9 +46,17 @@ module _ (d : Description) (g : Given) (high : Bool) where
       let w = walk-one (Curve.flat (pathOf (b .start) (deltasOf d k))) (a .points) (b .points) v (b .walks) in
       a .are ∙ ap (walkSegments (splineOf d g k) high) w ∙ sym (b .are)
 
-  pub makes-one : {n : ℕ} {xs ys : List Segment} → MakesUpTo d g high n xs → MakesUpTo d g high n ys → xs ≡ ys
-  makes-one none-made none-made = refl
-  makes-one (one-made {k = k} {segs = xs} {own = vs} a m) (one-made {segs = ys} {own = us} b n) = rw (makes-one a b, spline-one k vs us m n)
+  pub makes-one : {n : ℕ} {xs ys : List Segment} {us vs : List ℕ} → MakesUpTo d g high n xs us → MakesUpTo d g high n ys vs → (xs ≡ ys) × (us ≡ vs)
+  makes-one none-made none-made = (refl, refl)
+  makes-one (one-made {k = k} {own = ps} a m) (one-made {own = qs} b n) =
+      let e = makes-one a b in
+      rw (e .0, e .1, spline-one k ps qs m n) (refl, refl)
+
+  -- every segment has an owner
+  pub makes-owned : {n : ℕ} {segs : List Segment} {owners : List ℕ} → MakesUpTo d g high n segs owners → length owners ≡ length segs
+  makes-owned none-made = refl
+  makes-owned (one-made {k = k} {segs = segs} {own = own} {owners = owners} a m) =
+      omega (arith, makes-owned a, length-append segs own, length-append owners (ownersOf k own), length-replicate (length own) k)
 
 -- the start of the spline k is a place
 pub record Begins (d : Description) (k : ℕ) : Type 0 where
@@ -149,16 +158,16 @@ module _ (d : Description) (g : Given) (high : Bool) (p w k : ℕ) where
 
 module _ (d : Description) (g : Given) (high : Bool) where
   -- what is drawn is what is made
-  pub drawn-makes : {path walk segments n : ℕ} {segs : List Segment} → DrawnUpTo d g high path walk segments n segs → MakesUpTo d g high n segs
+  pub drawn-makes : {path walk segments owned n : ℕ} {segs : List Segment} {owners : List ℕ} → DrawnUpTo d g high path walk segments owned n segs owners → MakesUpTo d g high n segs owners
   drawn-makes none-drawn = none-made
   drawn-makes (one-drawn a f) = one-made (drawn-makes a) (f .makes)
 
   -- and it is drawn with any more room
-  pub drawn-more : {path walk segments path′ walk′ segments′ n : ℕ} {segs : List Segment} → path ≤ path′ → walk ≤ walk′ → segments ≤ segments′
-      → DrawnUpTo d g high path walk segments n segs → DrawnUpTo d g high path′ walk′ segments′ n segs
-  drawn-more p w s none-drawn = none-drawn
-  drawn-more p w s (one-drawn a f) =
-      one-drawn (drawn-more p w s a)
+  pub drawn-more : {path walk segments owned path′ walk′ segments′ owned′ n : ℕ} {segs : List Segment} {owners : List ℕ} → path ≤ path′ → walk ≤ walk′ → segments ≤ segments′ → owned ≤ owned′
+      → DrawnUpTo d g high path walk segments owned n segs owners → DrawnUpTo d g high path′ walk′ segments′ owned′ n segs owners
+  drawn-more p w s o none-drawn = none-drawn
+  drawn-more p w s o (one-drawn a f) =
+      one-drawn (drawn-more p w s o a)
       (record {
         makes = f .makes;
         path-fits = (omega (arith, f .path-fits .0), f .path-fits .1);
@@ -166,40 +175,44 @@ module _ (d : Description) (g : Given) (high : Bool) where
         segments-fit = (omega (arith, f .segments-fit .0), f .segments-fit .1);
       })
 
-module _ (d : Description) (g : Given) (high : Bool) (path walk segments : ℕ) (shape : Shaped d) where
-  abbrev Drawn : ℕ → List Segment → Type 0
-  Drawn n segs = DrawnUpTo d g high path walk segments n segs
+module _ (d : Description) (g : Given) (high : Bool) (path walk segments owned : ℕ) (shape : Shaped d) where
+  abbrev Drawn : ℕ → List Segment → List ℕ → Type 0
+  Drawn n segs owners = DrawnUpTo d g high path walk segments owned n segs owners
+
+  abbrev room : ℕ
+  room = ownedRoom segments owned
 
   abbrev strand : ℕ → Strand
   strand k = strandOfSpline d g high (pathRoom path) (walkRoom walk) k
 
-  abbrev paints : ℕ → ℕ → List Segment → Painted
-  paints n k done = paintFrom d g high (pathRoom path) (walkRoom walk) (segmentRoom segments) n k done
+  abbrev paints : ℕ → ℕ → List Segment → List ℕ → Painted
+  paints n k done owners = paintFrom d g high (pathRoom path) (walkRoom walk) room n k done owners
 
   -- ---- from the statements to the drawing
 
-  fits-strand : (before k : ℕ) (own : List Segment) → k < length (d .counts) → SplineFits d g high path walk segments before k own
-      → (strand k ≡ Segments own) × (before + length own ≤ segmentRoom segments)
+  fits-strand : (before k : ℕ) (own : List Segment) → k < length (d .counts) → SplineFits d g high path walk segments owned before k own
+      → (strand k ≡ Segments own) × (before + length own ≤ room)
   fits-strand before k own h f =
       let e = needs-are d k (f .makes .start) shape h in (
         strand-is d g high (pathRoom path) (walkRoom walk) k own (record { makes = f .makes; path = omega (arith, f .path-fits .0, f .path-fits .1); walk = enough (f .walk-fits) }),
         enough (f .segments-fit),
       )
 
-  one-step : (n k : ℕ) (done own : List Segment) → strand k ≡ Segments own → length done + length own ≤ segmentRoom segments → paints (suc n) k done ≡ paints n (suc k) (done ++ own)
+  one-step : (n k : ℕ) (done own : List Segment) (owners : List ℕ) → strand k ≡ Segments own → length done + length own ≤ room
+      → paints (suc n) k done owners ≡ paints n (suc k) (done ++ own) (owners ++ ownersOf k own)
   unfolding paintFrom filledOf
-  one-step n k done own e l = rw (e, le-leb (length done + length own) (segmentRoom segments) l)
+  one-step n k done own owners e l = rw (e, le-leb (length done + length own) room l)
 
-  up-to : {k : ℕ} {segs : List Segment} → Drawn k segs → (n : ℕ) → k + n ≤ length (d .counts) → paints (k + n) 0 [] ≡ paints n k segs
+  up-to : {k : ℕ} {segs : List Segment} {owners : List ℕ} → Drawn k segs owners → (n : ℕ) → k + n ≤ length (d .counts) → paints (k + n) 0 [] [] ≡ paints n k segs owners
   up-to none-drawn n h = let e : 0 + n ≡ n = omega arith in rw e
-  up-to (one-drawn {k = k} {segs = segs} {own = own} a f) n h =
+  up-to (one-drawn {k = k} {segs = segs} {own = own} {owners = owners} a f) n h =
       let e : suc k + n ≡ k + suc n = omega arith in
       let q = fits-strand (length segs) k own (omega arith) f in
-      rw e (up-to a (suc n) (omega arith) ∙ one-step n k segs own (q .0) (q .1))
+      rw e (up-to a (suc n) (omega arith) ∙ one-step n k segs own owners (q .0) (q .1))
 
-  drawn-all : (segs : List Segment) → Drawn (length (d .counts)) segs → paintOf d g high (pathRoom path) (walkRoom walk) (segmentRoom segments) ≡ All segs
+  drawn-all : (segs : List Segment) (owners : List ℕ) → Drawn (length (d .counts)) segs owners → paintOf d g high (pathRoom path) (walkRoom walk) room ≡ All segs owners
   unfolding paintOf paintFrom
-  drawn-all segs a = let e : length (d .counts) + 0 ≡ length (d .counts) = omega arith in rw e at (up-to a 0 (omega arith))
+  drawn-all segs owners a = let e : length (d .counts) + 0 ≡ length (d .counts) = omega arith in rw e at (up-to a 0 (omega arith))
 
   path-none : (k : ℕ) → k < length (d .counts) → pathRoom path < pathNeeds d k → strand k ≡ NoRoom
   unfolding strandOfSpline strandOf
@@ -209,16 +222,16 @@ module _ (d : Description) (g : Given) (high : Bool) (path walk segments : ℕ) 
       go Out = refl
       go (At start) = rw (lt-leb (length (pathOf start (deltasOf d k))) (pathRoom path) (omega (arith, needs-are d k start shape h)))
 
-  lacks-filled : (before k : ℕ) → k < length (d .counts) → SplineLacks d g high path walk segments before k → strandFilled (segmentRoom segments) before (strand k) ≡ Room
+  lacks-filled : (before k : ℕ) → k < length (d .counts) → SplineLacks d g high path walk segments owned before k → strandFilled room before (strand k) ≡ Room
   unfolding strandOfSpline strandOf filledOf
   lacks-filled before k h (path-lacks l) = rw (path-none k h (short l))
   lacks-filled before k h (walk-lacks start b s v) =
       rw (b, le-leb (length (pathOf start (deltasOf d k))) (pathRoom path) (omega (arith, needs-are d k start shape h, s .0, s .1)), walk-short (walk / 3) (2 ^ 23) (Curve.flat (pathOf start (deltasOf d k))) v)
   lacks-filled before k h (segments-lack {own = own} m s v l) =
       let e = strand-is d g high (pathRoom path) (walkRoom walk) k own (record { makes = m; path = omega (arith, needs-are d k (m .start) shape h, s .0, s .1); walk = enough v }) in
-      rw (e, lt-leb (before + length own) (segmentRoom segments) (short l))
+      rw (e, lt-leb (before + length own) room (short l))
 
-  lacks-room : (k : ℕ) → FirstLacks d g high path walk segments k → paintOf d g high (pathRoom path) (walkRoom walk) (segmentRoom segments) ≡ NoRoomAt k
+  lacks-room : (k : ℕ) → FirstLacks d g high path walk segments owned k → paintOf d g high (pathRoom path) (walkRoom walk) room ≡ NoRoomAt k
   unfolding paintOf paintFrom
   lacks-room k f =
       let m = length (d .counts) - suc k in
@@ -230,27 +243,27 @@ module _ (d : Description) (g : Given) (high : Bool) (path walk segments : ℕ) 
 
   module _ (places : (k : ℕ) → k < length (d .counts) → Begins d k) where
     abbrev Comes-to : Painted → Type 0
-    Comes-to (All segs) = Drawn (length (d .counts)) segs
-    Comes-to (NoRoomAt k) = FirstLacks d g high path walk segments k
+    Comes-to (All segs owners) = Drawn (length (d .counts)) segs owners
+    Comes-to (NoRoomAt k) = FirstLacks d g high path walk segments owned k
 
-    comes-to : (n k : ℕ) (done : List Segment) → k + n ≡ length (d .counts) → Drawn k done → Comes-to (paints n k done)
+    comes-to : (n k : ℕ) (done : List Segment) (owners : List ℕ) → k + n ≡ length (d .counts) → Drawn k done owners → Comes-to (paints n k done owners)
     unfolding paintFrom filledOf
-    comes-to zero k done e a = let q : k ≡ length (d .counts) = omega arith in subst (λ (m : ℕ). Drawn m done) q a
-    comes-to (suc n) k done e a = step (strand k) (comes d g high (pathRoom path) (walkRoom walk) k) (λ xs b. comes-to n (suc k) xs (omega arith) b)
+    comes-to zero k done owners e a = let q : k ≡ length (d .counts) = omega arith in subst (λ (m : ℕ). Drawn m done owners) q a
+    comes-to (suc n) k done owners e a = step (strand k) (comes d g high (pathRoom path) (walkRoom walk) k) (λ xs us b. comes-to n (suc k) xs us (omega arith) b)
       where
         inside : k < length (d .counts)
         inside = omega arith
 
         no-room : (start : Pair) → startingPoint (startX d k) (startY d k) ≡ At start
             → (pathRoom path < length (pathOf start (deltasOf d k))) ⊎ ((length (pathOf start (deltasOf d k)) ≤ pathRoom path) × (walkIn (walkRoom walk) (Curve.flat (pathOf start (deltasOf d k))) ≡ More))
-            → SplineLacks d g high path walk segments (length done) k
+            → SplineLacks d g high path walk segments owned (length done) k
         no-room start b (inl l) = path-lacks (lacks (path / 2) (2 ^ 23) (pathNeeds d k) (omega (arith, needs-are d k start shape inside)))
         no-room start b (inr (l, m)) =
             walk-lacks start b (suffices (omega (arith, needs-are d k start shape inside))) (walk-lacking (walk / 3) (2 ^ 23) (Curve.flat (pathOf start (deltasOf d k))) m)
 
-        by-count : (own : List Segment) → Ample d g high (pathRoom path) (walkRoom walk) k own → ((xs : List Segment) → Drawn (suc k) xs → Comes-to (paints n (suc k) xs))
-            → (b : Bool) → leb (length done + length own) (segmentRoom segments) ≡ b
-            → Comes-to (afterStrand (cond b (Count (length done + length own)) Room) k (paints n (suc k) (done ++ own)))
+        by-count : (own : List Segment) → Ample d g high (pathRoom path) (walkRoom walk) k own → ((xs : List Segment) (us : List ℕ) → Drawn (suc k) xs us → Comes-to (paints n (suc k) xs us))
+            → (b : Bool) → leb (length done + length own) room ≡ b
+            → Comes-to (afterStrand (cond b (Count (length done + length own)) Room) k (paints n (suc k) (done ++ own) (owners ++ ownersOf k own)))
         by-count own c ih b q =
             let m = c .makes in
             let p : (pathNeeds d k ≤ path / 2) × (pathNeeds d k ≤ 2 ^ 23) = suffices (omega (arith, c .path, needs-are d k (m .start) shape inside)) in
@@ -258,46 +271,47 @@ module _ (d : Description) (g : Given) (high : Bool) (path walk segments : ℕ) 
             go m p v b q
           where
             go : (m : SplineMakes d g high k own) → (pathNeeds d k ≤ path / 2) × (pathNeeds d k ≤ 2 ^ 23) → (length (m .points) ≤ walk / 3) × (length (m .points) ≤ 2 ^ 23)
-                → (b : Bool) → leb (length done + length own) (segmentRoom segments) ≡ b
-                → Comes-to (afterStrand (cond b (Count (length done + length own)) Room) k (paints n (suc k) (done ++ own)))
+                → (b : Bool) → leb (length done + length own) room ≡ b
+                → Comes-to (afterStrand (cond b (Count (length done + length own)) Room) k (paints n (suc k) (done ++ own) (owners ++ ownersOf k own)))
             go m p v true q =
-                ih (done ++ own) (one-drawn a (record { makes = m; path-fits = p; walk-fits = v; segments-fit = suffices (leb-true (length done + length own) (segmentRoom segments) q) }))
+                ih (done ++ own) (owners ++ ownersOf k own) (one-drawn a (record { makes = m; path-fits = p; walk-fits = v; segments-fit = suffices (leb-true (length done + length own) room q) }))
             go m p v false q = record {
               is-there = inside;
               segs = done;
+              owners = owners;
               before = a;
-              why = segments-lack m p v (lacks (segments / 8) (2 ^ 24) (length done + length own) (leb-false (length done + length own) (segmentRoom segments) q));
+              why = segments-lack m p v (lacks (min (segments / 8) owned) (2 ^ 24) (length done + length own) (leb-false (length done + length own) room q));
             }
 
-        step : (s : Strand) → Comes d g high (pathRoom path) (walkRoom walk) k s → ((xs : List Segment) → Drawn (suc k) xs → Comes-to (paints n (suc k) xs))
-            → Comes-to (afterStrand (strandFilled (segmentRoom segments) (length done) s) k (paints n (suc k) (done ++ segmentsOf s)))
+        step : (s : Strand) → Comes d g high (pathRoom path) (walkRoom walk) k s → ((xs : List Segment) (us : List ℕ) → Drawn (suc k) xs us → Comes-to (paints n (suc k) xs us))
+            → Comes-to (afterStrand (strandFilled room (length done) s) k (paints n (suc k) (done ++ segmentsOf s) (owners ++ ownersOf k (segmentsOf s))))
         step NoRoom c ih =
             let b = places k inside in
-            record { is-there = inside; segs = done; before = a; why = no-room (b .start) (b .is) (c (b .start) (b .is)) }
-        step (Segments own) c ih = by-count own c ih (leb (length done + length own) (segmentRoom segments)) refl
+            record { is-there = inside; segs = done; owners = owners; before = a; why = no-room (b .start) (b .is) (c (b .start) (b .is)) }
+        step (Segments own) c ih = by-count own c ih (leb (length done + length own) room) refl
 
 -- ---- exactly
 
-module _ (d : Description) (g : Given) (high : Bool) (path walk segments : ℕ) (shape : Shaped d) (passed : Passed d g) where
+module _ (d : Description) (g : Given) (high : Bool) (path walk segments owned : ℕ) (shape : Shaped d) (passed : Passed d g) where
   places : (k : ℕ) → k < length (d .counts) → Begins d k
   places k h = let a = fine-accepted d g (passed .total) (passed .fine) k h in record { start = a .start; is = a .begins }
 
-  comes-at-last : Comes-to d g high path walk segments shape places (paintOf d g high (pathRoom path) (walkRoom walk) (segmentRoom segments))
+  comes-at-last : Comes-to d g high path walk segments owned shape places (paintOf d g high (pathRoom path) (walkRoom walk) (ownedRoom segments owned))
   unfolding paintOf
-  comes-at-last = comes-to d g high path walk segments shape places (length (d .counts)) 0 [] (omega arith) none-drawn
+  comes-at-last = comes-to d g high path walk segments owned shape places (length (d .counts)) 0 [] [] (omega arith) none-drawn
 
   -- every spline is drawn exactly where each has room
-  pub all-exactly : (segs : List Segment) → (paintOf d g high (pathRoom path) (walkRoom walk) (segmentRoom segments) ≡ All segs) ↔ DrawnUpTo d g high path walk segments (length (d .counts)) segs
-  all-exactly segs = (
-    λ e. subst (Comes-to d g high path walk segments shape places) e comes-at-last,
-    drawn-all d g high path walk segments shape segs,
+  pub all-exactly : (segs : List Segment) (owners : List ℕ) → (paintOf d g high (pathRoom path) (walkRoom walk) (ownedRoom segments owned) ≡ All segs owners) ↔ DrawnUpTo d g high path walk segments owned (length (d .counts)) segs owners
+  all-exactly segs owners = (
+    λ e. subst (Comes-to d g high path walk segments owned shape places) e comes-at-last,
+    drawn-all d g high path walk segments owned shape segs owners,
   )
 
   -- and the spline k has no room exactly where it is the first that lacks it
-  pub room-exactly : (k : ℕ) → (paintOf d g high (pathRoom path) (walkRoom walk) (segmentRoom segments) ≡ NoRoomAt k) ↔ FirstLacks d g high path walk segments k
+  pub room-exactly : (k : ℕ) → (paintOf d g high (pathRoom path) (walkRoom walk) (ownedRoom segments owned) ≡ NoRoomAt k) ↔ FirstLacks d g high path walk segments owned k
   room-exactly k = (
-    λ e. subst (Comes-to d g high path walk segments shape places) e comes-at-last,
-    lacks-room d g high path walk segments shape k,
+    λ e. subst (Comes-to d g high path walk segments owned shape places) e comes-at-last,
+    lacks-room d g high path walk segments owned shape k,
   )
 
 -- Assumes nothing.

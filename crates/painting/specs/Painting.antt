@@ -22,6 +22,7 @@ use Rattle.points.specs.declared.Filled.{Filled}
 use Rattle.points.specs.declared.Filled.the-variants as Filled
 use Rattle.points.specs.Points.{segmentRoom, eights, FilledOn}
 use Rattle.strand.specs.Strand.{Strand, NoRoom, strandOf, strandFilled, segmentsOf}
+use Rattle.owners.specs.Owners.{ownersOf}
 use Rattle.painting.specs.declared.Drawn.{Drawn}
 use Rattle.painting.specs.declared.Drawn.the-variants as Drawn
 
@@ -44,24 +45,24 @@ strandHere starts ds coefficients k g high path walk =
 abbrev pub Fills : ℕ → Strand → Filled → List Float → List Float → Type 0
 Fills from s r o e = (r ≡ strandFilled (segmentRoom (length o)) from s) × FilledOn r from (segmentsOf s) o e
 
--- the segments of all splines, or the number of the spline that has no room
+-- the segments of all splines with their owners, or the number of the spline that has no room
 pub data Painted : Type 0 where
-  All : List Segment → Painted
+  All : List Segment → List ℕ → Painted
   NoRoomAt : ℕ → Painted
 
 abbrev pub afterStrand : Filled → ℕ → Painted → Painted
 afterStrand Filled.Room k rest = NoRoomAt k
 afterStrand (Filled.Count n) k rest = rest
 
--- the n splines from k on, after the segments done, with room for p points of a path, w points of a walk and room segments
-unfoldable pub paintFrom : Description → Given → Bool → ℕ → ℕ → ℕ → ℕ → ℕ → List Segment → Painted
-paintFrom d g high p w room zero k done = All done
-paintFrom d g high p w room (suc n) k done =
+-- the n splines from k on, after the segments done with their owners, with room for p points of a path, w points of a walk and room segments
+unfoldable pub paintFrom : Description → Given → Bool → ℕ → ℕ → ℕ → ℕ → ℕ → List Segment → List ℕ → Painted
+paintFrom d g high p w room zero k done owners = All done owners
+paintFrom d g high p w room (suc n) k done owners =
     let s = strandOfSpline d g high p w k in
-    afterStrand (strandFilled room (length done) s) k (paintFrom d g high p w room n (suc k) (done ++ segmentsOf s))
+    afterStrand (strandFilled room (length done) s) k (paintFrom d g high p w room n (suc k) (done ++ segmentsOf s) (owners ++ ownersOf k (segmentsOf s)))
 
 unfoldable pub paintOf : Description → Given → Bool → ℕ → ℕ → ℕ → Painted
-paintOf d g high p w room = paintFrom d g high p w room (length (d .counts)) 0 []
+paintOf d g high p w room = paintFrom d g high p w room (length (d .counts)) 0 [] []
 
 -- the description was judged
 pub record Passed (d : Description) (g : Given) : Type 0 where
@@ -69,10 +70,10 @@ pub record Passed (d : Description) (g : Given) : Type 0 where
   pub fine : judgeOf d g ≡ Judged.Fine total
 
 abbrev pub drawnOf : Painted → Drawn
-drawnOf (All segs) = Drawn.Count (length segs)
+drawnOf (All segs owners) = Drawn.Count (length segs)
 drawnOf (NoRoomAt k) = Drawn.Room k
 
--- o is the buffer before, e after; without room nothing is said of it
-abbrev pub DrawnOn : Painted → List Float → List Float → Type 0
-DrawnOn (NoRoomAt k) o e = Unit
-DrawnOn (All segs) o e = (e ≡ sets o 0 (eights segs)) × (length segs ≤ segmentRoom (length o))
+-- with room for so many segments: o is their buffer before, e after; u is that of the owners before, v after; without room nothing is said of them
+abbrev pub DrawnOn : Painted → ℕ → List Float → List Float → List ℕ → List ℕ → Type 0
+DrawnOn (NoRoomAt k) room o e u v = Unit
+DrawnOn (All segs owners) room o e u v = (e ≡ sets o 0 (eights segs)) × (v ≡ sets u 0 owners) × (length segs ≤ room) × (length owners ≡ length segs)

@@ -1,9 +1,10 @@
-// All splines of a judged description, each drawn in turn: their segments in a lent buffer, or the first without room.
+// All splines of a judged description, each drawn in turn: their segments in a lent buffer and their owners in another, or the first without room.
 ghost use mathlib.Core.Path.{_≡_};
 ghost use Prim.Native.Nat.{_+_, _*_, _≤_};
 ghost use lib.ListN.{length, getD, take, drop};
 ghost use lib.Ieee.{nan};
 ghost use Rattle.points.specs.Points.{segmentRoom};
+ghost use Rattle.owners.specs.Owners.{ownedRoom};
 ghost use Rattle.dequantize.specs.Asked.{Accepted};
 ghost use Rattle.curve.specs.Curve.{pathRoom};
 ghost use Rattle.walk.specs.Walk.{walkRoom};
@@ -58,8 +59,8 @@ fn wide(x: u32) -> usize
     x as usize
 }
 
-// The segments of all splines of a description that was judged before.
-pub fn draw_all(
+// The segments of all splines of a description that was judged before, where each segment that has room has a cell for its owner too.
+fn draw_each(
     counts: &[u32],
     starts: &[f32],
     deltas: &[i32],
@@ -69,16 +70,18 @@ pub fn draw_all(
     path: &mut [f32],
     walk: &mut [f32],
     out: &mut [f32],
+    owners: &mut [u64],
 ) -> Drawn
-    requires { ⌜ Shaped (descriptionOf (now counts) (now starts) (now deltas) (now coefficients)) × Passed (descriptionOf (now counts) (now starts) (now deltas) (now coefficients)) given ⌝ }
+    requires { ⌜ Shaped (descriptionOf (now counts) (now starts) (now deltas) (now coefficients)) × Passed (descriptionOf (now counts) (now starts) (now deltas) (now coefficients)) given × (segmentRoom (length (now out)) ≤ length (now owners)) ⌝ }
     ensures { λ r. ⌜ (r ≡ drawnOf (paintOf (descriptionOf (now (counts .entry)) (now (starts .entry)) (now (deltas .entry)) (now (coefficients .entry))) given «high_precision» (pathRoom (length (now (path .entry)))) (walkRoom (length (now (walk .entry)))) (segmentRoom (length (now (out .entry))))))
-        × DrawnOn (paintOf (descriptionOf (now (counts .entry)) (now (starts .entry)) (now (deltas .entry)) (now (coefficients .entry))) given «high_precision» (pathRoom (length (now (path .entry)))) (walkRoom (length (now (walk .entry)))) (segmentRoom (length (now (out .entry))))) (now (out .entry)) (now (out .exit)) ⌝ }
+        × DrawnOn (paintOf (descriptionOf (now (counts .entry)) (now (starts .entry)) (now (deltas .entry)) (now (coefficients .entry))) given «high_precision» (pathRoom (length (now (path .entry)))) (walkRoom (length (now (walk .entry)))) (segmentRoom (length (now (out .entry))))) (segmentRoom (length (now (out .entry)))) (now (out .entry)) (now (out .exit)) (now (owners .entry)) (now (owners .exit)) ⌝ }
 {
     let mut k = 0;
     let mut at = 0;
     let mut count = 0;
     while k < counts.len() {
         let end = at + 2 * wide(counts[k]);
+        let next = k + 1;
         let Filled::Count(more) = draw_one(
             starts,
             &deltas[at..end],
@@ -93,9 +96,42 @@ pub fn draw_all(
         ) else {
             return Drawn::Room(k);
         };
+        owners::fill(owners, count, more, k);
         count = more;
         at = end;
-        k += 1;
+        k = next;
     }
     Drawn::Count(count)
+}
+
+// The segments of all splines of a description that was judged before, and the number of the spline of each. A segment needs its record and its owner's cell.
+pub fn draw_all(
+    counts: &[u32],
+    starts: &[f32],
+    deltas: &[i32],
+    coefficients: &[i32],
+    given: Given,
+    high_precision: bool,
+    path: &mut [f32],
+    walk: &mut [f32],
+    out: &mut [f32],
+    owners: &mut [u64],
+) -> Drawn
+    requires { ⌜ Shaped (descriptionOf (now counts) (now starts) (now deltas) (now coefficients)) × Passed (descriptionOf (now counts) (now starts) (now deltas) (now coefficients)) given ⌝ }
+    ensures { λ r. ⌜ (r ≡ drawnOf (paintOf (descriptionOf (now (counts .entry)) (now (starts .entry)) (now (deltas .entry)) (now (coefficients .entry))) given «high_precision» (pathRoom (length (now (path .entry)))) (walkRoom (length (now (walk .entry)))) (ownedRoom (length (now (out .entry))) (length (now (owners .entry))))))
+        × DrawnOn (paintOf (descriptionOf (now (counts .entry)) (now (starts .entry)) (now (deltas .entry)) (now (coefficients .entry))) given «high_precision» (pathRoom (length (now (path .entry)))) (walkRoom (length (now (walk .entry)))) (ownedRoom (length (now (out .entry))) (length (now (owners .entry))))) (ownedRoom (length (now (out .entry))) (length (now (owners .entry)))) (now (out .entry)) (now (out .exit)) (now (owners .entry)) (now (owners .exit)) ⌝ }
+{
+    let end = 8 * owners::room(out.len(), owners.len());
+    draw_each(
+        counts,
+        starts,
+        deltas,
+        coefficients,
+        given,
+        high_precision,
+        path,
+        walk,
+        &mut out[..end],
+        owners,
+    )
 }

@@ -16,12 +16,13 @@ use Rattle.curve.specs.Curve.{pathRoom}
 use Rattle.walk.specs.Walk.{walkRoom}
 use Rattle.points.specs.declared.Filled.{Filled}
 use Rattle.points.specs.declared.Filled.the-variants.{Count, Room}
-use Rattle.points.specs.Points.{segmentRoom, eights}
+use Rattle.points.specs.Points.{eights}
 use Rattle.points.proofs.Adding.{count-got}
 use Rattle.strand.specs.Strand.{Strand, NoRoom, Segments, strandFilled, segmentsOf}
 use Rattle.rows.specs.declared.Listed.{Listed}
 use Rattle.rows.specs.declared.Listed.the-variants as Listed
 use Rattle.rows.specs.Rows.{inRow, Outcome, outcome, built}
+use Rattle.owners.specs.Owners.{ownedRoom, ownersOf}
 use Rattle.painting.specs.Painting.{strandOfSpline, Painted, All, NoRoomAt, afterStrand, paintFrom, paintOf}
 use Rattle.table.specs.Table.{BuildRooms, Setting, BuildOutcome, givenOf, refusedWith, zeros, padded, verdictOf, afterRows, afterJudge, buildOf}
 use Rattle.table.specs.Refusals.{painted}
@@ -34,24 +35,25 @@ strand-fits : (room count : ℕ) (s : Strand) (n : ℕ) → Count n ≡ strandFi
 strand-fits room count NoRoom n e = absurd (let z : _≡_ {A = ℕ} 0 1 = cc in omega arith)
 strand-fits room count (Segments segs) n e = count-got room count segs n e .1
 
-paint-fits : (d : Description) (g : Given) (high : Bool) (p w room n k : ℕ) (done segs : List Segment) → length done ≤ room → paintFrom d g high p w room n k done ≡ All segs → length segs ≤ room
+paint-fits : (d : Description) (g : Given) (high : Bool) (p w room n k : ℕ) (done segs : List Segment) (before owners : List ℕ) → length done ≤ room → paintFrom d g high p w room n k done before ≡ All segs owners → length segs ≤ room
 unfolding paintFrom
-paint-fits d g high p w room zero k done segs h e = let q : done ≡ segs = cc in rw q at h
-paint-fits d g high p w room (suc n) k done segs h e = go (strandFilled room (length done) s) refl (paint-fits d g high p w room n (suc k) (done ++ segmentsOf s) segs) e
+paint-fits d g high p w room zero k done segs before owners h e = let q : done ≡ segs = cc in rw q at h
+paint-fits d g high p w room (suc n) k done segs before owners h e =
+    go (strandFilled room (length done) s) refl (paint-fits d g high p w room n (suc k) (done ++ segmentsOf s) segs (before ++ ownersOf k (segmentsOf s)) owners) e
   where
     s : Strand
     s = strandOfSpline d g high p w k
 
     rest : Painted
-    rest = paintFrom d g high p w room n (suc k) (done ++ segmentsOf s)
+    rest = paintFrom d g high p w room n (suc k) (done ++ segmentsOf s) (before ++ ownersOf k (segmentsOf s))
 
-    go : (f : Filled) → strandFilled room (length done) s ≡ f → (length (done ++ segmentsOf s) ≤ room → rest ≡ All segs → length segs ≤ room) → afterStrand f k rest ≡ All segs → length segs ≤ room
+    go : (f : Filled) → strandFilled room (length done) s ≡ f → (length (done ++ segmentsOf s) ≤ room → rest ≡ All segs owners → length segs ≤ room) → afterStrand f k rest ≡ All segs owners → length segs ≤ room
     go Room q ih e = absurd (let z : _≡_ {A = ℕ} 0 1 = cc in omega arith)
     go (Count m) q ih e = ih (omega (arith, length-append done (segmentsOf s), strand-fits room (length done) s m (sym q))) e
 
-all-fit : (d : Description) (g : Given) (high : Bool) (p w room : ℕ) (segs : List Segment) → paintOf d g high p w room ≡ All segs → length segs ≤ room
+all-fit : (d : Description) (g : Given) (high : Bool) (p w room : ℕ) (segs : List Segment) (owners : List ℕ) → paintOf d g high p w room ≡ All segs owners → length segs ≤ room
 unfolding paintOf
-all-fit d g high p w room segs e = paint-fits d g high p w room (length (d .counts)) 0 [] segs (omega arith) e
+all-fit d g high p w room segs owners e = paint-fits d g high p w room (length (d .counts)) 0 [] segs [] owners (omega arith) e
 
 -- ---- from the end of the checks to their beginning
 
@@ -72,10 +74,10 @@ module _ (r : BuildRooms) (t : BuildOutcome) (s e est : ℕ) (done : t .answer �
     starts : t .starts ≡ o .starts
     entries : t .entries ≡ o .entries
 
-  rows-listed : (estimate : ℕ) (segs : List Segment) (l : Listed) (ss es : List ℕ) → t ≡ afterRows r estimate (length segs) (eights segs) (outcome l ss es)
+  rows-listed : (estimate : ℕ) (segs : List Segment) (owners : List ℕ) (l : Listed) (ss es : List ℕ) → t ≡ afterRows r estimate (length segs) (eights segs) owners (outcome l ss es)
       → Listing estimate segs (outcome l ss es)
-  rows-listed estimate segs Listed.Room ss es q = absurd (refused-not Code.Room 0 q)
-  rows-listed estimate segs (Listed.Entries n) ss es q =
+  rows-listed estimate segs owners Listed.Room ss es q = absurd (refused-not Code.Room 0 q)
+  rows-listed estimate segs owners (Listed.Entries n) ss es q =
       let a : Done (length segs) n estimate ≡ Done s e est = sym (ap (λ (b : BuildOutcome). b .answer) q) ∙ done in
       let m : n ≡ e = cc in
       record {
@@ -92,26 +94,28 @@ module _ (r : BuildRooms) (t : BuildOutcome) (s e est : ℕ) (done : t .answer �
   -- every spline was judged and drawn
   record Ended (H : ℕ) (j : Judged) (p : Painted) : Type 0 where
     segs : List Segment
+    owners : List ℕ
     estimate : ℕ
     judged : j ≡ Judged.Fine estimate
-    drawn : p ≡ All segs
+    drawn : p ≡ All segs owners
     listing : Listing estimate segs (built (inRow (eights segs)) (length segs) H (r .starts) (r .entries))
 
   ended : (H : ℕ) (j : Judged) (p : Painted) → t ≡ afterJudge r H j p → Ended H j p
   ended H (Judged.Refused c k) p q = absurd (refused-not c k q)
   ended H (Judged.Fine estimate) (NoRoomAt k) q = absurd (refused-not Code.Room k q)
-  ended H (Judged.Fine estimate) (All segs) q =
+  ended H (Judged.Fine estimate) (All segs owners) q =
       let o = built (inRow (eights segs)) (length segs) H (r .starts) (r .entries) in
-      record { segs = segs; estimate = estimate; judged = refl; drawn = refl; listing = rows-listed estimate segs (o .answer) (o .starts) (o .entries) q }
+      record { segs = segs; owners = owners; estimate = estimate; judged = refl; drawn = refl; listing = rows-listed estimate segs owners (o .answer) (o .starts) (o .entries) q }
 
 -- what an accepted build is
 pub record Accepted (d : Description) (i : Setting) (r : BuildRooms) (t : BuildOutcome) (s e est : ℕ) : Type 0 where
   pub segs : List Segment
+  pub owners : List ℕ
   pub low : i .height ≤ 2 ^ 23
   pub fits-starts : i .height < r .starts
   pub judged : judgeOf d (givenOf i) ≡ Judged.Fine est
-  pub drawn : painted d i r ≡ All segs
-  pub fits-segments : length segs ≤ segmentRoom (r .segments)
+  pub drawn : painted d i r ≡ All segs owners
+  pub fits-segments : length segs ≤ ownedRoom (r .segments) (r .owners)
   pub size : length segs ≡ s
   pub listed : built (inRow (eights segs)) (length segs) (i .height) (r .starts) (r .entries) .answer ≡ Listed.Entries e
   pub path : t .path ≡ zeros (r .path)
@@ -127,11 +131,12 @@ accepted d i r t s e est q done =
     let f = ready d (givenOf i) (i .width) (i .height) (r .starts) (g .estimate) (g .judged) in
     record {
       segs = g .segs;
+      owners = g .owners;
       low = f .low;
       fits-starts = f .tall;
       judged = f .fine ∙ ap Judged.Fine (g .listing .same);
       drawn = g .drawn;
-      fits-segments = all-fit d (givenOf i) (i .high) (pathRoom (r .path)) (walkRoom (r .walk)) (segmentRoom (r .segments)) (g .segs) (g .drawn);
+      fits-segments = all-fit d (givenOf i) (i .high) (pathRoom (r .path)) (walkRoom (r .walk)) (ownedRoom (r .segments) (r .owners)) (g .segs) (g .owners) (g .drawn);
       size = g .listing .size;
       listed = g .listing .listed;
       path = g .listing .path;

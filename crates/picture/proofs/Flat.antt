@@ -15,12 +15,12 @@ field-after s l i j =
     let e : 8 * suc i + j ≡ 8 + (8 * i + j) = omega arith in
     ap (λ (n : ℕ). getD (eightOf s ++ l) n nan) e ∙ getD-append-add (eightOf s) l (8 * i + j) nan
 
-segment-after : (s : Segment) (l : List Float) (i : ℕ) → segmentAt (eightOf s ++ l) (suc i) ≡ segmentAt l i
+pub segment-after : (s : Segment) (l : List Float) (i : ℕ) → segmentAt (eightOf s ++ l) (suc i) ≡ segmentAt l i
 unfolding segmentAt
 segment-after s l i =
     rw (field-after s l i 0, field-after s l i 1, field-after s l i 2, field-after s l i 3, field-after s l i 4, field-after s l i 5, field-after s l i 6, field-after s l i 7)
 
-segment-first : (s : Segment) (l : List Float) → segmentAt (eightOf s ++ l) 0 ≡ s
+pub segment-first : (s : Segment) (l : List Float) → segmentAt (eightOf s ++ l) 0 ≡ s
 unfolding segmentAt
 segment-first s l = refl
 

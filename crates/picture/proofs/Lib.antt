@@ -7,3 +7,5 @@ pub mod Listings
 pub mod Keeping
 pub mod Pictures
 pub mod Makes
+pub mod Owners
+pub mod Skips

@@ -14,7 +14,7 @@ module _ {d : Description} {i : Setting} {r : BuildRooms} {o : BuildOutcome} {s 
   unfolding segmentsOf
   built-makes =
       let m = build-makes d i r s e n (sym (ap (λ (t : BuildOutcome). t .answer) (b .outcome)) ∙ b .done) in
-      rw (drawn-are d i r (m .segs) (m .needs)) (m .makes)
+      rw (drawn-are d i r (m .segs) (m .owners) (m .needs)) (record { owners = m .owners; made = m .makes })
 
   -- and there are no others
   pub built-are : (segs : List Segment) → Makes d i segs → segs ≡ segmentsOf d i r

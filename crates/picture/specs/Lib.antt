@@ -1,2 +1,3 @@
 -- The definitions of the crate `picture`.
 pub mod Picture
+pub mod Owners

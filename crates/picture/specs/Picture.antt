@@ -55,7 +55,7 @@ abbrev pub built : Setting → build.BuildOutcome → ℕ → ℕ → Table
 built i o s e = tableOf (o .segments) s (o .entries) e (o .starts) (i .height)
 
 abbrev pub paintedSegments : Painted → List Segment
-paintedSegments (All segments) = segments
+paintedSegments (All segments owners) = segments
 paintedSegments (NoRoomAt k) = []
 
 -- the segments of a description, in the order of its splines

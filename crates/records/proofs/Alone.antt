@@ -15,6 +15,7 @@ use Rattle.codes.specs.declared.Code.{Code}
 use Rattle.segments.specs.Segment.{field, segmentAt, eightOf}
 use Rattle.segments.specs.Ranges.{hasColumn, columnsOf}
 use Rattle.segments.specs.declared.Segment.{Segment}
+use Rattle.records.specs.declared.SegmentRecord.{SegmentRecord}
 use Rattle.segments.specs.declared.Range.{Range}
 use Rattle.shade.specs.Edit.{edit}
 use Rattle.shade.specs.Shade.{shaded}
@@ -22,7 +23,7 @@ use Rattle.draw.specs.declared.DrawAnswer.the-variants.{Done, Refused}
 use Rattle.draw.specs.Draw.{between, count, spanGood, three, Channels, leaves}
 use Rattle.draw.proofs.Entries.{and-left, and-right}
 use Rattle.draw.proofs.Columns.{ranged, count-columns, draw-columns}
-use Rattle.records.specs.Records.{zeroSegment, recordOf, recordsOf, drawnChannelAlone, judgeRecord, drawAlone, drawRecordOf, isKnown, drawNumberOf}
+use Rattle.records.specs.Records.{segmentOf, joinedOf, zeroRecord, recordOf, recordsOf, drawnChannelAlone, judgeRecord, drawAlone, drawRecordOf, isKnown, drawNumberOf}
 use Rattle.records.proofs.Fills.{length-listFrom, listFrom-at}
 
 module _ (s : Segment) (x0 n : ℕ) (r : Range) (q : r ≡ columnsOf s) (h : x0 + n ≤ 2 ^ 23) where
@@ -54,18 +55,20 @@ module _ (known : Bool) (s : Segment) (y x0 n : ℕ) (a : Channels) where
 
 -- ---- a record that was filled
 
-module _ (xs : List Float) (c m i : ℕ) (in-count : i < c) (in-records : i < m) (in-floats : 8 * i + 8 ≤ length xs) where
-  -- it is the flat segment of its number
-  pub filled : getD (recordsOf xs c m) i zeroSegment ≡ segmentAt xs i
+module _ (xs : List Float) (us : List ℕ) (c m i : ℕ) (in-count : i < c) (in-records : i < m) (in-floats : 8 * i + 8 ≤ length xs) (in-owners : i < length us) where
+  -- it is the flat segment of its number, with its owner
+  pub filled : getD (recordsOf xs us c m) i zeroRecord ≡ joinedOf (segmentAt xs i) (getD us i 0)
   unfolding recordOf
-  filled = listFrom-at (recordOf xs c) 0 m i zeroSegment in-records ∙ rw (zero-add i) (rw (lt-ltb i c in-count, lt-ltb i (length xs / 8) (omega arith)) refl)
+  filled =
+      listFrom-at (recordOf xs us c) 0 m i zeroRecord in-records
+      ∙ rw (zero-add i) (rw (lt-ltb i c in-count, lt-ltb i (length xs / 8) (omega arith), lt-ltb i (length us) in-owners) refl)
 
   -- and drawing it is drawing that segment
-  pub filled-drawn : (y x0 n : ℕ) (a : Channels) → drawRecordOf (recordsOf xs c m) i y x0 n a ≡ drawAlone true (segmentAt xs i) y x0 n a
+  pub filled-drawn : (y x0 n : ℕ) (a : Channels) → drawRecordOf (recordsOf xs us c m) i y x0 n a ≡ drawAlone true (segmentAt xs i) y x0 n a
   filled-drawn y x0 n a =
-      ap (λ (k : ℕ). drawAlone (ltb i k) (getD (recordsOf xs c m) i zeroSegment) y x0 n a) (length-listFrom (recordOf xs c) 0 m)
-      ∙ ap (λ (known : Bool). drawAlone known (getD (recordsOf xs c m) i zeroSegment) y x0 n a) (lt-ltb i m in-records)
-      ∙ ap (λ (s : Segment). drawAlone true s y x0 n a) filled
+      ap (λ (k : ℕ). drawAlone (ltb i k) (segmentOf (getD (recordsOf xs us c m) i zeroRecord)) y x0 n a) (length-listFrom (recordOf xs us c) 0 m)
+      ∙ ap (λ (known : Bool). drawAlone known (segmentOf (getD (recordsOf xs us c m) i zeroRecord)) y x0 n a) (lt-ltb i m in-records)
+      ∙ ap (λ (r : SegmentRecord). drawAlone true (segmentOf r) y x0 n a) filled
 
 -- ---- a segment by its number
 
@@ -104,17 +107,17 @@ module _ (xs : List Float) (b j i : ℕ) (e : b + j ≡ i) where
   unfolding segmentAt
   segment-from = rw (field-from 0, field-from 1, field-from 2, field-from 3, field-from 4, field-from 5, field-from 6, field-from 7) refl
 
--- a known number among the 16 from b on: drawing its record of those 16 is drawing the number
-pub in-16 : (xs : List Float) (c i b y x0 n : ℕ) (a : Channels) → isKnown xs c i ≡ true → b ≤ i → i < b + 16
-    → drawRecordOf (recordsOf (take (length xs - 8 * b) (drop (8 * b) xs)) (c - b) 16) (i - b) y x0 n a ≡ drawNumberOf xs c i y x0 n a
-in-16 xs c i b y x0 n a e l u =
+-- a known number among the 16 from b on: drawing its record of those 16, whatever their owners, is drawing the number
+pub in-16 : (xs : List Float) (us : List ℕ) (c i b y x0 n : ℕ) (a : Channels) → length us ≡ 16 → isKnown xs c i ≡ true → b ≤ i → i < b + 16
+    → drawRecordOf (recordsOf (take (length xs - 8 * b) (drop (8 * b) xs)) us (c - b) 16) (i - b) y x0 n a ≡ drawNumberOf xs c i y x0 n a
+in-16 xs us c i b y x0 n a w e l u =
     let k = known-facts xs c i e in
     let fits : 8 * (i - b) + 8 ≤ length (drop (8 * b) xs) = rw (length-drop (8 * b) xs) (omega (arith, k .counted, k .fits)) in
     let here : i - b < c - b = omega (arith, k .counted) in
     let few : i - b < 16 = omega arith in
     let at : b + (i - b) ≡ i = omega arith in
-    ap (λ (zs : List Float). drawRecordOf (recordsOf zs (c - b) 16) (i - b) y x0 n a) (part-to-end xs (8 * b))
-    ∙ filled-drawn (drop (8 * b) xs) (c - b) 16 (i - b) here few fits y x0 n a
+    ap (λ (zs : List Float). drawRecordOf (recordsOf zs us (c - b) 16) (i - b) y x0 n a) (part-to-end xs (8 * b))
+    ∙ filled-drawn (drop (8 * b) xs) us (c - b) 16 (i - b) here few fits (omega arith) y x0 n a
     ∙ ap (λ (s : Segment). drawAlone true s y x0 n a) (segment-from xs b (i - b) i at)
     ∙ ap (λ (known : Bool). drawAlone known (segmentAt xs i) y x0 n a) (sym e)
 

@@ -1,4 +1,4 @@
--- Segments as records in a slice: what a flat slice of eight floats a segment says of the record at an index, a list of such records, and one record drawn. Definitions only.
+-- Segments with their owners as records in a slice: what a flat slice of eight floats a segment and a slice of owners say of the record at an index, a list of such records, and one record drawn. Definitions only.
 use mathlib.Core.Bool.{Bool, cond, _&&_}
 use mathlib.Core.List.{List, [], _∷_}
 use Prim.Native.Nat.{ℕ, zero, suc, _+_, _*_, _/_, _^_}
@@ -8,6 +8,7 @@ use lib.Ieee.{Float}
 use Rattle.numbers.specs.Arith.{f}
 use Rattle.codes.specs.declared.Code.{Code}
 use Rattle.segments.specs.declared.Segment.{Segment}
+use Rattle.records.specs.declared.SegmentRecord.{SegmentRecord}
 use Rattle.segments.specs.Segment.{segmentAt}
 use Rattle.segments.specs.Ranges.{hasColumn}
 use Rattle.shade.specs.Edit.{edit, firstCells}
@@ -17,9 +18,35 @@ use Rattle.draw.specs.declared.Verdict.the-variants.{Fine, Fault}
 use Rattle.draw.specs.declared.DrawAnswer.the-variants.{Done, Refused}
 use Rattle.draw.specs.Draw.{count, spanGood, orFault, three, Channels, leaves, DrawOutcome}
 
+-- the segment of a record, and a segment and its owner as a record
+abbrev pub segmentOf : SegmentRecord → Segment
+segmentOf r = record {
+  «center_x» = r .«center_x»;
+  «center_y» = r .«center_y»;
+  «maximum_distance» = r .«maximum_distance»;
+  «inv_sigma» = r .«inv_sigma»;
+  «sigma_over_4_times_intensity» = r .«sigma_over_4_times_intensity»;
+  color0 = r .color0;
+  color1 = r .color1;
+  color2 = r .color2;
+}
+
+abbrev pub joinedOf : Segment → ℕ → SegmentRecord
+joinedOf s owner = record {
+  «center_x» = s .«center_x»;
+  «center_y» = s .«center_y»;
+  «maximum_distance» = s .«maximum_distance»;
+  «inv_sigma» = s .«inv_sigma»;
+  «sigma_over_4_times_intensity» = s .«sigma_over_4_times_intensity»;
+  color0 = s .color0;
+  color1 = s .color1;
+  color2 = s .color2;
+  owner = owner;
+}
+
 -- the record of zeros
-unfoldable pub zeroSegment : Segment
-zeroSegment = record {
+unfoldable pub zeroRecord : SegmentRecord
+zeroRecord = record {
   «center_x» = f 0;
   «center_y» = f 0;
   «maximum_distance» = f 0;
@@ -28,20 +55,21 @@ zeroSegment = record {
   color0 = f 0;
   color1 = f 0;
   color2 = f 0;
+  owner = 0;
 }
 
--- record k of the first c segments of a flat list: zeros from c on, and where the list is too short
-unfoldable pub recordOf : List Float → ℕ → ℕ → Segment
-recordOf xs c k = cond (ltb k c && ltb k (length xs / 8)) (segmentAt xs k) zeroSegment
+-- record k of the first c segments of a flat list with their owners: zeros from c on, and where a list is too short
+unfoldable pub recordOf : List Float → List ℕ → ℕ → ℕ → SegmentRecord
+recordOf xs us c k = cond (ltb k c && (ltb k (length xs / 8) && ltb k (length us))) (joinedOf (segmentAt xs k) (getD us k 0)) zeroRecord
 
 -- n values of g, from i on
 abbrev pub listFrom : {A : Type 0} → (ℕ → A) → ℕ → ℕ → List A
 listFrom g i zero = []
 listFrom g i (suc n) = g i ∷ listFrom g (suc i) n
 
--- n records: those of the first c segments of a flat list, and zeros after them
-abbrev pub recordsOf : List Float → ℕ → ℕ → List Segment
-recordsOf xs c n = listFrom (recordOf xs c) 0 n
+-- n records: those of the first c segments of a flat list with their owners, and zeros after them
+abbrev pub recordsOf : List Float → List ℕ → ℕ → ℕ → List SegmentRecord
+recordsOf xs us c n = listFrom (recordOf xs us c) 0 n
 
 -- ---- one record drawn
 
@@ -64,8 +92,8 @@ abbrev pub drawAlone : Bool → Segment → ℕ → ℕ → ℕ → Channels →
 drawAlone known s y x0 n a = outcomeAlone (judgeRecord known y x0 n (length (a .r0)) (length (a .r1)) (length (a .r2))) s y x0 n a
 
 -- what drawing the record i of a list answers and leaves
-abbrev pub drawRecordOf : List Segment → ℕ → ℕ → ℕ → ℕ → Channels → DrawOutcome
-drawRecordOf records i y x0 n a = drawAlone (ltb i (length records)) (getD records i zeroSegment) y x0 n a
+abbrev pub drawRecordOf : List SegmentRecord → ℕ → ℕ → ℕ → ℕ → Channels → DrawOutcome
+drawRecordOf records i y x0 n a = drawAlone (ltb i (length records)) (segmentOf (getD records i zeroRecord)) y x0 n a
 
 -- ---- a segment of a flat list, by its number
 

@@ -1,17 +1,63 @@
-// Segments as a lent slice of records, over the flat core: filled by copying, read by number, and drawn one by one.
+// Segments with their owners as a lent slice of records, over the flat core: filled by copying, read by number, and drawn one by one.
 ghost use mathlib.Core.Path.{_≡_};
 ghost use lib.ListN.{length, getD};
 ghost use Rattle.draw.specs.Draw.{three, leaves};
-ghost use Rattle.records.specs.Records.{zeroSegment, recordOf, recordsOf, drawAlone, drawRecordOf, isKnown, drawNumberOf};
+ghost use Rattle.records.specs.Records.{segmentOf, joinedOf, zeroRecord, recordOf, recordsOf, drawAlone, drawRecordOf, isKnown, drawNumberOf};
 use codes::Code;
 use draw::DrawAnswer;
 use segments::Segment;
 
-// The record of zeros.
-fn zero_segment() -> Segment
-    ensures { λ r. ⌜ r ≡ zeroSegment ⌝ }
+// A segment, and the number of the spline that made it.
+pub struct SegmentRecord {
+    pub center_x: f32,
+    pub center_y: f32,
+    pub maximum_distance: f32,
+    pub inv_sigma: f32,
+    pub sigma_over_4_times_intensity: f32,
+    pub color0: f32,
+    pub color1: f32,
+    pub color2: f32,
+    pub owner: u64,
+}
+
+// The segment of a record.
+fn segment_of(whole: SegmentRecord) -> Segment
+    ensures { λ r. ⌜ r ≡ segmentOf whole ⌝ }
 {
     Segment {
+        center_x: whole.center_x,
+        center_y: whole.center_y,
+        maximum_distance: whole.maximum_distance,
+        inv_sigma: whole.inv_sigma,
+        sigma_over_4_times_intensity: whole.sigma_over_4_times_intensity,
+        color0: whole.color0,
+        color1: whole.color1,
+        color2: whole.color2,
+    }
+}
+
+// A segment and its owner as a record.
+fn joined(segment: Segment, owner: u64) -> SegmentRecord
+    ensures { λ r. ⌜ r ≡ joinedOf segment owner ⌝ }
+{
+    SegmentRecord {
+        center_x: segment.center_x,
+        center_y: segment.center_y,
+        maximum_distance: segment.maximum_distance,
+        inv_sigma: segment.inv_sigma,
+        sigma_over_4_times_intensity: segment.sigma_over_4_times_intensity,
+        color0: segment.color0,
+        color1: segment.color1,
+        color2: segment.color2,
+        owner,
+    }
+}
+
+// The record of zeros.
+fn zero_record() -> SegmentRecord
+    ensures { λ r. ⌜ r ≡ zeroRecord ⌝ }
+{
+    SegmentRecord {
         center_x: 0.0,
         center_y: 0.0,
         maximum_distance: 0.0,
@@ -20,26 +66,31 @@ fn zero_segment() -> Segment
         color0: 0.0,
         color1: 0.0,
         color2: 0.0,
+        owner: 0,
     }
 }
 
-// Record k of the first `count` segments of a flat slice, or zeros.
-fn record_of(flat: &[f32], count: usize, k: usize) -> Segment
-    ensures { λ r. ⌜ r ≡ recordOf (now (flat .entry)) count k ⌝ }
+// Record k of the first `count` segments of a flat slice with their owners, or zeros.
+fn record_of(flat: &[f32], owners: &[u64], count: usize, k: usize) -> SegmentRecord
+    ensures { λ r. ⌜ r ≡ recordOf (now (flat .entry)) (now (owners .entry)) count k ⌝ }
 {
     if count <= k {
-        return zero_segment();
+        return zero_record();
     }
     if flat.len() / 8 <= k {
-        return zero_segment();
+        return zero_record();
     }
-    Segment::at(flat, k)
+    if owners.len() <= k {
+        return zero_record();
+    }
+    let owner = owners[k];
+    joined(Segment::at(flat, k), owner)
 }
 
-// Adds a segment to those of the n pixels of row y from column x0 on whose columns it has, and counts them; `known` says that it is a record.
+// Adds the segment of a record to those of the n pixels of row y from column x0 on whose columns it has, and counts them; `known` says that there is such a record.
 fn draw_alone(
     known: bool,
-    segment: Segment,
+    whole: SegmentRecord,
     y: u32,
     x0: u32,
     n: u32,
@@ -48,7 +99,7 @@ fn draw_alone(
     r2: &mut [f32],
 ) -> DrawAnswer
     ensures { λ r. ⌜ leaves r (three (now (r0 .exit)) (now (r1 .exit)) (now (r2 .exit)))
-        ≡ drawAlone known segment y x0 n (three (now (r0 .entry)) (now (r1 .entry)) (now (r2 .entry))) ⌝ }
+        ≡ drawAlone known (segmentOf whole) y x0 n (three (now (r0 .entry)) (now (r1 .entry)) (now (r2 .entry))) ⌝ }
 {
     if !known {
         return DrawAnswer::Refused(Code::Table, 0);
@@ -59,6 +110,7 @@ fn draw_alone(
     if !draw::span_good(x0, n, r0.len(), r1.len(), r2.len()) {
         return DrawAnswer::Refused(Code::Span, 0);
     }
+    let segment = segment_of(whole);
     let columns = segment.columns();
     let table = numbers::ROOTS;
     DrawAnswer::Done(
@@ -80,29 +132,29 @@ fn draw_alone(
 // ---- the slice of records
 
 // The record at an index, or zeros past the end.
-pub fn segment_at(records: &[Segment], i: usize) -> Segment
-    ensures { λ r. ⌜ r ≡ getD (now (records .entry)) i zeroSegment ⌝ }
+pub fn segment_at(records: &[SegmentRecord], i: usize) -> SegmentRecord
+    ensures { λ r. ⌜ r ≡ getD (now (records .entry)) i zeroRecord ⌝ }
 {
     if i < records.len() {
         return records[i];
     }
-    zero_segment()
+    zero_record()
 }
 
-// Every record is set: the first `count` to the segments of the flat slice, the others to zeros.
-pub fn fill_records(flat: &[f32], count: usize, records: &mut [Segment])
-    ensures { λ _. ⌜ now (records .exit) ≡ recordsOf (now (flat .entry)) count (length (now (records .entry))) ⌝ }
+// Every record is set: the first `count` to the segments of the flat slice with their owners, the others to zeros.
+pub fn fill_records(flat: &[f32], owners: &[u64], count: usize, records: &mut [SegmentRecord])
+    ensures { λ _. ⌜ now (records .exit) ≡ recordsOf (now (flat .entry)) (now (owners .entry)) count (length (now (records .entry))) ⌝ }
 {
     let mut i = 0;
     while i < records.len() {
-        records[i] = record_of(flat, count, i);
+        records[i] = record_of(flat, owners, count, i);
         i += 1;
     }
 }
 
 // Draws the record i on n pixels of row y, from column x0 on, into three channels that begin at column x0.
 pub fn draw_record(
-    records: &[Segment],
+    records: &[SegmentRecord],
     i: usize,
     y: u32,
     x0: u32,
@@ -115,13 +167,14 @@ pub fn draw_record(
         ≡ drawRecordOf (now (records .entry)) i y x0 n (three (now (r0 .entry)) (now (r1 .entry)) (now (r2 .entry))) ⌝ }
 {
     let known = i < records.len();
-    let segment = segment_at(records, i);
-    draw_alone(known, segment, y, x0, n, r0, r1, r2)
+    let whole = segment_at(records, i);
+    draw_alone(known, whole, y, x0, n, r0, r1, r2)
 }
 
-// Draws the record i of 16 that a flat slice fills: its parameters are plain, so its callers need no walk.
+// Draws the record i of 16 that a flat slice and owners fill: its parameters are plain, so its callers need no walk.
 fn draw_in_16(
     flat: &[f32],
+    owners: &[u64],
     count: usize,
     i: usize,
     y: u32,
@@ -132,11 +185,11 @@ fn draw_in_16(
     r2: &mut [f32],
 ) -> DrawAnswer
     ensures { λ r. ⌜ leaves r (three (now (r0 .exit)) (now (r1 .exit)) (now (r2 .exit)))
-        ≡ drawRecordOf (recordsOf (now (flat .entry)) count 16) i y x0 n (three (now (r0 .entry)) (now (r1 .entry)) (now (r2 .entry))) ⌝ }
+        ≡ drawRecordOf (recordsOf (now (flat .entry)) (now (owners .entry)) count 16) i y x0 n (three (now (r0 .entry)) (now (r1 .entry)) (now (r2 .entry))) ⌝ }
 {
-    let zero = zero_segment();
+    let zero = zero_record();
     let mut records = [zero; 16];
-    fill_records(flat, count, &mut records);
+    fill_records(flat, owners, count, &mut records);
     draw_record(&records, i, y, x0, n, r0, r1, r2)
 }
 
@@ -156,7 +209,7 @@ fn is_known(flat: &[f32], count: usize, i: usize) -> bool
 }
 
 // Draws number i of `count` flat segments by way of records. There may be any number of segments: 16 records are filled, from the multiple of 16 on that is i or comes before it.
-// A number that is not below the count, and every number of a count that the floats do not hold, is TABLE.
+// A number that is not below the count, and every number of a count that the floats do not hold, is TABLE. Drawing reads no owner: those of the 16 are zeros.
 pub fn draw_by_records(
     flat: &[f32],
     count: usize,
@@ -175,8 +228,10 @@ pub fn draw_by_records(
         return DrawAnswer::Refused(Code::Table, 0);
     }
     let first = i / 16 * 16;
+    let owners = [0u64; 16];
     draw_in_16(
         &flat[8 * first..],
+        &owners,
         count - first,
         i - first,
         y,

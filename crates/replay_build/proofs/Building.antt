@@ -15,8 +15,8 @@ use Rattle.table.specs.Table.{BuildRooms, Setting, settingOf, BuildOutcome, bui
 use Rattle.stored.specs.Stored.{floatIn, signedIn}
 use Rattle.replay_build.specs.Built.{part, AnswerAgrees, BuildAgrees, lent, imageIn, floatsIn, signedsIn, descriptionIn}
 
-pub answer-agrees : (height : ℕ) (segments : List Float) (starts entries output : List ℕ) {a b : BuildAnswer} → a ≡ b → AnswerAgrees b height segments starts entries output → AnswerAgrees a height segments starts entries output
-answer-agrees height segments starts entries output p m = subst (λ (v : BuildAnswer). AnswerAgrees v height segments starts entries output) (sym p) m
+pub answer-agrees : (height : ℕ) (segments : List Float) (owners starts entries output : List ℕ) {a b : BuildAnswer} → a ≡ b → AnswerAgrees b height segments owners starts entries output → AnswerAgrees a height segments owners starts entries output
+answer-agrees height segments owners starts entries output p m = subst (λ (v : BuildAnswer). AnswerAgrees v height segments owners starts entries output) (sym p) m
 
 -- the first n of N numbers are n
 pub taken : {A : Type 0} (g : ℕ → A) (N n : ℕ) (p : List A) → p ≡ table g N → n ≤ N → length (take n p) ≡ n

@@ -29,13 +29,14 @@ pub record Headed (count listed estimate : ℕ) (output : List ℕ) : Type 0 whe
   pub entries : getD output 3 0 ≡ listed
   pub area : estimate ≡ longIn output 4
 
--- a success: behind the head the numbers of the segments, the row starts and the entries, and no word more
-pub record TableAgrees (count listed estimate height : ℕ) (segments : List Float) (starts entries output : List ℕ) : Type 0 where
+-- a success: behind the head the numbers of the segments, their owners, the row starts and the entries, and no word more
+pub record TableAgrees (count listed estimate height : ℕ) (segments : List Float) (owners starts entries output : List ℕ) : Type 0 where
   pub head : Headed count listed estimate output
-  pub size : length output ≡ 6 + 8 * count + height + 1 + listed
+  pub size : length output ≡ 6 + 8 * count + count + height + 1 + listed
   pub numbers : Begins segments (part 6 (6 + 8 * count) output)
-  pub rows : BeginsWith starts (part (6 + 8 * count) (6 + 8 * count + height + 1) output)
-  pub lists : BeginsWith entries (part (6 + 8 * count + height + 1) (length output) output)
+  pub splines : BeginsWith owners (part (6 + 8 * count) (6 + 8 * count + count) output)
+  pub rows : BeginsWith starts (part (6 + 8 * count + count) (6 + 8 * count + count + height + 1) output)
+  pub lists : BeginsWith entries (part (6 + 8 * count + count + height + 1) (length output) output)
 
 -- a refusal: its code and its place, and no word more
 pub record RefusalAgrees (code : Code) (place : ℕ) (output : List ℕ) : Type 0 where
@@ -43,13 +44,13 @@ pub record RefusalAgrees (code : Code) (place : ℕ) (output : List ℕ) : Type 
   pub number : refusalWord (numberOf code) ≡ getD output 0 0
   pub at : getD output 1 0 ≡ place
 
-abbrev pub AnswerAgrees : BuildAnswer → ℕ → List Float → List ℕ → List ℕ → List ℕ → Type 0
-AnswerAgrees (Refused code place) height segments starts entries output = RefusalAgrees code place output
-AnswerAgrees (Done count listed estimate) height segments starts entries output = TableAgrees count listed estimate height segments starts entries output
+abbrev pub AnswerAgrees : BuildAnswer → ℕ → List Float → List ℕ → List ℕ → List ℕ → List ℕ → Type 0
+AnswerAgrees (Refused code place) height segments owners starts entries output = RefusalAgrees code place output
+AnswerAgrees (Done count listed estimate) height segments owners starts entries output = TableAgrees count listed estimate height segments owners starts entries output
 
--- what a build answers, and leaves in the segments, the row starts and the entries
+-- what a build answers, and leaves in the segments, their owners, the row starts and the entries
 abbrev pub BuildAgrees : BuildOutcome → ℕ → List ℕ → Type 0
-BuildAgrees t height output = AnswerAgrees (t .answer) height (t .segments) (t .starts) (t .entries) output
+BuildAgrees t height output = AnswerAgrees (t .answer) height (t .segments) (t .owners) (t .starts) (t .entries) output
 
 -- ---- the input
 
@@ -59,6 +60,7 @@ lent = record {
   path = 256;
   walk = 2048;
   segments = 1024;
+  owners = 128;
   starts = 256;
   entries = 512;
 }

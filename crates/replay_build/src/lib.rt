@@ -4,6 +4,7 @@ ghost use mathlib.Core.Path.{_≡_};
 ghost use mathlib.Core.Bool.{true};
 ghost use Prim.Native.Nat.{_≤_};
 ghost use lib.ListN.{length, getD};
+ghost use Rattle.stored.specs.Stored.{BeginsWith};
 ghost use Rattle.dequantize.specs.Judge.{descriptionOf};
 ghost use Rattle.table.specs.Table.{buildOf};
 ghost use Rattle.replay_build.specs.Built.{Headed, TableAgrees, RefusalAgrees, AnswerAgrees, BuildAgrees, lent, imageIn, floatsIn, signedsIn, descriptionIn};
@@ -34,31 +35,59 @@ fn is_head(count: u32, listed: u32, estimate: u64, output: &[u32]) -> bool
     estimate == stored::long(output[4], output[5])
 }
 
-// Behind them the numbers of the segments, the row starts and the entries.
+fn wide(x: u32) -> u64
+    ensures { λ r. ⌜ r ≡ x ⌝ }
+{
+    x as u64
+}
+
+// Whether the owners begin with these words: a number each.
+fn begin_owners(owners: &[u64], words: &[u32]) -> bool
+    ensures { λ r. ⌜ (r ≡ true → BeginsWith (now (owners .entry)) (now (words .entry))) ⌝ }
+{
+    let mut i = 0;
+    while i < words.len() {
+        if owners.len() <= i {
+            return false;
+        }
+        if owners[i] != wide(words[i]) {
+            return false;
+        }
+        i += 1;
+    }
+    true
+}
+
+// Behind them the numbers of the segments, their owners, the row starts and the entries.
 fn is_table(
     count: u32,
     listed: u32,
     estimate: u64,
     height: u32,
     segments: &[f32],
+    owners: &[u64],
     row_starts: &[u32],
     entries: &[u32],
     output: &[u32],
 ) -> bool
-    ensures { λ r. ⌜ (r ≡ true → TableAgrees count listed estimate height (now (segments .entry)) (now («row_starts» .entry)) (now (entries .entry)) (now (output .entry))) ⌝ }
+    ensures { λ r. ⌜ (r ≡ true → TableAgrees count listed estimate height (now (segments .entry)) (now (owners .entry)) (now («row_starts» .entry)) (now (entries .entry)) (now (output .entry))) ⌝ }
 {
     if !is_head(count, listed, estimate, output) {
         return false;
     }
     let numbers_end = 6 + 8 * (count as usize);
-    let starts_end = numbers_end + (height as usize) + 1;
+    let owners_end = numbers_end + (count as usize);
+    let starts_end = owners_end + (height as usize) + 1;
     if output.len() != starts_end + (listed as usize) {
         return false;
     }
     if !stored::begin_f32(segments, &output[6..numbers_end]) {
         return false;
     }
-    if !stored::begin_u32(row_starts, &output[numbers_end..starts_end]) {
+    if !begin_owners(owners, &output[numbers_end..owners_end]) {
+        return false;
+    }
+    if !stored::begin_u32(row_starts, &output[owners_end..starts_end]) {
         return false;
     }
     stored::begin_u32(entries, &output[starts_end..])
@@ -80,11 +109,12 @@ fn is_answer(
     answer: BuildAnswer,
     height: u32,
     segments: &[f32],
+    owners: &[u64],
     row_starts: &[u32],
     entries: &[u32],
     output: &[u32],
 ) -> bool
-    ensures { λ r. ⌜ (r ≡ true → AnswerAgrees answer height (now (segments .entry)) (now («row_starts» .entry)) (now (entries .entry)) (now (output .entry))) ⌝ }
+    ensures { λ r. ⌜ (r ≡ true → AnswerAgrees answer height (now (segments .entry)) (now (owners .entry)) (now («row_starts» .entry)) (now (entries .entry)) (now (output .entry))) ⌝ }
 {
     match answer {
         BuildAnswer::Refused(code, place) => is_refusal(code, place, output),
@@ -94,6 +124,7 @@ fn is_answer(
             estimate,
             height,
             segments,
+            owners,
             row_starts,
             entries,
             output,
@@ -121,6 +152,7 @@ fn is_built(
     let mut path = [0.0f32; 256];
     let mut walk = [0.0f32; 2048];
     let mut segments = [0.0f32; 1024];
+    let mut owners = [0u64; 128];
     let mut row_starts = [0u32; 256];
     let mut entries = [0u32; 512];
     let answer = table::build(
@@ -138,10 +170,19 @@ fn is_built(
         &mut path,
         &mut walk,
         &mut segments,
+        &mut owners,
         &mut row_starts,
         &mut entries,
     );
-    is_answer(answer, input[1], &segments, &row_starts, &entries, output)
+    is_answer(
+        answer,
+        input[1],
+        &segments,
+        &owners,
+        &row_starts,
+        &entries,
+        output,
+    )
 }
 
 // The same, of a description whose parts are still words.

@@ -1,9 +1,10 @@
-// A list that is read, and a table that is built, in the fixed rooms of the program: lent buffers on the stack.
-mod building;
-mod reading;
+// A list that is read in the fixed rooms of the program, lent buffers on the stack, and what is asked of its description.
+mod telling;
 
-pub use building::build_list;
-pub use reading::read_list;
+ghost use Prim.Native.Nat.{_≤_};
+use canvas::Asked;
+use canvas::Task;
+use reader::ReadAnswer;
 
 const SPLINES: usize = 512;
 
@@ -15,3 +16,117 @@ const COEFFICIENTS: usize = 65536;
 
 // The usual configured limit.
 const CONFIGURED: u32 = 1048576;
+
+// What a description was read from: a list of so many values, or a trace file of so many bytes.
+pub enum Source {
+    List(usize),
+    File(usize),
+}
+
+// What is asked of a description.
+fn answer(
+    counts: &[u32],
+    starts: &[f32],
+    deltas: &[i32],
+    coefficients: &[i32],
+    adjustment: i32,
+    source: Source,
+    task: Task,
+) -> u8
+    ensures { λ r. ⌜ r ≤ 3 ⌝ }
+{
+    let asked = task.asked;
+    match asked {
+        Asked::Told => telling::say(counts, starts, deltas.len() / 2, adjustment, source),
+        _ => tables::build(counts, starts, deltas, coefficients, adjustment, task),
+    }
+}
+
+// The first cells of the buffers are the description of so many splines and points.
+fn answer_first(
+    counts: &[u32],
+    starts: &[f32],
+    deltas: &[i32],
+    coefficients: &[i32],
+    splines: u32,
+    points: u32,
+    adjustment: i32,
+    source: Source,
+    task: Task,
+) -> u8
+    ensures { λ r. ⌜ r ≤ 3 ⌝ }
+{
+    let s = splines as usize;
+    let n = points as usize;
+    if counts.len() < s {
+        return 1;
+    }
+    if starts.len() / 2 < s {
+        return 1;
+    }
+    if deltas.len() / 2 < n {
+        return 1;
+    }
+    if coefficients.len() / 128 < s {
+        return 1;
+    }
+    answer(
+        &counts[0..s],
+        &starts[0..2 * s],
+        &deltas[0..2 * n],
+        &coefficients[0..128 * s],
+        adjustment,
+        source,
+        task,
+    )
+}
+
+// The pixels of the image, as far as 32 bits hold them; where there is no image they limit nothing.
+fn pixels_of(task: Task) -> u32 {
+    let width = task.width;
+    let height = task.height;
+    let area = numbers::saturating_mul(width as u64, height as u64);
+    if area == 0 {
+        return 4294967295;
+    }
+    if area < 4294967296 {
+        area as u32
+    } else {
+        4294967295
+    }
+}
+
+// What is asked of a list; the status.
+pub fn of_list(list: &[u32], task: Task) -> u8
+    ensures { λ r. ⌜ r ≤ 3 ⌝ }
+{
+    let mut counts = [0u32; SPLINES];
+    let mut starts = [0.0f32; STARTS];
+    let mut deltas = [0i32; DELTAS];
+    let mut coefficients = [0i32; COEFFICIENTS];
+    let pixels = pixels_of(task);
+    match reader::read(
+        list,
+        CONFIGURED,
+        pixels,
+        &mut counts,
+        &mut starts,
+        &mut deltas,
+        &mut coefficients,
+    ) {
+        ReadAnswer::Refused(code, place) => {
+            words::of_reading(code, place, list, list::limit(CONFIGURED, pixels))
+        }
+        ReadAnswer::Done(splines, points, adjustment) => answer_first(
+            &counts,
+            &starts,
+            &deltas,
+            &coefficients,
+            splines,
+            points,
+            adjustment,
+            Source::List(list.len()),
+            task,
+        ),
+    }
+}

@@ -23,6 +23,7 @@ fn draw_all(
     path: &mut [f32],
     walk: &mut [f32],
     segments: &mut [f32],
+    owners: &mut [u64],
 ) -> Drawn {
     let mut row_starts = [0u32; 1];
     let mut entries = [0u32; 1];
@@ -41,6 +42,7 @@ fn draw_all(
         path,
         walk,
         segments,
+        owners,
         &mut row_starts,
         &mut entries,
     ) {
@@ -148,6 +150,7 @@ fn is_first_short(
     path: &mut [f32],
     walk: &mut [f32],
     segments: &mut [f32],
+    owners: &mut [u64],
 ) -> bool {
     match draw_all(
         counts,
@@ -159,6 +162,7 @@ fn is_first_short(
         path,
         walk,
         segments,
+        owners,
     ) {
         Drawn::Count(_) => false,
         Drawn::Short(k) => k == 0,
@@ -176,6 +180,7 @@ fn say_spline(
     path: &mut [f32],
     walk: &mut [f32],
     segments: &mut [f32],
+    owners: &mut [u64],
 ) -> u8
     ensures { λ r. ⌜ r ≡ 1 ⌝ }
 {
@@ -203,6 +208,7 @@ fn say_spline(
         path,
         walk,
         segments,
+        owners,
     ) {
         say_walk(k)
     } else {
@@ -222,6 +228,7 @@ pub fn say(
     path: &mut [f32],
     walk: &mut [f32],
     segments: &mut [f32],
+    owners: &mut [u64],
 ) -> u8
     ensures { λ r. ⌜ r ≡ 1 ⌝ }
 {
@@ -235,6 +242,7 @@ pub fn say(
         path,
         walk,
         segments,
+        owners,
     ) {
         Drawn::Count(count) => say_entries(entries_of(segments, count, height)),
         Drawn::Short(k) => say_spline(
@@ -247,6 +255,7 @@ pub fn say(
             path,
             walk,
             segments,
+            owners,
         ),
     }
 }

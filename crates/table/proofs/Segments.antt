@@ -11,24 +11,27 @@ use Rattle.segments.specs.declared.Segment.{Segment}
 use Rattle.points.specs.Points.{eights}
 use Rattle.points.proofs.Adding.{length-eights}
 use Rattle.painting.specs.Painting.{All}
-use Rattle.painting.proofs.Segments.{makes-one, drawn-makes, drawn-more}
+use Rattle.painting.proofs.Segments.{makes-one, makes-owned, drawn-makes, drawn-more}
 use Rattle.rows.specs.Rows.{inRow, startOf, rows, upTo}
 use Rattle.rows.proofs.Users.{length-up-to}
 use Rattle.table.specs.declared.BuildAnswer.the-variants.{Done}
 use Rattle.table.specs.Table.{BuildRooms, Setting, BuildOutcome, givenOf, refusedWith, buildOf}
-use Rattle.table.specs.Segments.{Makes, entriesOf, NeedsMet, doneWith, BuildMakes, NoLess, SameTable, MakesOne, EnoughIsDone, DoneMakes, MoreRoomNeverRefuses}
+use Rattle.table.specs.Segments.{Makes, entriesOf, NeedsMet, doneWith, BuildMakes, NoLess, SameTable, MakesOne, OwnsOne, EnoughIsDone, DoneMakes, MoreRoomNeverRefuses}
 use Rattle.table.specs.Refusals.{painted}
 use Rattle.table.proofs.Users.{is-drawn, refused, met, Accepts, Refuses, either-way}
 
+pub one-owned : OwnsOne
+one-owned d i xs ys us vs a b = makes-one d (givenOf i) (i .high) a b
+
 pub one-list : MakesOne
-one-list d i xs ys a b = makes-one d (givenOf i) (i .high) a b
+one-list d i xs ys a b = one-owned d i xs ys (a .owners) (b .owners) (a .made) (b .made) .0
 
 pub enough-is-done : EnoughIsDone
-enough-is-done d i r segs n = met d i r segs n
+enough-is-done d i r segs owners n = met d i r segs owners n
 
 -- and they are what is drawn with the lent room
-pub drawn-are : (d : Description) (i : Setting) (r : BuildRooms) (segs : List Segment) → NeedsMet d i r segs → painted d i r ≡ All segs
-drawn-are d i r segs n = is-drawn d i r (n .fits) (n .passes) segs (n .drawn)
+pub drawn-are : (d : Description) (i : Setting) (r : BuildRooms) (segs : List Segment) (owners : List ℕ) → NeedsMet d i r segs owners → painted d i r ≡ All segs owners
+drawn-are d i r segs owners n = is-drawn d i r (n .fits) (n .passes) segs owners (n .drawn)
 
 pub build-makes : DoneMakes
 unfolding refusedWith doneWith
@@ -37,10 +40,11 @@ build-makes d i r s e estimate h = go (either-way d i r)
     go : Accepts d i r ⊎ Refuses d i r → BuildMakes d i r s e estimate
     go (inr w) = absurd (let z : _≡_ {A = ℕ} 0 1 = cc (sym (ap (λ (t : BuildOutcome). t .answer) (refused d i r (w .why))) ∙ h) in omega arith)
     go (inl a) =
-        let m = met d i r (a .segs) (a .needs) in
+        let m = met d i r (a .segs) (a .owners) (a .needs) in
         let q : Done (length (a .segs)) (entriesOf i (a .segs)) (totalOf d (givenOf i) (length (d .counts))) ≡ Done s e estimate = sym (ap (λ (t : BuildOutcome). t .answer) m) ∙ h in
         record {
           segs = a .segs;
+          owners = a .owners;
           makes = drawn-makes d (givenOf i) (i .high) (a .needs .drawn);
           needs = a .needs;
           count = cc;
@@ -52,11 +56,11 @@ build-makes d i r s e estimate h = go (either-way d i r)
 
 -- ---- more room
 
-more-needs : (d : Description) (i : Setting) (r r′ : BuildRooms) (segs : List Segment) → NoLess r r′ → NeedsMet d i r segs → NeedsMet d i r′ segs
-more-needs d i r r′ segs l n = record {
+more-needs : (d : Description) (i : Setting) (r r′ : BuildRooms) (segs : List Segment) (owners : List ℕ) → NoLess r r′ → NeedsMet d i r segs owners → NeedsMet d i r′ segs owners
+more-needs d i r r′ segs owners l n = record {
   fits = record { narrow = n .fits .narrow; low = n .fits .low; shape = n .fits .shape; tall = omega (arith, n .fits .tall, l .starts) };
   passes = n .passes;
-  drawn = drawn-more d (givenOf i) (i .high) (l .path) (l .walk) (l .segments) (n .drawn);
+  drawn = drawn-more d (givenOf i) (i .high) (l .path) (l .walk) (l .segments) (l .owners) (n .drawn);
   entries = (omega (arith, n .entries .0, l .entries), n .entries .1);
 }
 
@@ -69,12 +73,14 @@ unfolding doneWith
 more-room-never-refuses d i r r′ s e estimate l h =
     let b = build-makes d i r s e estimate h in
     let xs = b .segs in
-    let p : buildOf d i r ≡ doneWith d i r xs = b .leaves-them in
-    let q : buildOf d i r′ ≡ doneWith d i r′ xs = met d i r′ xs (more-needs d i r r′ xs l (b .needs)) in
+    let us = b .owners in
+    let p : buildOf d i r ≡ doneWith d i r xs us = b .leaves-them in
+    let q : buildOf d i r′ ≡ doneWith d i r′ xs us = met d i r′ xs us (more-needs d i r r′ xs us l (b .needs)) in
     rw (p, q)
     (record {
       answer = refl;
       segments = front (eights xs) _ _ (8 * s) (omega (arith, length-eights xs, b .count));
+      owners = front us _ _ s (makes-owned d (givenOf i) (i .high) (b .makes) ∙ b .count);
       entries = front (rows (inRow (eights xs)) (length xs) (i .height)) _ _ e (b .entry-count);
       starts = front (upTo (startOf (inRow (eights xs)) (length xs)) (suc (i .height))) _ _ (suc (i .height)) (length-up-to (startOf (inRow (eights xs)) (length xs)) (suc (i .height)));
     })

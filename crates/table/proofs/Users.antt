@@ -71,11 +71,11 @@ module _ (d : Description) (i : Setting) (r : BuildRooms) where
   unfolding buildOf
   after-passes f a = ap rest (fits-verdict f ∙ all-fine d (givenOf i) a)
 
-  abbrev Drawn : List Segment → Type 0
-  Drawn segs = DrawnUpTo d (givenOf i) (i .high) (r .path) (r .walk) (r .segments) (length (d .counts)) segs
+  abbrev Drawn : List Segment → List ℕ → Type 0
+  Drawn segs owners = DrawnUpTo d (givenOf i) (i .high) (r .path) (r .walk) (r .segments) (r .owners) (length (d .counts)) segs owners
 
-  pub is-drawn : Fits d i r → AllPass d (givenOf i) → (segs : List Segment) → Drawn segs → painted d i r ≡ All segs
-  is-drawn f a segs w = all-exactly d (givenOf i) (i .high) (r .path) (r .walk) (r .segments) (f .shape) (passed a) segs .1 w
+  pub is-drawn : Fits d i r → AllPass d (givenOf i) → (segs : List Segment) (owners : List ℕ) → Drawn segs owners → painted d i r ≡ All segs owners
+  is-drawn f a segs owners w = all-exactly d (givenOf i) (i .high) (r .path) (r .walk) (r .segments) (r .owners) (f .shape) (passed a) segs owners .1 w
 
   pub refused : {c : Code} {p : ℕ} → BuildRefusal d i r c p → buildOf d i r ≡ refusedWith r c p
   unfolding buildOf verdictOf
@@ -85,24 +85,25 @@ module _ (d : Description) (i : Setting) (r : BuildRooms) where
   refused (judged {c = c} {k = k} f e) = ap rest (fits-verdict f ∙ judged-exactly d (givenOf i) c k .1 e)
   refused (drawing {k = k} f a l) =
       after-passes f a
-      ∙ ap (afterPaint r (i .height) total) (room-exactly d (givenOf i) (i .high) (r .path) (r .walk) (r .segments) (f .shape) (passed a) k .1 l)
-  refused (entries {segs = segs} f a w h) =
+      ∙ ap (afterPaint r (i .height) total) (room-exactly d (givenOf i) (i .high) (r .path) (r .walk) (r .segments) (r .owners) (f .shape) (passed a) k .1 l)
+  refused (entries {segs = segs} {owners = owners} f a w h) =
       after-passes f a
-      ∙ ap (afterPaint r (i .height) total) (is-drawn f a segs w)
-      ∙ ap (afterRows r total (length segs) (eights segs)) (room-when (inRow (eights segs)) (length segs) (i .height) (r .starts) (r .entries) h)
+      ∙ ap (afterPaint r (i .height) total) (is-drawn f a segs owners w)
+      ∙ ap (afterRows r total (length segs) (eights segs) owners) (room-when (inRow (eights segs)) (length segs) (i .height) (r .starts) (r .entries) h)
 
-  pub met : (segs : List Segment) → NeedsMet d i r segs → buildOf d i r ≡ doneWith d i r segs
+  pub met : (segs : List Segment) (owners : List ℕ) → NeedsMet d i r segs owners → buildOf d i r ≡ doneWith d i r segs owners
   unfolding doneWith
-  met segs n =
+  met segs owners n =
       after-passes (n .fits) (n .passes)
-      ∙ ap (afterPaint r (i .height) total) (is-drawn (n .fits) (n .passes) segs (n .drawn))
-      ∙ ap (afterRows r total (length segs) (eights segs)) (table-when (inRow (eights segs)) (length segs) (i .height) (r .starts) (r .entries) (n .entries))
+      ∙ ap (afterPaint r (i .height) total) (is-drawn (n .fits) (n .passes) segs owners (n .drawn))
+      ∙ ap (afterRows r total (length segs) (eights segs) owners) (table-when (inRow (eights segs)) (length segs) (i .height) (r .starts) (r .entries) (n .entries))
 
   -- ---- and one of them holds
 
   pub record Accepts : Type 0 where
     pub segs : List Segment
-    pub needs : NeedsMet d i r segs
+    pub owners : List ℕ
+    pub needs : NeedsMet d i r segs owners
 
   pub record Refuses : Type 0 where
     pub code : Code
@@ -111,14 +112,14 @@ module _ (d : Description) (i : Setting) (r : BuildRooms) where
 
   by-paint : Fits d i r → AllPass d (givenOf i) → (q : Painted) → painted d i r ≡ q → Accepts ⊎ Refuses
   by-paint f a (NoRoomAt k) q =
-      inr (record { code = Code.Room; place = k; why = drawing f a (room-exactly d (givenOf i) (i .high) (r .path) (r .walk) (r .segments) (f .shape) (passed a) k .0 q) })
-  by-paint f a (All segs) q = go (either (inRow (eights segs)) (length segs) (i .height) (r .starts) (r .entries))
+      inr (record { code = Code.Room; place = k; why = drawing f a (room-exactly d (givenOf i) (i .high) (r .path) (r .walk) (r .segments) (r .owners) (f .shape) (passed a) k .0 q) })
+  by-paint f a (All segs owners) q = go (either (inRow (eights segs)) (length segs) (i .height) (r .starts) (r .entries))
     where
-      w : Drawn segs
-      w = all-exactly d (givenOf i) (i .high) (r .path) (r .walk) (r .segments) (f .shape) (passed a) segs .0 q
+      w : Drawn segs owners
+      w = all-exactly d (givenOf i) (i .high) (r .path) (r .walk) (r .segments) (r .owners) (f .shape) (passed a) segs owners .0 q
 
       go : ((entriesOf i segs ≤ r .entries) × (entriesOf i segs ≤ 2 ^ 30)) ⊎ ((r .entries < entriesOf i segs) ⊎ (2 ^ 30 < entriesOf i segs)) → Accepts ⊎ Refuses
-      go (inl fine) = inl (record { segs = segs; needs = record { fits = f; passes = a; drawn = w; entries = fine } })
+      go (inl fine) = inl (record { segs = segs; owners = owners; needs = record { fits = f; passes = a; drawn = w; entries = fine } })
       go (inr more) = inr (record { code = Code.Room; place = 0; why = entries f a w more })
 
   by-judge : Fits d i r → (v : Judged) → judgeOf d (givenOf i) ≡ v → Accepts ⊎ Refuses
@@ -155,7 +156,7 @@ module _ (d : Description) (i : Setting) (r : BuildRooms) where
   given c p e = go either-way
     where
       go : Accepts ⊎ Refuses → BuildRefusal d i r c p
-      go (inl a) = absurd (let z : _≡_ {A = ℕ} 0 1 = cc (sym (ap (λ (t : BuildOutcome). t .answer) (met (a .segs) (a .needs))) ∙ e) in omega arith)
+      go (inl a) = absurd (let z : _≡_ {A = ℕ} 0 1 = cc (sym (ap (λ (t : BuildOutcome). t .answer) (met (a .segs) (a .owners) (a .needs))) ∙ e) in omega arith)
       go (inr w) =
           let q : Refused (w .code) (w .place) ≡ Refused c p = sym (ap (λ (t : BuildOutcome). t .answer) (refused (w .why))) ∙ e in
           let a : w .code ≡ c = cc in

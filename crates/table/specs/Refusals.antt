@@ -11,7 +11,7 @@ use Rattle.dequantize.specs.Refusals.{AllPass, FirstRefused}
 use Rattle.segments.specs.declared.Segment.{Segment}
 use Rattle.curve.specs.Curve.{pathRoom}
 use Rattle.walk.specs.Walk.{walkRoom}
-use Rattle.points.specs.Points.{segmentRoom}
+use Rattle.owners.specs.Owners.{ownedRoom}
 use Rattle.painting.specs.Painting.{Painted, paintOf}
 use Rattle.painting.specs.Segments.{Lacks, DrawnUpTo, FirstLacks}
 use Rattle.table.specs.Table.{Setting, BuildRooms, givenOf}
@@ -20,7 +20,7 @@ use Rattle.table.specs.Segments.{Fits, entriesOf}
 module _ (d : Description) (i : Setting) (r : BuildRooms) where
   -- all splines, drawn with the room that is lent
   abbrev pub painted : Painted
-  painted = paintOf d (givenOf i) (i .high) (pathRoom (r .path)) (walkRoom (r .walk)) (segmentRoom (r .segments))
+  painted = paintOf d (givenOf i) (i .high) (pathRoom (r .path)) (walkRoom (r .walk)) (ownedRoom (r .segments) (r .owners))
 
   -- the code and the place, when
   pub data BuildRefusal : Code → ℕ → Type 0 where
@@ -33,7 +33,7 @@ module _ (d : Description) (i : Setting) (r : BuildRooms) where
     -- 5 and 10 to 13: the spline k is the first that is refused, before any is drawn
     judged : {c : Code} {k : ℕ} → Fits d i r → FirstRefused d (givenOf i) c k → BuildRefusal c k
     -- 7: every spline passes, and the spline k is the first whose path, walk or segments lack room
-    drawing : {k : ℕ} → Fits d i r → AllPass d (givenOf i) → FirstLacks d (givenOf i) (i .high) (r .path) (r .walk) (r .segments) k → BuildRefusal Code.Room k
+    drawing : {k : ℕ} → Fits d i r → AllPass d (givenOf i) → FirstLacks d (givenOf i) (i .high) (r .path) (r .walk) (r .segments) (r .owners) k → BuildRefusal Code.Room k
     -- 7: every spline is drawn, and the entries are more than are lent, or than 2^30
-    entries : {segs : List Segment} → Fits d i r → AllPass d (givenOf i) → DrawnUpTo d (givenOf i) (i .high) (r .path) (r .walk) (r .segments) (length (d .counts)) segs
+    entries : {segs : List Segment} {owners : List ℕ} → Fits d i r → AllPass d (givenOf i) → DrawnUpTo d (givenOf i) (i .high) (r .path) (r .walk) (r .segments) (r .owners) (length (d .counts)) segs owners
         → Lacks (r .entries) (2 ^ 30) (entriesOf i segs) → BuildRefusal Code.Room 0

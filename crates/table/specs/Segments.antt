@@ -14,9 +14,14 @@ use Rattle.rows.specs.Rows as listing
 use Rattle.table.specs.declared.BuildAnswer.the-variants.{Done}
 use Rattle.table.specs.Table.{Setting, BuildRooms, BuildOutcome, givenOf, leaves, zeros, padded, buildOf}
 
--- the segments of a description: those of its splines, in their order
-abbrev pub Makes : Description → Setting → List Segment → Type 0
-Makes d i segs = MakesUpTo d (givenOf i) (i .high) (length (d .counts)) segs
+-- the segments of a description with their owners: those of its splines, in their order, and the number of each one's spline
+abbrev pub MakesOwned : Description → Setting → List Segment → List ℕ → Type 0
+MakesOwned d i segs owners = MakesUpTo d (givenOf i) (i .high) (length (d .counts)) segs owners
+
+-- the segments alone
+pub record Makes (d : Description) (i : Setting) (segs : List Segment) : Type 0 where
+  pub owners : List ℕ
+  pub made : MakesOwned d i segs owners
 
 -- how many entries the rows of these segments have
 abbrev pub entriesOf : Setting → List Segment → ℕ
@@ -33,53 +38,59 @@ module _ (d : Description) (i : Setting) (r : BuildRooms) where
     pub tall : i .height < r .starts
 
   -- the lengths agree, every spline passes, every spline is drawn into the lent room, and there is room for the entries
-  pub record NeedsMet (segs : List Segment) : Type 0 where
+  pub record NeedsMet (segs : List Segment) (owners : List ℕ) : Type 0 where
     pub fits : Fits
     pub passes : AllPass d (givenOf i)
-    pub drawn : DrawnUpTo d (givenOf i) (i .high) (r .path) (r .walk) (r .segments) (length (d .counts)) segs
+    pub drawn : DrawnUpTo d (givenOf i) (i .high) (r .path) (r .walk) (r .segments) (r .owners) (length (d .counts)) segs owners
     pub entries : Suffices (r .entries) (2 ^ 30) (entriesOf i segs)
 
-  -- the counts and the table of these segments, zeros behind it and in the working cells
-  unfoldable pub doneWith : List Segment → BuildOutcome
-  doneWith segs =
-      leaves (Done (length segs) (entriesOf i segs) (totalOf d (givenOf i) (length (d .counts)))) (zeros (r .path)) (zeros (r .walk)) (padded (r .segments) (eights segs))
+  -- the counts and the table of these segments and owners, zeros behind it and in the working cells
+  unfoldable pub doneWith : List Segment → List ℕ → BuildOutcome
+  doneWith segs owners =
+      leaves (Done (length segs) (entriesOf i segs) (totalOf d (givenOf i) (length (d .counts)))) (zeros (r .path)) (zeros (r .walk)) (padded (r .segments) (eights segs)) (listing.padded (r .owners) owners)
       (listing.padded (r .starts) (upTo (startOf (inRow (eights segs)) (length segs)) (suc (i .height)))) (listing.padded (r .entries) (rows (inRow (eights segs)) (length segs) (i .height)))
 
   -- a done build has met its needs, made the segments of the description, and left their table
   pub record BuildMakes (s e estimate : ℕ) : Type 0 where
     pub segs : List Segment
-    pub makes : Makes d i segs
-    pub needs : NeedsMet segs
+    pub owners : List ℕ
+    pub makes : MakesOwned d i segs owners
+    pub needs : NeedsMet segs owners
     pub count : length segs ≡ s
     pub entry-count : entriesOf i segs ≡ e
     pub estimated : totalOf d (givenOf i) (length (d .counts)) ≡ estimate
     pub numbers : buildOf d i r .segments ≡ padded (r .segments) (eights segs)
-    pub leaves-them : buildOf d i r ≡ doneWith segs
+    pub leaves-them : buildOf d i r ≡ doneWith segs owners
 
 -- at least as much room
 pub record NoLess (r r′ : BuildRooms) : Type 0 where
   pub path : r .path ≤ r′ .path
   pub walk : r .walk ≤ r′ .walk
   pub segments : r .segments ≤ r′ .segments
+  pub owners : r .owners ≤ r′ .owners
   pub starts : r .starts ≤ r′ .starts
   pub entries : r .entries ≤ r′ .entries
 
--- the same counts, and the same cells of the table: the numbers of s segments, e entries, and a start for each row and one
+-- the same counts, and the same cells of the table: the numbers and the owners of s segments, e entries, and a start for each row and one
 pub record SameTable (height s e : ℕ) (o o′ : BuildOutcome) : Type 0 where
   pub answer : o′ .answer ≡ o .answer
   pub segments : take (8 * s) (o′ .segments) ≡ take (8 * s) (o .segments)
+  pub owners : take s (o′ .owners) ≡ take s (o .owners)
   pub entries : take e (o′ .entries) ≡ take e (o .entries)
   pub starts : take (suc height) (o′ .starts) ≡ take (suc height) (o .starts)
 
 -- ---- statements
 
--- a description has one list of segments
+-- a description has one list of segments, and one of owners
 abbrev pub MakesOne : Type 0
 MakesOne = (d : Description) (i : Setting) (xs ys : List Segment) → Makes d i xs → Makes d i ys → xs ≡ ys
 
+abbrev pub OwnsOne : Type 0
+OwnsOne = (d : Description) (i : Setting) (xs ys : List Segment) (us vs : List ℕ) → MakesOwned d i xs us → MakesOwned d i ys vs → (xs ≡ ys) × (us ≡ vs)
+
 -- a build whose needs are met is done, with the table of its segments
 abbrev pub EnoughIsDone : Type 0
-EnoughIsDone = (d : Description) (i : Setting) (r : BuildRooms) (segs : List Segment) → NeedsMet d i r segs → buildOf d i r ≡ doneWith d i r segs
+EnoughIsDone = (d : Description) (i : Setting) (r : BuildRooms) (segs : List Segment) (owners : List ℕ) → NeedsMet d i r segs owners → buildOf d i r ≡ doneWith d i r segs owners
 
 -- a build that is done made the segments of the description
 abbrev pub DoneMakes : Type 0

@@ -17,11 +17,13 @@ use Rattle.dequantize.specs.Judge.{Description, judgeOf}
 use Rattle.shape.specs.Shape as Shape
 use Rattle.curve.specs.Curve.{pathRoom}
 use Rattle.walk.specs.Walk.{walkRoom}
-use Rattle.points.specs.Points.{segmentRoom, eights}
+use Rattle.points.specs.Points.{eights}
+use Rattle.owners.specs.Owners.{ownedRoom}
 use Rattle.painting.specs.Painting.{Painted, All, NoRoomAt, paintOf}
 use Rattle.rows.specs.declared.Listed.{Listed}
 use Rattle.rows.specs.declared.Listed.the-variants as Listed
 use Rattle.rows.specs.Rows.{inRow, built, Outcome}
+use Rattle.rows.specs.Rows as listing
 use Rattle.table.specs.declared.BuildAnswer.{BuildAnswer}
 use Rattle.table.specs.declared.BuildAnswer.the-variants.{Done, Refused}
 
@@ -32,14 +34,16 @@ pub record BuildRooms : Type 0 where
   pub path : ℕ
   pub walk : ℕ
   pub segments : ℕ
+  pub owners : ℕ
   pub starts : ℕ
   pub entries : ℕ
 
-abbrev pub roomsOf : List Float → List Float → List Float → List ℕ → List ℕ → BuildRooms
-roomsOf path walk segments starts entries = record {
+abbrev pub roomsOf : List Float → List Float → List Float → List ℕ → List ℕ → List ℕ → BuildRooms
+roomsOf path walk segments owners starts entries = record {
   path = length path;
   walk = length walk;
   segments = length segments;
+  owners = length owners;
   starts = length starts;
   entries = length entries;
 }
@@ -83,23 +87,25 @@ abbrev pub toldOf : BuildAnswer → Told
 toldOf (Done s n a) = record { number = 0; place = 0; segments = s; entries = n; estimate = a }
 toldOf (Refused c p) = record { number = numberOf c; place = p; segments = 0; entries = 0; estimate = 0 }
 
--- the answer, what it tells, and the five lent buffers
+-- the answer, what it tells, and the six lent buffers
 pub record BuildOutcome : Type 0 where
   pub answer : BuildAnswer
   pub told : Told
   pub path : List Float
   pub walk : List Float
   pub segments : List Float
+  pub owners : List ℕ
   pub starts : List ℕ
   pub entries : List ℕ
 
-abbrev pub leaves : BuildAnswer → List Float → List Float → List Float → List ℕ → List ℕ → BuildOutcome
-leaves r path walk segments starts entries = record {
+abbrev pub leaves : BuildAnswer → List Float → List Float → List Float → List ℕ → List ℕ → List ℕ → BuildOutcome
+leaves r path walk segments owners starts entries = record {
   answer = r;
   told = toldOf r;
   path = path;
   walk = walk;
   segments = segments;
+  owners = owners;
   starts = starts;
   entries = entries;
 }
@@ -114,7 +120,7 @@ padded n xs = xs ++ zeros (n - length xs)
 -- every lent cell zero
 unfoldable pub refusedWith : BuildRooms → Code → ℕ → BuildOutcome
 refusedWith r code place =
-    leaves (Refused code place) (zeros (r .path)) (zeros (r .walk)) (zeros (r .segments)) (replicate (r .starts) 0) (replicate (r .entries) 0)
+    leaves (Refused code place) (zeros (r .path)) (zeros (r .walk)) (zeros (r .segments)) (replicate (r .owners) 0) (replicate (r .starts) 0) (replicate (r .entries) 0)
 
 -- ---- the checks before any drawing
 
@@ -139,18 +145,18 @@ verdictOf d g width height rows =
 
 -- ---- the build
 
--- ROOM for the entries, or the table of so many segments, whose numbers are given
-abbrev pub afterRows : BuildRooms → ℕ → ℕ → List Float → Outcome → BuildOutcome
-afterRows r estimate count numbers o = go (o .answer)
+-- ROOM for the entries, or the table of so many segments, whose numbers and owners are given
+abbrev pub afterRows : BuildRooms → ℕ → ℕ → List Float → List ℕ → Outcome → BuildOutcome
+afterRows r estimate count numbers owners o = go (o .answer)
   where
     go : Listed → BuildOutcome
     go Listed.Room = refusedWith r Code.Room 0
-    go (Listed.Entries n) = leaves (Done count n estimate) (zeros (r .path)) (zeros (r .walk)) (padded (r .segments) numbers) (o .starts) (o .entries)
+    go (Listed.Entries n) = leaves (Done count n estimate) (zeros (r .path)) (zeros (r .walk)) (padded (r .segments) numbers) (listing.padded (r .owners) owners) (o .starts) (o .entries)
 
 abbrev pub afterPaint : BuildRooms → ℕ → ℕ → Painted → BuildOutcome
 afterPaint r height estimate (NoRoomAt k) = refusedWith r Code.Room k
-afterPaint r height estimate (All segs) =
-    afterRows r estimate (length segs) (eights segs) (built (inRow (eights segs)) (length segs) height (r .starts) (r .entries))
+afterPaint r height estimate (All segs owners) =
+    afterRows r estimate (length segs) (eights segs) owners (built (inRow (eights segs)) (length segs) height (r .starts) (r .entries))
 
 abbrev pub afterJudge : BuildRooms → ℕ → Judged → Painted → BuildOutcome
 afterJudge r height (Judged.Refused code k) painted = refusedWith r code k
@@ -160,4 +166,4 @@ afterJudge r height (Judged.Fine estimate) painted = afterPaint r height estimat
 unfoldable pub buildOf : Description → Setting → BuildRooms → BuildOutcome
 buildOf d i r =
     afterJudge r (i .height) (verdictOf d (givenOf i) (i .width) (i .height) (r .starts))
-    (paintOf d (givenOf i) (i .high) (pathRoom (r .path)) (walkRoom (r .walk)) (segmentRoom (r .segments)))
+    (paintOf d (givenOf i) (i .high) (pathRoom (r .path)) (walkRoom (r .walk)) (ownedRoom (r .segments) (r .owners)))

@@ -6,7 +6,7 @@ ghost use lib.ListN.{length, take};
 ghost use Rattle.dequantize.specs.Judge.{Shaped, descriptionOf};
 ghost use Rattle.curve.specs.Curve.{pathRoom};
 ghost use Rattle.walk.specs.Walk.{walkRoom};
-ghost use Rattle.points.specs.Points.{segmentRoom};
+ghost use Rattle.owners.specs.Owners.{ownedRoom};
 ghost use Rattle.painting.specs.Painting.{Passed, paintOf};
 ghost use Rattle.rows.specs.Rows.{inRow, built};
 ghost use Rattle.table.specs.Table.{roomsOf, settingOf, givenOf, leaves, refusedWith, sized, verdictOf, afterRows, afterPaint, buildOf};
@@ -86,13 +86,14 @@ fn refuse(
     path: &mut [f32],
     walk: &mut [f32],
     segments: &mut [f32],
+    owners: &mut [u64],
     row_starts: &mut [u32],
     entries: &mut [u32],
 ) -> BuildAnswer
-    ensures { λ r. ⌜ leaves r (now (path .exit)) (now (walk .exit)) (now (segments .exit)) (now («row_starts» .exit)) (now (entries .exit))
-        ≡ refusedWith (roomsOf (now (path .entry)) (now (walk .entry)) (now (segments .entry)) (now («row_starts» .entry)) (now (entries .entry))) code place ⌝ }
+    ensures { λ r. ⌜ leaves r (now (path .exit)) (now (walk .exit)) (now (segments .exit)) (now (owners .exit)) (now («row_starts» .exit)) (now (entries .exit))
+        ≡ refusedWith (roomsOf (now (path .entry)) (now (walk .entry)) (now (segments .entry)) (now (owners .entry)) (now («row_starts» .entry)) (now (entries .entry))) code place ⌝ }
 {
-    wipe::wipe(path, walk, segments, row_starts, entries);
+    wipe::wipe(path, walk, segments, owners, row_starts, entries);
     BuildAnswer::Refused(code, place)
 }
 
@@ -104,19 +105,27 @@ fn list_segments(
     path: &mut [f32],
     walk: &mut [f32],
     segments: &mut [f32],
+    owners: &mut [u64],
     row_starts: &mut [u32],
     entries: &mut [u32],
 ) -> BuildAnswer
-    requires { ⌜ (8 * count ≤ length (now segments)) × (count ≤ 2 ^ 24) × (height ≤ 2 ^ 23) × (height < length (now «row_starts»)) ⌝ }
-    ensures { λ r. ⌜ leaves r (now (path .exit)) (now (walk .exit)) (now (segments .exit)) (now («row_starts» .exit)) (now (entries .exit))
-        ≡ afterRows (roomsOf (now (path .entry)) (now (walk .entry)) (now (segments .entry)) (now («row_starts» .entry)) (now (entries .entry))) estimate count (take (8 * count) (now (segments .entry))) (built (inRow (now (segments .entry))) count height (length (now («row_starts» .entry))) (length (now (entries .entry)))) ⌝ }
+    requires { ⌜ (8 * count ≤ length (now segments)) × (count ≤ length (now owners)) × (count ≤ 2 ^ 24) × (height ≤ 2 ^ 23) × (height < length (now «row_starts»)) ⌝ }
+    ensures { λ r. ⌜ leaves r (now (path .exit)) (now (walk .exit)) (now (segments .exit)) (now (owners .exit)) (now («row_starts» .exit)) (now (entries .exit))
+        ≡ afterRows (roomsOf (now (path .entry)) (now (walk .entry)) (now (segments .entry)) (now (owners .entry)) (now («row_starts» .entry)) (now (entries .entry))) estimate count (take (8 * count) (now (segments .entry))) (take count (now (owners .entry))) (built (inRow (now (segments .entry))) count height (length (now («row_starts» .entry))) (length (now (entries .entry)))) ⌝ }
 {
     match rows::list_rows(segments, count, height as usize, row_starts, entries) {
-        Listed::Room => refuse(Code::Room, 0, path, walk, segments, row_starts, entries),
+        Listed::Room => refuse(
+            Code::Room,
+            0,
+            path,
+            walk,
+            segments,
+            owners,
+            row_starts,
+            entries,
+        ),
         Listed::Entries(n) => {
-            buffers::clear(path, 0);
-            buffers::clear(walk, 0);
-            buffers::clear(segments, 8 * count);
+            wipe::wipe_unused(count, path, walk, segments, owners);
             BuildAnswer::Done(count as u32, n, estimate)
         }
     }
@@ -135,12 +144,13 @@ fn paint(
     path: &mut [f32],
     walk: &mut [f32],
     segments: &mut [f32],
+    owners: &mut [u64],
     row_starts: &mut [u32],
     entries: &mut [u32],
 ) -> BuildAnswer
     requires { ⌜ Shaped (descriptionOf (now counts) (now starts) (now deltas) (now coefficients)) × Passed (descriptionOf (now counts) (now starts) (now deltas) (now coefficients)) given × (height ≤ 2 ^ 23) × (height < length (now «row_starts»)) ⌝ }
-    ensures { λ r. ⌜ leaves r (now (path .exit)) (now (walk .exit)) (now (segments .exit)) (now («row_starts» .exit)) (now (entries .exit))
-        ≡ afterPaint (roomsOf (now (path .entry)) (now (walk .entry)) (now (segments .entry)) (now («row_starts» .entry)) (now (entries .entry))) height estimate (paintOf (descriptionOf (now (counts .entry)) (now (starts .entry)) (now (deltas .entry)) (now (coefficients .entry))) given «high_precision» (pathRoom (length (now (path .entry)))) (walkRoom (length (now (walk .entry)))) (segmentRoom (length (now (segments .entry))))) ⌝ }
+    ensures { λ r. ⌜ leaves r (now (path .exit)) (now (walk .exit)) (now (segments .exit)) (now (owners .exit)) (now («row_starts» .exit)) (now (entries .exit))
+        ≡ afterPaint (roomsOf (now (path .entry)) (now (walk .entry)) (now (segments .entry)) (now (owners .entry)) (now («row_starts» .entry)) (now (entries .entry))) height estimate (paintOf (descriptionOf (now (counts .entry)) (now (starts .entry)) (now (deltas .entry)) (now (coefficients .entry))) given «high_precision» (pathRoom (length (now (path .entry)))) (walkRoom (length (now (walk .entry)))) (ownedRoom (length (now (segments .entry))) (length (now (owners .entry))))) ⌝ }
 {
     match painting::draw_all(
         counts,
@@ -152,8 +162,18 @@ fn paint(
         path,
         walk,
         segments,
+        owners,
     ) {
-        Drawn::Room(k) => refuse(Code::Room, k, path, walk, segments, row_starts, entries),
+        Drawn::Room(k) => refuse(
+            Code::Room,
+            k,
+            path,
+            walk,
+            segments,
+            owners,
+            row_starts,
+            entries,
+        ),
         Drawn::Count(count) => list_segments(
             count,
             height,
@@ -161,6 +181,7 @@ fn paint(
             path,
             walk,
             segments,
+            owners,
             row_starts,
             entries,
         ),
@@ -183,11 +204,12 @@ pub fn build(
     path: &mut [f32],
     walk: &mut [f32],
     segments: &mut [f32],
+    owners: &mut [u64],
     row_starts: &mut [u32],
     entries: &mut [u32],
 ) -> BuildAnswer
-    ensures { λ r. ⌜ leaves r (now (path .exit)) (now (walk .exit)) (now (segments .exit)) (now («row_starts» .exit)) (now (entries .exit))
-        ≡ buildOf (descriptionOf (now (counts .entry)) (now (starts .entry)) (now (deltas .entry)) (now (coefficients .entry))) (settingOf adjustment width height «y_to_x» «y_to_b» «high_precision» level10) (roomsOf (now (path .entry)) (now (walk .entry)) (now (segments .entry)) (now («row_starts» .entry)) (now (entries .entry))) ⌝ }
+    ensures { λ r. ⌜ leaves r (now (path .exit)) (now (walk .exit)) (now (segments .exit)) (now (owners .exit)) (now («row_starts» .exit)) (now (entries .exit))
+        ≡ buildOf (descriptionOf (now (counts .entry)) (now (starts .entry)) (now (deltas .entry)) (now (coefficients .entry))) (settingOf adjustment width height «y_to_x» «y_to_b» «high_precision» level10) (roomsOf (now (path .entry)) (now (walk .entry)) (now (segments .entry)) (now (owners .entry)) (now («row_starts» .entry)) (now (entries .entry))) ⌝ }
 {
     let given = given_of(
         adjustment,
@@ -208,7 +230,16 @@ pub fn build(
         height,
         row_starts.len(),
     ) {
-        Judged::Refused(code, k) => refuse(code, k, path, walk, segments, row_starts, entries),
+        Judged::Refused(code, k) => refuse(
+            code,
+            k,
+            path,
+            walk,
+            segments,
+            owners,
+            row_starts,
+            entries,
+        ),
         Judged::Fine(estimate) => paint(
             counts,
             starts,
@@ -221,6 +252,7 @@ pub fn build(
             path,
             walk,
             segments,
+            owners,
             row_starts,
             entries,
         ),

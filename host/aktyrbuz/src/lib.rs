@@ -18,6 +18,8 @@
 //! let (mut x, mut y, mut b) = ([0.0; 64], [0.0; 64], [0.0; 64]);
 //! let updates = table.draw_row(8, 0, [&mut x, &mut y, &mut b])?;
 //! assert!(updates > 0 && y[20] > 0.0);
+//! // The trace that an operator touches at this pixel.
+//! assert_eq!(table.at(20, 8)[0].trace, 0);
 //! # Ok::<(), aktyrbuz::Refusal>(())
 //! ```
 
@@ -31,7 +33,7 @@ pub use code::{Code, Refusal};
 pub use description::{Description, Limit};
 pub use port::Image;
 pub use rooms::Rooms;
-pub use table::{Counts, Table};
+pub use table::{Counts, Near, Table};
 
 /// The natural logarithm that building uses, the same on every machine.
 pub fn ln(x: f32) -> f32 {

@@ -10,7 +10,7 @@ pub struct Rooms {
 }
 
 impl Rooms {
-    /// What [`Table::build`](crate::Table::build) keeps to: 224 MiB with every room full, enough for two million segments.
+    /// What [`Table::build`](crate::Table::build) keeps to: 240 MiB with every room full, enough for two million segments.
     pub const USUAL: Rooms = Rooms {
         path: 1 << 20,
         walk: 1 << 21,
@@ -18,7 +18,7 @@ impl Rooms {
         entries: 1 << 25,
     };
 
-    /// As much as any build makes use of: what needs more is refused by every build. With every room full, 4768 MiB.
+    /// As much as any build makes use of: what needs more is refused by every build. With every room full, 4896 MiB.
     pub const MOST: Rooms = Rooms {
         path: 1 << 23,
         walk: 1 << 23,
@@ -30,7 +30,8 @@ impl Rooms {
     pub const fn bytes(self) -> usize {
         let path = self.path.saturating_mul(8);
         let walk = self.walk.saturating_mul(12);
-        let segments = self.segments.saturating_mul(32);
+        // Eight floats a segment, and its owner.
+        let segments = self.segments.saturating_mul(40);
         let entries = self.entries.saturating_mul(4);
         path.saturating_add(walk)
             .saturating_add(segments)
@@ -76,8 +77,8 @@ mod tests {
 
     #[test]
     fn the_memory_is_as_the_pages_say() {
-        assert_eq!(Rooms::USUAL.bytes(), 224 << 20);
-        assert_eq!(Rooms::MOST.bytes(), 4768 << 20);
+        assert_eq!(Rooms::USUAL.bytes(), 240 << 20);
+        assert_eq!(Rooms::MOST.bytes(), 4896 << 20);
         let endless = Rooms {
             entries: usize::MAX,
             ..Rooms::USUAL

@@ -11,6 +11,7 @@ struct Buffers {
     path: Vec<f32>,
     walk: Vec<f32>,
     segments: Vec<f32>,
+    owners: Vec<u64>,
     row_starts: Vec<u32>,
     entries: Vec<u32>,
 }
@@ -24,6 +25,7 @@ impl Buffers {
             path: zeros(2 * rooms.path)?,
             walk: zeros(3 * rooms.walk)?,
             segments: zeros(8 * rooms.segments)?,
+            owners: zeros(rooms.segments)?,
             row_starts: zeros(rows)?,
             entries: zeros(rooms.entries)?,
         })
@@ -37,12 +39,14 @@ impl Buffers {
                 path: &mut self.path,
                 walk: &mut self.walk,
                 segments: &mut self.segments,
+                owners: &mut self.owners,
                 row_starts: &mut self.row_starts,
                 entries: &mut self.entries,
             },
         ))?;
         Ok(Table {
             segments: first(self.segments, 8 * made as usize),
+            owners: first(self.owners, made as usize),
             row_starts: self.row_starts,
             entries: first(self.entries, listed as usize),
             image: *image,
@@ -64,10 +68,20 @@ pub struct Counts {
     pub estimate: u64,
 }
 
+/// A trace that has a pixel.
+#[derive(Clone, Copy, Debug, PartialEq)]
+pub struct Near {
+    /// The number of its spline.
+    pub trace: u64,
+    /// From the pixel to the nearest centre of a segment of it that has the pixel, in pixels.
+    pub distance: f64,
+}
+
 /// The segments of an image, and for each row those that touch it.
 #[derive(Clone, Debug)]
 pub struct Table {
     segments: Vec<f32>,
+    owners: Vec<u64>,
     row_starts: Vec<u32>,
     entries: Vec<u32>,
     image: Image,
@@ -111,12 +125,67 @@ impl Table {
         self.image
     }
 
+    /// The number of the spline that this segment comes from; it never falls from one segment to the next.
+    pub fn owner(&self, segment: u32) -> Option<u64> {
+        self.owners.get(segment as usize).copied()
+    }
+
+    /// The traces that have this pixel, each once, the nearest first and of equally near ones the one with the lower number;
+    /// none outside the image.
+    pub fn at(&self, x: u32, y: u32) -> Vec<Near> {
+        let mut found: Vec<Near> = Vec::new();
+        for &segment in self.listed(y).iter().filter(|&&entry| self.has(entry, x)) {
+            let near = Near {
+                trace: self.owners[segment as usize],
+                distance: self.distance(segment, x, y),
+            };
+            // Entries ascend and owners never fall, so that a trace's segments come together.
+            match found.last_mut() {
+                Some(last) if last.trace == near.trace => {
+                    last.distance = last.distance.min(near.distance)
+                }
+                _ => found.push(near),
+            }
+        }
+        found.sort_by(|a, b| a.distance.total_cmp(&b.distance));
+        found
+    }
+
+    /// Whether this segment has a column of the image, by the proved drawing: whether a table that lists it alone updates the pixel.
+    fn has(&self, segment: u32, x: u32) -> bool {
+        let alone = port::Table {
+            entries: &[segment],
+            entry_count: 1,
+            row_starts: &[0, 1],
+            height: 1,
+            ..self.lent()
+        };
+        let [mut r0, mut r1, mut r2] = [[0.0]; 3];
+        let (code, answer) = port::draw(&alone, 0, x, 1, [&mut r0, &mut r1, &mut r2]);
+        x < self.image.width && code == 0 && answer[1] == 1
+    }
+
+    /// From a pixel to the centre of a segment.
+    fn distance(&self, segment: u32, x: u32, y: u32) -> f64 {
+        let centre = &self.segments[8 * segment as usize..][..2];
+        let (dx, dy) = (
+            f64::from(x) - f64::from(centre[0]),
+            f64::from(y) - f64::from(centre[1]),
+        );
+        (dx * dx + dy * dy).sqrt()
+    }
+
+    /// The segments that touch row y; none below the image.
+    fn listed(&self, y: u32) -> &[u32] {
+        match self.row_starts.get(y as usize..).unwrap_or(&[]) {
+            [first, past, ..] => &self.entries[*first as usize..*past as usize],
+            _ => &[],
+        }
+    }
+
     /// How many segments touch row y; none below the image.
     pub fn entries_of(&self, y: u32) -> u32 {
-        match self.row_starts.get(y as usize..).unwrap_or(&[]) {
-            [first, past, ..] => past - first,
-            _ => 0,
-        }
+        self.listed(y).len() as u32
     }
 
     /// Adds the segments of row y to channels that begin at pixel x0, and answers how many updates that took, one for each segment at each pixel.
@@ -213,6 +282,59 @@ mod tests {
             row(&table, 8, &[0, 64]),
             row(&table, 8, &[0, 1, 17, 17, 40, 64])
         );
+    }
+
+    /// The fibre above, a trace of its start alone, and a fibre from (50, 2) down to (50, 14).
+    fn three() -> Description {
+        let mut three = fibre();
+        let other = fibre();
+        three.counts.extend([0, 1]);
+        three.starts.extend([30.0, 8.0, 50.0, 2.0]);
+        three.deltas.extend([0, 12]);
+        three.coefficients.extend(&other.coefficients);
+        three.coefficients.extend(&other.coefficients);
+        three
+    }
+
+    #[test]
+    fn each_segment_has_the_number_of_its_spline() {
+        let table = Table::build(&three(), &Image::new(64, 16)).expect("a good description");
+        let owners: Vec<u64> = (0..table.counts().segments)
+            .map(|segment| table.owner(segment).expect("a segment"))
+            .collect();
+        assert!(owners.windows(2).all(|pair| pair[0] <= pair[1]));
+        // Each unit of the length and both ends; the trace of one point has none.
+        let of = |trace| owners.iter().filter(|&&owner| owner == trace).count();
+        assert_eq!([of(0), of(1), of(2)], [32, 0, 14]);
+        assert_eq!(table.owner(table.counts().segments), None);
+    }
+
+    #[test]
+    fn a_pixel_tells_its_traces() {
+        let table = Table::build(&three(), &Image::new(64, 16)).expect("a good description");
+        let traces = |x, y| {
+            let found = table.at(x, y);
+            assert!(found
+                .windows(2)
+                .all(|two| two[0].distance <= two[1].distance));
+            found.into_iter().map(|near| near.trace).collect::<Vec<_>>()
+        };
+        assert_eq!(traces(20, 8), [0]);
+        assert_eq!(traces(56, 8), [2]);
+        assert_eq!(
+            table.at(50, 8)[0],
+            Near {
+                trace: 2,
+                distance: 0.0
+            }
+        );
+        // Between the end of one and the other.
+        assert_eq!(traces(43, 8), [0, 2]);
+        assert_eq!(traces(47, 8), [2, 0]);
+        assert_eq!(table.at(43, 8)[0].distance, 3.0);
+        for outside in [(64, 8), (20, 16), (u32::MAX, u32::MAX)] {
+            assert_eq!(table.at(outside.0, outside.1), []);
+        }
     }
 
     #[test]

@@ -17,6 +17,7 @@ pub struct Building {
     path: Vec<f32>,
     walk: Vec<f32>,
     segments: Vec<f32>,
+    owners: Vec<u64>,
     row_starts: Vec<u32>,
     entries: Vec<u32>,
 }
@@ -35,12 +36,14 @@ impl Building {
             path: vec![0.0; PATH],
             walk: vec![0.0; WALK],
             segments: vec![0.0; 8 * table.segments.len()],
+            owners: vec![0; table.segments.len()],
             row_starts: vec![0; SIDE as usize + 1],
             entries: vec![0; table.entries.len()],
         };
         building.by_port();
         assert!(
             building.segments == table.segments.concat()
+                && building.owners == table.owners
                 && building.row_starts == table.row_starts
                 && building.entries == table.entries,
             "both sides build the same table"
@@ -54,6 +57,7 @@ impl Work for Building {
         for floats in [&mut self.path, &mut self.walk, &mut self.segments] {
             floats.fill(0.0);
         }
+        self.owners.fill(0);
         self.row_starts.fill(0);
         self.entries.fill(0);
     }
@@ -84,6 +88,7 @@ impl Work for Building {
             path: &mut self.path,
             walk: &mut self.walk,
             segments: &mut self.segments,
+            owners: &mut self.owners,
             row_starts: &mut self.row_starts,
             entries: &mut self.entries,
         };

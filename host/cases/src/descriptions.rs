@@ -31,6 +31,9 @@ pub const KINDS: [&str; 17] = [
     "shape",
 ];
 
+/// The kinds for the owners of a build alone.
+pub const OWNER_KINDS: [&str; 1] = ["skipped"];
+
 /// The kinds of which a few are enough: great images, sizes at the limit, wide fibres and long ones.
 pub const SLOW_KINDS: [&str; 4] = ["tall", "size", "wide", "long"];
 
@@ -49,6 +52,7 @@ pub fn build_case(kind: &str, seed: u64) -> BuildCase {
         "crowd" => case.description = fibres(r, 40, 6),
         "straight" => case.description = straight(r),
         "one-point" => one_points(r, &mut case.description),
+        "skipped" => case.description = skipped(r),
         "fractions" => fractions(r, &mut case.description),
         "sigma" => sigma(r, &mut case.description),
         "correlations" => correlations(r, &mut case),
@@ -180,6 +184,27 @@ fn one_points(r: &mut Random, description: &mut Description) {
         let start = (r.within(-9, 90) as f32, r.within(-9, 90) as f32);
         push(description, start, &[], &ordinary_coefficients(r));
     }
+}
+
+/// Short splines; before, between and after them some of one point, and some without a sigma: neither have segments.
+fn skipped(r: &mut Random) -> Description {
+    let mut description = Description::default();
+    for _ in 0..r.within(1, 7) {
+        let start = (r.within(0, 40) as f32, r.within(0, 40) as f32);
+        let deltas = [r.within(1, 6) as i32, r.within(-6, 6) as i32];
+        let points = r.pick(&[0, 1, 1]);
+        let mut coefficients = ordinary_coefficients(r);
+        if r.once_in(4) {
+            coefficients[96..].fill(0);
+        }
+        push(
+            &mut description,
+            start,
+            &deltas[..2 * points],
+            &coefficients,
+        );
+    }
+    description
 }
 
 /// Starts that are to be rounded: halves on both sides, minus zero, numbers just below a half.

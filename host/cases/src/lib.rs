@@ -57,6 +57,8 @@ pub type Segment = [f32; 8];
 #[derive(Clone, Debug, Default)]
 pub struct Table {
     pub segments: Vec<Segment>,
+    /// The number of each segment's spline.
+    pub owners: Vec<u64>,
     pub row_starts: Vec<u32>,
     pub entries: Vec<u32>,
     pub estimate: u64,

@@ -2,7 +2,7 @@
 
 use crate::tally::Tally;
 use crate::verdict::{equal, hold, no_equality, other_nans, same_floats, Verdict};
-use cases::descriptions::{build_case, BuildCase, KINDS, SLOW_KINDS};
+use cases::descriptions::{build_case, BuildCase, KINDS, OWNER_KINDS, SLOW_KINDS};
 use cases::{each, Code, Table};
 use model::segments::all_rows;
 use model::AMPLE;
@@ -13,7 +13,8 @@ const SLOW_CASES_A_KIND: u64 = 12;
 
 /// Quick kinds by the hundred, slow ones a few each.
 fn all_cases() -> impl Iterator<Item = (&'static str, u64)> {
-    each(&KINDS, CASES_A_KIND).chain(each(&SLOW_KINDS, SLOW_CASES_A_KIND))
+    let quick = each(&KINDS, CASES_A_KIND).chain(each(&OWNER_KINDS, CASES_A_KIND));
+    quick.chain(each(&SLOW_KINDS, SLOW_CASES_A_KIND))
 }
 
 pub fn compare(tally: &mut Tally) {
@@ -69,6 +70,7 @@ fn note_listed(tally: &mut Tally, table: &Table, built: &Built) {
 
 pub fn same_table(a: &Table, b: &Table) -> bool {
     same_floats(&a.segments.concat(), &b.segments.concat())
+        && a.owners == b.owners
         && a.row_starts == b.row_starts
         && a.entries == b.entries
         && a.estimate == b.estimate

@@ -81,7 +81,7 @@ pub fn unflattened(table: &FlatTable) -> Table {
             .collect(),
         row_starts: table.row_starts.clone(),
         entries: table.entries.clone(),
-        estimate: 0,
+        ..Table::default()
     }
 }
 

@@ -115,7 +115,7 @@ pub fn touched(segment: &Segment, y: u32, x0: u32, n: u32) -> Option<Vec<bool>> 
         segments: vec![probe],
         row_starts,
         entries: vec![0],
-        estimate: 0,
+        ..Table::default()
     };
     let blank = || vec![-0.0f32; n as usize];
     let [r0, r1, _] = oracle::draw(&table, y, x0, [blank(), blank(), blank()]).done()?;

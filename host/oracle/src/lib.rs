@@ -171,7 +171,8 @@ pub fn segments(
 /// A table that the original built.
 #[derive(Clone, Debug)]
 pub struct Built {
-    /// Entries of image rows only; the estimate is the (wrapping) sum of [`dequantize`]'s, in order.
+    /// Entries of image rows only; the estimate is the (wrapping) sum of [`dequantize`]'s, in order; the owners are told from
+    /// builds of each spline alone.
     pub table: Table,
     /// How many entries the original stored for rows below the image.
     pub below: u64,
@@ -239,7 +240,7 @@ pub fn load_flat(table: &FlatTable) -> Loaded {
             .collect(),
         row_starts: table.row_starts.clone(),
         entries: entries.copied().collect(),
-        estimate: 0,
+        ..Table::default()
     })
 }
 

@@ -156,6 +156,7 @@ pub struct Buffers<'a> {
     pub path: &'a mut [f32],
     pub walk: &'a mut [f32],
     pub segments: &'a mut [f32],
+    pub owners: &'a mut [u64],
     pub row_starts: &'a mut [u32],
     pub entries: &'a mut [u32],
 }
@@ -191,6 +192,8 @@ pub fn build_into(parts: &Parts, image: &Image, lent: Buffers, answer: &mut Answ
             lent.walk.len(),
             lent.segments.as_mut_ptr(),
             lent.segments.len(),
+            lent.owners.as_mut_ptr(),
+            lent.owners.len(),
             lent.row_starts.as_mut_ptr(),
             lent.row_starts.len(),
             lent.entries.as_mut_ptr(),

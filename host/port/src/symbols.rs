@@ -58,6 +58,8 @@ extern "C" {
         walk_len: usize,
         segments: *mut f32,
         segments_len: usize,
+        owners: *mut u64,
+        owners_len: usize,
         row_starts: *mut u32,
         row_starts_len: usize,
         entries: *mut u32,

@@ -17,7 +17,7 @@ const USAGE: &str = "\
 usage, from the repository's top:
   samples make | check                 samples/fibres.values, and what it holds
   samples examples                     what examples/ have to print of it
-  samples read | [--high] rows WIDTH HEIGHT | [--high] draw WIDTH HEIGHT PICTURE
+  samples read | [--high] rows WIDTH HEIGHT | [--high] draw WIDTH HEIGHT PICTURE | touch WIDTH HEIGHT X Y
                                        what ./gauge has to print of it, and its picture
 ";
 
@@ -80,6 +80,10 @@ fn run(words: &[&str]) -> Option<Result<String, String>> {
         ["rows", width, height] => {
             let size = size(width, height, high)?;
             judged(size).and_then(|judged| said::rows(&judged, size))
+        }
+        ["touch", width, height, x, y] => {
+            let (x, y) = (x.parse().ok()?, y.parse().ok()?);
+            judged(size(width, height, high)?).map(|judged| said::touch(&judged, x, y))
         }
         ["draw", width, height, path] => draw(size(width, height, high)?, path),
         _ => return None,

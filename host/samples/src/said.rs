@@ -3,7 +3,9 @@
 use crate::judged::{Judged, Size};
 use crate::picture;
 use crate::FILE;
-use cases::{Description, FlatTable, Table};
+use cases::{Description, FlatTable, Segment, Table};
+use model::segments::{all_rows, columns};
+use std::collections::BTreeMap;
 
 /// One update for each segment at each pixel, by the second reading.
 fn updates(table: &Table, size: Size) -> Result<u64, String> {
@@ -50,14 +52,61 @@ pub fn sample(judged: &Judged) -> String {
 /// examples/fibres.c and examples/fibres.rs.
 pub fn examples(judged: &Judged, size: Size) -> Result<String, String> {
     let rows = picture::rows(&judged.table, size)?;
-    let brightest = rows.iter().flat_map(|[_, y, _]| y);
-    let brightest = brightest.fold(0.0f32, |most, &y| most.max(y));
+    let (mut brightest, mut at) = (0.0f32, (0, 0));
+    for (y, [_, row, _]) in (0..).zip(&rows) {
+        for (x, &luma) in (0..).zip(row) {
+            if luma > brightest {
+                (brightest, at) = (luma, (x, y));
+            }
+        }
+    }
+    let (x, y) = at;
+    let traces = traces(&judged.table, x, y);
+    let (_, trace) = traces.first().ok_or("no trace has the brightest pixel")?;
     Ok(format!(
-        "read: {}\nbuild: {}\ndraw: {} updates, the brightest Y is {brightest:.3}\n",
+        "read: {}\nbuild: {}\ndraw: {} updates, the brightest Y is {brightest:.3}\ntouch: column {x}, row {y} is of trace {trace}\n",
         counts(&judged.description),
         built(&judged.table),
         updates(&judged.table, size)?
     ))
+}
+
+/// The traces that have this pixel, by the second reading of a segment's rows and columns, and how far the nearest centre of each is, in hundredths
+/// of a pixel; the nearest first.
+fn traces(table: &Table, x: u32, y: u32) -> Vec<(u64, u64)> {
+    let has = |segment: &Segment| {
+        all_rows(segment).contains(&y.into()) && columns(segment).contains(&x.into())
+    };
+    let far = |segment: &Segment| {
+        let (dx, dy) = (segment[0] - x as f32, segment[1] - y as f32);
+        (100.0 * (dx * dx + dy * dy).sqrt()).round() as u64
+    };
+    let mut nearest = BTreeMap::new();
+    for (segment, &owner) in table.segments.iter().zip(&table.owners) {
+        if has(segment) {
+            let least = nearest.entry(owner).or_insert(u64::MAX);
+            *least = far(segment).min(*least);
+        }
+    }
+    let mut traces: Vec<(u64, u64)> = nearest
+        .into_iter()
+        .map(|(owner, far)| (far, owner))
+        .collect();
+    traces.sort_unstable();
+    traces
+}
+
+/// `gauge touch`.
+pub fn touch(judged: &Judged, x: u32, y: u32) -> String {
+    let traces = traces(&judged.table, x, y);
+    if traces.is_empty() {
+        return String::from("no trace\n");
+    }
+    let line = |(far, trace): &(u64, u64)| {
+        let (pixels, hundredths) = (far / 100, far % 100);
+        format!("trace {trace}, {pixels}.{hundredths:02} pixels away\n")
+    };
+    traces.iter().map(line).collect()
 }
 
 /// `gauge read`.

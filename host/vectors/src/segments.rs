@@ -41,7 +41,7 @@ fn columns(segment: &Segment) -> Vec<u32> {
         segments: vec![probe],
         row_starts: vec![0, 1],
         entries: vec![0],
-        estimate: 0,
+        ..Table::default()
     };
     let blank = || vec![-0.0f32; COLUMNS];
     let Outcome::Done([r0, r1, _]) = oracle::draw(&table, 0, 0, [blank(), blank(), blank()]) else {

@@ -2,7 +2,7 @@
 
 use crate::frame::Case;
 use crate::{kinds, words};
-use cases::descriptions::{build_case, BuildCase, KINDS};
+use cases::descriptions::{build_case, BuildCase, KINDS, OWNER_KINDS};
 use cases::each;
 use cases::tables::{request, table};
 use oracle::Outcome;
@@ -24,6 +24,7 @@ fn build(case: &BuildCase) -> Option<Case> {
             ];
             output.extend(words::halves(table.estimate));
             output.extend(words::floats(&table.segments.concat()));
+            output.extend(table.owners.iter().map(|&owner| owner as u32));
             output.extend(&table.row_starts);
             output.extend(&table.entries);
             output
@@ -84,7 +85,8 @@ fn draw(seed: u64) -> Option<Case> {
 }
 
 pub fn cases(seeds: u64) -> Vec<Case> {
-    let builds = each(&KINDS, seeds).filter(|(kind, _)| !NO_BUILDS.contains(kind));
+    let builds = each(&KINDS, seeds).chain(each(&OWNER_KINDS, seeds));
+    let builds = builds.filter(|(kind, _)| !NO_BUILDS.contains(kind));
     let builds = builds.filter_map(|(kind, seed)| build(&build_case(kind, seed)));
     builds.chain((0..10 * seeds).filter_map(draw)).collect()
 }

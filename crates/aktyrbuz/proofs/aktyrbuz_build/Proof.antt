@@ -31,11 +31,14 @@ same-length-4 c = search needs
 same-length-5 : tie.Need-same-length-5
 same-length-5 c = search needs
 
+same-length-6 : tie.Need-same-length-6
+same-length-6 c = search needs
+
 returns : tie.Need-returns
 returns c =
-    let s = c .before .before .before .before .before .before .before .before .before .before .before .before .before .before .before .before .before .before .before .before .before .before .before .before .before .before in
+    let s = c .before .before .before .before .before .before .before .before .before .before .before .before .before .before .before .before .before .before .before .before .before .before .before .before .before .before .before .before .before .before in
     let e = toZ-ofZ {w = w32} {z = s .args .adjustment} (record { sfits = omega (arith, s .good .1 .1 .1 .1 .0) }) in
-    build-exported _ _ _ _ _ _ _ _ (rw e at (c .before .before .before .before .before .before .before .before .before .before .before .before .before .build .ensures)) (c .before .before .told-build .ensures) (c .tell .ensures)
+    build-exported _ _ _ _ _ _ _ _ _ (rw e at (c .before .before .before .before .before .before .before .before .before .before .before .before .before .before .before .build .ensures)) (c .before .before .told-build .ensures) (c .tell .ensures)
 
 pub aktyrbuz-build-spec : {M : Type 1} → statement M
 aktyrbuz-build-spec =
@@ -49,6 +52,7 @@ aktyrbuz-build-spec =
     same-length-3
     same-length-4
     same-length-5
+    same-length-6
     returns)
 
 -- Assumes nothing.

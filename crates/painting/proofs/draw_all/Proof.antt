@@ -1,193 +1,70 @@
--- `draw_all`: the splines below k are drawn.
-use mathlib.Core.Path.{_≡_, refl, sym, ap, _∙_}
-use Prim.Native.Nat.{_+_, _-_, _*_, _<_, _≤_, _^_}
+-- `draw_all`: as many records are lent as there is room for segments with an owner.
+use Prim.Native.Nat.{ℕ}
 use native.Mathlib.Omega.{arith}
-use borrow.Author.Needs.{needs}
 use lib.ListN.{length}
-use Rattle.dequantize.specs.Judge.{Description, descriptionOf, Shaped, startX, startY, coefficientsOf, splineOf}
-use Rattle.dequantize.proofs.Judging.{deltas-fit}
-use Rattle.dequantize.proofs.Judgement.{fine-accepted}
+use Rattle.dequantize.specs.Judge.{descriptionOf}
 use Rattle.curve.specs.Curve.{pathRoom}
 use Rattle.walk.specs.Walk.{walkRoom}
-use Rattle.points.specs.Points.{segmentRoom, FilledOn}
-use Rattle.strand.specs.Strand.{strandFilled, segmentsOf}
-use Rattle.painting.specs.declared.Drawn.the-variants as Drawn
-use Rattle.painting.specs.Painting.{Passed, strandOfSpline}
-use Rattle.painting.proofs.Painting.{Painting, painting-none, painting-all, painting-room, painting-more, part-is}
+use Rattle.painting.specs.Painting.{Painted, paintOf}
+use Rattle.painting.proofs.Rooms.{room-is, part-drawn}
+use borrow.Author.Needs.{needs}
 use Rattle.painting.proofs.draw_all.Statement.{statement}
 use Rattle.painting.proofs.draw_all.Tie as tie
 
-abbrev Inv-loop : tie.InvT-loop
-Inv-loop counts starts deltas coefficients given high-precision path₀ walk₀ out₀ k₀ at₀ count₀ path walk out k at count =
-    (k ≤ length counts)
-    × (at ≤ length deltas)
-    × (length deltas < 2 ^ 62)
-    × (length counts < 2 ^ 61)
-    × (2 * length counts ≤ length starts)
-    × (128 * length counts ≤ length coefficients)
-    × (length path ≡ length path₀)
-    × (length walk ≡ length walk₀)
-    × (length out ≡ length out₀)
-    × Shaped (descriptionOf counts starts deltas coefficients)
-    × Passed (descriptionOf counts starts deltas coefficients) given
-    × Painting (descriptionOf counts starts deltas coefficients) given high-precision (pathRoom (length path₀)) (walkRoom (length walk₀)) (segmentRoom (length out₀)) out₀ out k at count
+-- all splines, drawn with so much room for segments
+abbrev painted : tie.Start → ℕ → Painted
+painted s room = paintOf (descriptionOf (s .args .counts .now) (s .args .starts .now) (s .args .deltas .now) (s .args .coefficients .now)) (s .args .given) (s .args .high-precision) (pathRoom (length (s .args .path .now))) (walkRoom (length (s .args .walk .now))) room
 
-abbrev μ-loop : tie.MeasureT-loop
-μ-loop counts starts deltas coefficients given high-precision path₀ walk₀ out₀ k₀ at₀ count₀ path walk out k at count = length counts - k
+room-requires : tie.Need-room-requires
+room-requires c κs = search needs
 
--- the description that is drawn
-abbrev described : tie.Start Inv-loop μ-loop → Description
-described z = (descriptionOf (z .args .counts .now) (z .args .starts .now) (z .args .deltas .now) (z .args .coefficients .now))
+mul-end : tie.Need-mul-end
+mul-end c = search needs
 
--- the double deltas of the spline are all there
-fits : (c : tie.After-wide Inv-loop μ-loop) → c .before .before .before .loop .at + 2 * c .wide .result ≤ length (c .before .before .before .before .before .before .before .before .before .args .deltas .now)
-fits c =
-    let l = c .before .before .before .loop in
-    omega (arith, deltas-fit (described (c .before .before .before .before .before .before .before .before .before)) (l .k) (omega arith) (l .inv .9), l .inv .11 .used, c .wide .ensures)
+slice-relend-prefix-draw-each : tie.Need-slice-relend-prefix-draw-each
+slice-relend-prefix-draw-each c = omega (arith, room-is (c .before .before .before .before .before .before .before .before .before .args .out .now) _ (c .before .before .room .result) (c .before .before .room .ensures) .0)
 
--- what the spline answered, in terms of the description
-answer : (e : tie.After-draw-one Inv-loop μ-loop)
-    → (e .draw-one .result ≡ strandFilled (segmentRoom (length (e .before .before .before .before .before .before .before .before .before .before .before .before .before .before .args .out .now))) (e .before .before .before .before .before .before .before .before .loop .count) (strandOfSpline (described (e .before .before .before .before .before .before .before .before .before .before .before .before .before .before)) (e .before .before .before .before .before .before .before .before .before .before .before .before .before .before .args .given) (e .before .before .before .before .before .before .before .before .before .before .before .before .before .before .args .high-precision) (pathRoom (length (e .before .before .before .before .before .before .before .before .before .before .before .before .before .before .args .path .now))) (walkRoom (length (e .before .before .before .before .before .before .before .before .before .before .before .before .before .before .args .walk .now))) (e .before .before .before .before .before .before .before .before .loop .k)))
-    × FilledOn (e .draw-one .result) (e .before .before .before .before .before .before .before .before .loop .count) (segmentsOf (strandOfSpline (described (e .before .before .before .before .before .before .before .before .before .before .before .before .before .before)) (e .before .before .before .before .before .before .before .before .before .before .before .before .before .before .args .given) (e .before .before .before .before .before .before .before .before .before .before .before .before .before .before .args .high-precision) (pathRoom (length (e .before .before .before .before .before .before .before .before .before .before .before .before .before .before .args .path .now))) (walkRoom (length (e .before .before .before .before .before .before .before .before .before .before .before .before .before .before .args .walk .now))) (e .before .before .before .before .before .before .before .before .loop .k))) (e .before .before .before .before .before .before .before .before .loop .out) (e .draw-one .last .1 .1 .1 .1 .1 .1 .1 .1 .0)
-unfolding strandOfSpline startX startY splineOf coefficientsOf
-answer e =
-    let l = e .before .before .before .before .before .before .before .before .loop in
-    rw (part-is (described (e .before .before .before .before .before .before .before .before .before .before .before .before .before .before)) (l .k) (l .at) (e .before .before .before .before .before .wide .result) (e .before .before .before .before .before .wide .ensures) (l .inv .11 .used), l .inv .6, l .inv .7, l .inv .8) at (e .draw-one .ensures)
+slice-aggregate-draw-each : tie.Need-slice-aggregate-draw-each
+slice-aggregate-draw-each c = room-is (c .before .before .before .before .before .before .before .before .before .before .args .out .now) _ (c .before .before .before .room .result) (c .before .before .before .room .ensures) .1
 
-loop-holds : tie.Need-loop-holds Inv-loop μ-loop
-loop-holds c =
-    let s = c .before .before .before .before .before .pre in
-    (omega arith, omega arith, omega arith, omega arith, omega (arith, s .0 .starts), omega (arith, s .0 .coefficients), refl, refl, refl, s .0, s .1, painting-none _ _ _ _ _ _ _)
+draw-each-requires : tie.Need-draw-each-requires
+draw-each-requires c κs =
+    let s = c .before .before .before .before .before .before .before .before .before .before .before in
+    let h = room-is (s .args .out .now) _ (c .before .before .before .before .room .result) (c .before .before .before .before .room .ensures) in
+    (s .pre .0, s .pre .1, omega (arith, h .2, h .3, c .before .before .before .before .room .ensures))
 
-mul-wide : tie.Need-mul-wide Inv-loop μ-loop
-mul-wide c = omega arith
+same-length : tie.Need-same-length
+same-length c = search needs
 
-shared-slice-read-wide : tie.Need-shared-slice-read-wide Inv-loop μ-loop
-shared-slice-read-wide c = omega arith
+same-length-2 : tie.Need-same-length-2
+same-length-2 c = search needs
 
-wide-requires : tie.Need-wide-requires Inv-loop μ-loop
-wide-requires c κs = search needs
+same-length-3 : tie.Need-same-length-3
+same-length-3 c = search needs
 
-mul-end : tie.Need-mul-end Inv-loop μ-loop
-mul-end c = omega (arith, fits c)
+same-length-4 : tie.Need-same-length-4
+same-length-4 c = search needs
 
-add-end : tie.Need-add-end Inv-loop μ-loop
-add-end c = omega (arith, fits c)
-
-mul-draw-one : tie.Need-mul-draw-one Inv-loop μ-loop
-mul-draw-one c = omega (arith, fits c)
-
-sub-draw-one : tie.Need-sub-draw-one Inv-loop μ-loop
-sub-draw-one c = omega (arith, fits c)
-
-part-draw-one-start : tie.Need-part-draw-one-start Inv-loop μ-loop
-part-draw-one-start c = omega (arith, fits c)
-
-part-draw-one-end : tie.Need-part-draw-one-end Inv-loop μ-loop
-part-draw-one-end c = omega (arith, fits c)
-
-draw-one-requires : tie.Need-draw-one-requires Inv-loop μ-loop
-unfolding startX startY coefficientsOf
-draw-one-requires c κs =
-    let l = c .before .before .before .before .before .before .before .loop in
-    let z = c .before .before .before .before .before .before .before .before .before .before .before .before .before in
-    let p = l .inv .10 in (
-      omega arith,
-      omega arith,
-      omega (arith, l .inv .11 .fits, l .inv .8),
-      rw (part-is (described z) (l .k) (l .at) (c .before .before .before .before .wide .result) (c .before .before .before .before .wide .ensures) (l .inv .11 .used)) (fine-accepted (described z) (z .args .given) (p .total) (p .fine) (l .k) (omega arith)),
-    )
-
-enum-known-more : tie.Need-enum-known-more Inv-loop μ-loop
-enum-known-more c = search needs
-
-enum-told : tie.Need-enum-told Inv-loop μ-loop
-enum-told c = search needs
-
-same-length : tie.Need-same-length Inv-loop μ-loop
-same-length c = omega (arith, c .before .before .before .before .before .before .before .before .draw-one .kept .1 .1 .1 .1 .1 .1 .0)
-
-same-length-2 : tie.Need-same-length-2 Inv-loop μ-loop
-same-length-2 c = omega (arith, c .before .before .before .before .before .before .before .before .draw-one .kept .1 .1 .1 .1 .1 .1 .1 .0)
-
-same-length-3 : tie.Need-same-length-3 Inv-loop μ-loop
-same-length-3 c = omega (arith, c .before .before .before .before .before .before .before .before .draw-one .kept .1 .1 .1 .1 .1 .1 .1 .1 .0)
-
-returns : tie.Need-returns Inv-loop μ-loop
+returns : tie.Need-returns
 returns c =
-    let e = c .before .before .before .before .before .before .before .before in
-    let l = e .before .before .before .before .before .before .before .before .loop in
-    rw (painting-room _ _ _ _ _ _ _ (l .out) (l .k) (l .at) (l .count) (l .inv .11) (omega arith) (answer e .0) (c .enum-told .given .1)) (refl, tt)
-
-add-k : tie.Need-add-k Inv-loop μ-loop
-add-k c = omega arith
-
-loop-less : tie.Need-loop-less Inv-loop μ-loop
-loop-less c = omega arith
-
-loop-again : tie.Need-loop-again Inv-loop μ-loop
-loop-again c =
-    let e = c .before .before .before .before .before .before .before .before .before in
-    let l = e .before .before .before .before .before .before .before .before .loop in
-    let a = painting-more _ _ _ _ _ _ _ (l .out) (l .k) (l .at) (l .count) (l .inv .11) (omega arith) (answer e .0) _ (answer e .1) (c .before .more .given .1) in (
-      omega arith,
-      fits (e .before .before .before .before .before),
-      l .inv .2,
-      l .inv .3,
-      l .inv .4,
-      l .inv .5,
-      e .draw-one .kept .1 .1 .1 .1 .1 .1 .0 ∙ l .inv .6,
-      e .draw-one .kept .1 .1 .1 .1 .1 .1 .1 .0 ∙ l .inv .7,
-      e .draw-one .kept .1 .1 .1 .1 .1 .1 .1 .1 .0 ∙ l .inv .8,
-      l .inv .9,
-      l .inv .10,
-      rw (e .before .before .before .before .before .wide .ensures) a,
-    )
-
-same-length-4 : tie.Need-same-length-4 Inv-loop μ-loop
-same-length-4 c = omega arith
-
-same-length-5 : tie.Need-same-length-5 Inv-loop μ-loop
-same-length-5 c = omega arith
-
-same-length-6 : tie.Need-same-length-6 Inv-loop μ-loop
-same-length-6 c = omega arith
-
-returns-2 : tie.Need-returns-2 Inv-loop μ-loop
-returns-2 c =
-    let l = c .before .loop in
-    let a = l .inv .11 in
-    rw (painting-all _ _ _ _ _ _ _ (l .out) (l .k) (l .at) (l .count) a (omega arith)) (ap Drawn.Count (sym (a .size)), (a .buffer, omega (arith, a .size, a .fits)))
+    let s = c .before .before .before .before .before .before .before .before .before .before .before .before .before .before .before .before .before .before .before .before in
+    let m = c .before .before .before .before .before .before .before .before .before .before .before .before .before .room in
+    let d = c .before .before .before .before .before .before .before .before .draw-each in
+    part-drawn (painted s) (s .args .out .now) (d .last .1 .1 .1 .1 .1 .1 .1 .1 .0) (s .args .owners .now) (d .last .1 .1 .1 .1 .1 .1 .1 .1 .1 .0) (m .result) (m .ensures) (d .ensures)
 
 pub draw-all-spec : {M : Type 1} → statement M
 draw-all-spec =
     tie.close
     (tie.spec
-    Inv-loop
-    μ-loop
-    loop-holds
-    mul-wide
-    shared-slice-read-wide
-    wide-requires
+    room-requires
     mul-end
-    add-end
-    mul-draw-one
-    sub-draw-one
-    part-draw-one-start
-    part-draw-one-end
-    draw-one-requires
-    enum-known-more
-    enum-told
+    slice-relend-prefix-draw-each
+    slice-aggregate-draw-each
+    draw-each-requires
     same-length
     same-length-2
     same-length-3
-    returns
-    add-k
-    loop-less
-    loop-again
     same-length-4
-    same-length-5
-    same-length-6
-    returns-2)
+    returns)
 
 -- Assumes nothing.

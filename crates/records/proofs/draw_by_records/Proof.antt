@@ -1,12 +1,13 @@
 -- An unknown number is refused; a known one is drawn among 16 records, which begin at its multiple of 16.
-use mathlib.Core.Path.{sym, _∙_}
+use mathlib.Core.Path.{refl, sym, _∙_}
 use native.Mathlib.Omega.{arith}
-use borrow.Author.Needs.{needs}
 use borrow.Author.Tests.{not-true, not-false}
 use Rattle.segments.specs.Segment.{segmentAt}
 use Rattle.draw.specs.Draw.{three}
 use Rattle.records.specs.Records.{isKnown}
 use Rattle.records.proofs.Alone.{not-known, known-facts, in-16}
+use lib.ListN.{replicate}
+use borrow.Author.Needs.{needs}
 use Rattle.records.proofs.draw_by_records.Statement.{statement}
 use Rattle.records.proofs.draw_by_records.Tie as tie
 
@@ -48,10 +49,13 @@ part-draw-in-16-start c =
 part-draw-in-16-end : tie.Need-part-draw-in-16-end
 part-draw-in-16-end c = search needs
 
+slice-aggregate-draw-in-16 : tie.Need-slice-aggregate-draw-in-16
+slice-aggregate-draw-in-16 c = search needs
+
 sub-draw-in-16-2 : tie.Need-sub-draw-in-16-2
 sub-draw-in-16-2 c =
-    let A = c .before .before .before .before .before .before .before .args in
-    let k = known-facts (A .flat .now) (A .count) (A .i) (sym (c .before .before .is-known .ensures) ∙ not-false _ (c .before .if1 .left)) in
+    let A = c .before .before .before .before .before .before .before .before .args in
+    let k = known-facts (A .flat .now) (A .count) (A .i) (sym (c .before .before .before .is-known .ensures) ∙ not-false _ (c .before .before .if1 .left)) in
     omega arith
 
 sub-draw-in-16-3 : tie.Need-sub-draw-in-16-3
@@ -71,10 +75,10 @@ same-length-3 c = search needs
 
 returns-2 : tie.Need-returns-2
 returns-2 c =
-    let A = c .before .before .before .before .before .before .before .before .before .before .before .before .before .before .before .before .before .args in
-    let e = sym (c .before .before .before .before .before .before .before .before .before .before .before .before .is-known .ensures) ∙ not-false _ (c .before .before .before .before .before .before .before .before .before .before .before .if1 .left) in
+    let A = c .before .before .before .before .before .before .before .before .before .before .before .before .before .before .before .before .before .before .args in
+    let e = sym (c .before .before .before .before .before .before .before .before .before .before .before .before .before .is-known .ensures) ∙ not-false _ (c .before .before .before .before .before .before .before .before .before .before .before .before .if1 .left) in
     c .before .before .before .before .before .before .draw-in-16 .ensures
-    ∙ in-16 (A .flat .now) (A .count) (A .i) _ (A .y) (A .x0) (A .n) (three (A .r0 .now) (A .r1 .now) (A .r2 .now)) e (omega arith) (omega arith)
+    ∙ in-16 (A .flat .now) (replicate 16 0) (A .count) (A .i) _ (A .y) (A .x0) (A .n) (three (A .r0 .now) (A .r1 .now) (A .r2 .now)) refl e (omega arith) (omega arith)
 
 pub draw-by-records-spec : {M : Type 1} → statement M
 draw-by-records-spec =
@@ -88,6 +92,7 @@ draw-by-records-spec =
     sub-draw-in-16
     part-draw-in-16-start
     part-draw-in-16-end
+    slice-aggregate-draw-in-16
     sub-draw-in-16-2
     sub-draw-in-16-3
     draw-in-16-requires

@@ -39,14 +39,14 @@ use denote.Triple.Clauses.{ensured, lasts}
 use denote.Triple.Table.{entered, cited}
 use denote.Triple.Walked.{says, Stays, stay-dropped, gave-slice, walkOf, AllGo, goes-dropped, goes-gave-slice, Walks, ends-at, walked, walk-meets}
 use denote.Exit.{yes}
-use Rattle.segments.specs.declared.Segment.{Segment}
-use Rattle.segments.proofs.Segment as T
-use Rattle.segments.proofs.Segment.Laws as T′
+use Rattle.records.specs.declared.SegmentRecord.{SegmentRecord}
+use Rattle.records.proofs.SegmentRecord as T
+use Rattle.records.proofs.SegmentRecord.Laws as T′
 use Rattle.draw.specs.declared.DrawAnswer.{DrawAnswer}
 use Rattle.draw.specs.Draw.{three, leaves}
 use Rattle.draw.proofs.DrawAnswer as D
 use Rattle.draw.proofs.DrawAnswer.Laws as D′
-use Rattle.records.specs.Records.{zeroSegment, drawAlone}
+use Rattle.records.specs.Records.{segmentOf, zeroRecord, drawAlone}
 use Rattle.records.proofs.segment_at as seg
 use Rattle.records.proofs.segment_at.Symbol as seg-def
 use Rattle.records.proofs.segment_at.Symbol.{name as #records·segment-at}
@@ -74,7 +74,7 @@ abbrev Chan : Type 0
 Chan = RefT (List Float)
 
 abbrev Arg : Type 0
-Arg = RefT (List Segment) × (ℕ × (ℕ × (ℕ × (ℕ × (Chan × (Chan × (Chan × Unit {0})))))))
+Arg = RefT (List SegmentRecord) × (ℕ × (ℕ × (ℕ × (ℕ × (Chan × (Chan × (Chan × Unit {0})))))))
 
 abbrev stayed : Stays (f.ended .signature .params) (f.ended .kept)
 stayed = (stay-dropped records yes, (stay-dropped index yes, (stay-dropped number yes, (stay-dropped number yes, (stay-dropped number yes, (gave-slice (1 ∷ []) tt (plain (λ _. f32)), (gave-slice (2 ∷ []) tt (plain (λ _. f32)), (gave-slice (3 ∷ []) tt (plain (λ _. f32)), tt))))))))
@@ -91,7 +91,7 @@ module _ {M : Type 1} (𝓤 : URA M) (H : Heap 𝓤) (A : Atoms 𝓤) (mem : Mem
   Alone = tripleOf 𝓤 H A alone.signature (alone.spec 𝓤 H A mem run)
 
 module _ {M : Type 1} (𝓤 : URA M) (H : Heap 𝓤) (A : Atoms 𝓤) (W : Given 𝓤 H A) (mem : Memory → SProp 𝓤) (run : Routine → Fun 𝓤)
-    (κ κ₀ κ₁ κ₂ : Lft) (q q₀ q₁ q₂ : Share) (xr : RefT (List Segment)) (i y x0 n : ℕ) (c₀ c₁ c₂ : Chan)
+    (κ κ₀ κ₁ κ₂ : Lft) (q q₀ q₁ q₂ : Share) (xr : RefT (List SegmentRecord)) (i y x0 n : ℕ) (c₀ c₁ c₂ : Chan)
     (i-fits : i < 2 ^ 64) (y-fits : y < 2 ^ 32) (x0-fits : x0 < 2 ^ 32) (n-fits : n < 2 ^ 32) where
   abbrev x : Arg
   x = (xr, (i, (y, (x0, (n, (c₀, (c₁, (c₂, tt))))))))
@@ -105,12 +105,12 @@ module _ {M : Type 1} (𝓤 : URA M) (H : Heap 𝓤) (A : Atoms 𝓤) (W : Given
   abbrev known : Bool
   known = ltb i (length (xr .now))
 
-  abbrev elem : Segment
-  elem = getD (xr .now) i zeroSegment
+  abbrev elem : SegmentRecord
+  elem = getD (xr .now) i zeroRecord
 
   -- what is said of an answer and of the last lists of the channels
   abbrev Drawn : DrawAnswer → List Float → List Float → List Float → Type 0
-  Drawn r z₀ z₁ z₂ = leaves r (three z₀ z₁ z₂) ≡ drawAlone known elem y x0 n (three (c₀ .now) (c₁ .now) (c₂ .now))
+  Drawn r z₀ z₁ z₂ = leaves r (three z₀ z₁ z₂) ≡ drawAlone known (segmentOf elem) y x0 n (three (c₀ .now) (c₁ .now) (c₂ .now))
 
   abbrev Recs : Fml
   Recs = ShrSlice (named 0) κ T.the-row .own xr (slice xr ∷ [])
@@ -136,11 +136,11 @@ module _ {M : Type 1} (𝓤 : URA M) (H : Heap 𝓤) (A : Atoms 𝓤) (W : Given
       qed W (‵ (flft κ q) ∷ ‵ Recs ∷ []) ∵
       nothing ! $ owned ! usize (Is usize) (uint-makes 𝓤 H A W w64) i _ (refl, i-fits) $ fjoin ! $ move ! (2 ∷ 0 ∷ []) $ fjoin ! $ nothing ! $ move ! (2 ∷ 0 ∷ []) $ join ! $ join ! $ frame ! $ done !
 
-  said-seg : (r : Segment) → ent 𝓤 (ensured 𝓤 H A seg.ended (seg.clauses 𝓤 H A mem run) (κ, tt) (xr, (i, tt)) tt r) (fact 𝓤 (r ≡ elem))
+  said-seg : (r : SegmentRecord) → ent 𝓤 (ensured 𝓤 H A seg.ended (seg.clauses 𝓤 H A mem run) (κ, tt) (xr, (i, tt)) tt r) (fact 𝓤 (r ≡ elem))
   said-seg r = exE 𝓤 _ (λ us. snd∗ 𝓤 (sem 𝓤 H A (lasts seg.ended (κ, tt) (xr, (i, tt)) us)) (fact 𝓤 (r ≡ elem)))
 
   -- ---- `draw_alone`, the record's machine value being w
-  abbrev args : Bool × (Segment × (ℕ × (ℕ × (ℕ × (Chan × (Chan × (Chan × Unit {0})))))))
+  abbrev args : Bool × (SegmentRecord × (ℕ × (ℕ × (ℕ × (Chan × (Chan × (Chan × Unit {0})))))))
   args = (known, (elem, (y, (x0, (n, (c₀, (c₁, (c₂, tt))))))))
 
   abbrev to-alone : Val → Alone 𝓤 H A mem run .Ghost
@@ -174,8 +174,8 @@ module _ {M : Type 1} (𝓤 : URA M) (H : Heap 𝓤) (A : Atoms 𝓤) (W : Given
         -- the record
         use2 W (raw (Seg 𝓤 H A mem run .pre to-seg)) asked-seg $
         calls-at ! fm (Seg 𝓤 H A mem run) known-seg to-seg (and-then ! (load ! (from ! (stop !)) (look ! 39 refl)) (and-then ! (load ! (from ! (stop !)) (look ! 37 refl)) (no-more !))) (λ w.
-        use1 W (later (some (λ (s : Segment). ((‵ (flft κ q) ⊛ ‵ ftrue) ⊛ ‵ (T.the-row .own s (w ∷ []))) ⊛ raw (ensured 𝓤 H A seg.ended (seg.clauses 𝓤 H A mem run) (κ, tt) (xr, (i, tt)) tt s)))) (id⊢ 𝓤 _) $ await ! tt $ pick ! (λ s.
-        split ! $ move ! (1 ∷ []) $ use1 W (raw (fact 𝓤 (s ≡ elem))) (said-seg s) $ heard ! (s ≡ elem) (λ e. split ! $ move ! (1 ∷ []) $ rewrite ! 0 (λ (t : Segment). ‵ (T.the-row .own t (w ∷ []))) e refl $
+        use1 W (later (some (λ (s : SegmentRecord). ((‵ (flft κ q) ⊛ ‵ ftrue) ⊛ ‵ (T.the-row .own s (w ∷ []))) ⊛ raw (ensured 𝓤 H A seg.ended (seg.clauses 𝓤 H A mem run) (κ, tt) (xr, (i, tt)) tt s)))) (id⊢ 𝓤 _) $ await ! tt $ pick ! (λ s.
+        split ! $ move ! (1 ∷ []) $ use1 W (raw (fact 𝓤 (s ≡ elem))) (said-seg s) $ heard ! (s ≡ elem) (λ e. split ! $ move ! (1 ∷ []) $ rewrite ! 0 (λ (t : SegmentRecord). ‵ (T.the-row .own t (w ∷ []))) e refl $
         peeks ! T.the-row (Is T.the-row) (shows 𝓤 H A T.the-row) elem (w ∷ []) (λ is.
         land ! (from ! (stop !)) (init ! 22 refl (LL.lawful T.the-type T′.the-laws 𝓤 H A W .typed elem (w ∷ []) is .0)) $
         -- the places and counts of the channels

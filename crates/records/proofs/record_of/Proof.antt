@@ -1,62 +1,91 @@
--- The definition's two tests are those of the code.
-use mathlib.Core.Path.{_≡_, refl, _∙_}
-use Prim.Native.Nat.{ℕ, _<_, _≤_, _/_}
+-- The definition's three tests are those of the code.
+use mathlib.Core.Path.{_≡_, refl, ap, _∙_}
 use mathlib.Core.List.{List}
+use Prim.Native.Nat.{ℕ, _<_, _≤_, _/_}
 use native.Mathlib.Omega.{arith}
-use lib.ListN.{length}
+use lib.ListN.{length, getD}
 use lib.Ieee.{Float}
-use borrow.Author.Needs.{needs}
 use borrow.Author.Tests.{lt-ltb, le-ltb}
+use Rattle.segments.specs.declared.Segment.{Segment}
 use Rattle.segments.specs.Segment.{segmentAt}
-use Rattle.records.specs.Records.{zeroSegment, recordOf}
+use Rattle.records.specs.Records.{joinedOf, zeroRecord, recordOf}
+use borrow.Author.Needs.{needs}
 use Rattle.records.proofs.record_of.Statement.{statement}
 use Rattle.records.proofs.record_of.Tie as tie
 
-shown : (xs : List Float) (c k : ℕ) → k < c → k < length xs / 8 → segmentAt xs k ≡ recordOf xs c k
+shown : (xs : List Float) (us : List ℕ) (c k : ℕ) → k < c → k < length xs / 8 → k < length us → joinedOf (segmentAt xs k) (getD us k 0) ≡ recordOf xs us c k
 unfolding recordOf
-shown xs c k p q = rw (lt-ltb k c p, lt-ltb k (length xs / 8) q) refl
+shown xs us c k p q w = rw (lt-ltb k c p, lt-ltb k (length xs / 8) q, lt-ltb k (length us) w) refl
 
-short : (xs : List Float) (c k : ℕ) → k < c → length xs / 8 ≤ k → zeroSegment ≡ recordOf xs c k
+unowned : (xs : List Float) (us : List ℕ) (c k : ℕ) → k < c → k < length xs / 8 → length us ≤ k → zeroRecord ≡ recordOf xs us c k
 unfolding recordOf
-short xs c k p q = rw (lt-ltb k c p, le-ltb k (length xs / 8) q) refl
+unowned xs us c k p q w = rw (lt-ltb k c p, lt-ltb k (length xs / 8) q, le-ltb k (length us) w) refl
 
-past : (xs : List Float) (c k : ℕ) → c ≤ k → zeroSegment ≡ recordOf xs c k
+short : (xs : List Float) (us : List ℕ) (c k : ℕ) → k < c → length xs / 8 ≤ k → zeroRecord ≡ recordOf xs us c k
 unfolding recordOf
-past xs c k p = rw (le-ltb k c p) refl
+short xs us c k p q = rw (lt-ltb k c p, le-ltb k (length xs / 8) q) refl
 
-zero-segment-requires : tie.Need-zero-segment-requires
-zero-segment-requires c κs = search needs
+past : (xs : List Float) (us : List ℕ) (c k : ℕ) → c ≤ k → zeroRecord ≡ recordOf xs us c k
+unfolding recordOf
+past xs us c k p = rw (le-ltb k c p) refl
+
+zero-record-requires : tie.Need-zero-record-requires
+zero-record-requires c κs = search needs
 
 returns : tie.Need-returns
 returns c =
-    let A = c .before .before .before .args in
-    c .zero-segment .ensures ∙ past (A .flat .now) (A .count) (A .k) (omega arith)
+    let A = c .before .before .before .before .args in
+    c .zero-record .ensures ∙ past (A .flat .now) (A .owners .now) (A .count) (A .k) (omega arith)
 
-zero-segment-requires-2 : tie.Need-zero-segment-requires-2
-zero-segment-requires-2 c κs = search needs
+zero-record-requires-2 : tie.Need-zero-record-requires-2
+zero-record-requires-2 c κs = search needs
 
 returns-2 : tie.Need-returns-2
 returns-2 c =
-    let A = c .before .before .before .before .args in
-    c .zero-segment2 .ensures ∙ short (A .flat .now) (A .count) (A .k) (omega arith) (omega arith)
+    let A = c .before .before .before .before .before .args in
+    c .zero-record2 .ensures ∙ short (A .flat .now) (A .owners .now) (A .count) (A .k) (omega arith) (omega arith)
+
+zero-record-requires-3 : tie.Need-zero-record-requires-3
+zero-record-requires-3 c κs = search needs
+
+returns-3 : tie.Need-returns-3
+returns-3 c =
+    let A = c .before .before .before .before .before .before .args in
+    c .zero-record3 .ensures ∙ unowned (A .flat .now) (A .owners .now) (A .count) (A .k) (omega arith) (omega arith) (omega arith)
+
+mul-owner : tie.Need-mul-owner
+mul-owner c = search needs
+
+shared-slice-read-owner : tie.Need-shared-slice-read-owner
+shared-slice-read-owner c = search needs
 
 at-requires : tie.Need-at-requires
 at-requires c κs = search needs
 
-returns-3 : tie.Need-returns-3
-returns-3 c =
-    let A = c .before .before .before .before .args in
-    c .at .ensures ∙ shown (A .flat .now) (A .count) (A .k) (omega arith) (omega arith)
+joined-requires : tie.Need-joined-requires
+joined-requires c κs = search needs
+
+returns-4 : tie.Need-returns-4
+returns-4 c =
+    let A = c .before .before .before .before .before .before .before .before .args in
+    c .joined .ensures
+    ∙ ap (λ (s : Segment). joinedOf s (getD (A .owners .now) (A .k) 0)) (c .before .at .ensures)
+    ∙ shown (A .flat .now) (A .owners .now) (A .count) (A .k) (omega arith) (omega arith) (omega arith)
 
 pub record-of-spec : {M : Type 1} → statement M
 record-of-spec =
     tie.close
     (tie.spec
-    zero-segment-requires
+    zero-record-requires
     returns
-    zero-segment-requires-2
+    zero-record-requires-2
     returns-2
+    zero-record-requires-3
+    returns-3
+    mul-owner
+    shared-slice-read-owner
     at-requires
-    returns-3)
+    joined-requires
+    returns-4)
 
 -- Assumes nothing.

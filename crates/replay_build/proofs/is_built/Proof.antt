@@ -53,6 +53,9 @@ slice-aggregate-build-4 c = search needs
 slice-aggregate-build-5 : tie.Need-slice-aggregate-build-5
 slice-aggregate-build-5 c = search needs
 
+slice-aggregate-build-6 : tie.Need-slice-aggregate-build-6
+slice-aggregate-build-6 c = search needs
+
 build-requires : tie.Need-build-requires
 build-requires c κs = search needs
 
@@ -68,15 +71,18 @@ slice-aggregate-is-answer-2 c = search needs
 slice-aggregate-is-answer-3 : tie.Need-slice-aggregate-is-answer-3
 slice-aggregate-is-answer-3 c = search needs
 
+slice-aggregate-is-answer-4 : tie.Need-slice-aggregate-is-answer-4
+slice-aggregate-is-answer-4 c = search needs
+
 is-answer-requires : tie.Need-is-answer-requires
 is-answer-requires c κs = search needs
 
 returns : tie.Need-returns
 returns c =
-    let A = c .before .before .before .before .before .before .before .before .before .before .before .before .before .before .before .before .before .before .before .before .before .before .before .before .before .before .before .before .before .before .args in
+    let A = c .before .before .before .before .before .before .before .before .before .before .before .before .before .before .before .before .before .before .before .before .before .before .before .before .before .before .before .before .before .before .before .before .before .args in
     let input = A .input .now in
-    let word = c .before .before .before .before .before .before .before .before .before .before .before .before .before .before .before .before .before .before .before .before .before .before .before .before .signed-word in
-    λ e. built-agrees input (A .output .now) (descriptionOf (A .counts .now) (A .starts .now) (A .deltas .now) (A .coefficients .now)) (c .before .before .before .before .before .before .before .before .before .before .build .ensures) (image-is input (A .output .now) (toZ-ofZ {w = w32} {z = word .result} (record { sfits = word .ok }) ∙ word .ensures) (c .before .before .before .before .before .before .before .before .before .before .before .before .before .before .before .before .before .before .before .before .before .before .float .ensures) (c .before .before .before .before .before .before .before .before .before .before .before .before .before .before .before .before .before .before .before .before .float2 .ensures)) refl (c .is-answer .ensures e)
+    let word = c .before .before .before .before .before .before .before .before .before .before .before .before .before .before .before .before .before .before .before .before .before .before .before .before .before .before .before .signed-word in
+    λ e. built-agrees input (A .output .now) (descriptionOf (A .counts .now) (A .starts .now) (A .deltas .now) (A .coefficients .now)) (c .before .before .before .before .before .before .before .before .before .before .before .before .build .ensures) (image-is input (A .output .now) (toZ-ofZ {w = w32} {z = word .result} (record { sfits = word .ok }) ∙ word .ensures) (c .before .before .before .before .before .before .before .before .before .before .before .before .before .before .before .before .before .before .before .before .before .before .before .before .before .float .ensures) (c .before .before .before .before .before .before .before .before .before .before .before .before .before .before .before .before .before .before .before .before .before .before .before .float2 .ensures)) refl (c .is-answer .ensures e)
 
 pub is-built-spec : {M : Type 1} → statement M
 is-built-spec =
@@ -97,11 +103,13 @@ is-built-spec =
     slice-aggregate-build-3
     slice-aggregate-build-4
     slice-aggregate-build-5
+    slice-aggregate-build-6
     build-requires
     shared-slice-read-is-answer
     slice-aggregate-is-answer
     slice-aggregate-is-answer-2
     slice-aggregate-is-answer-3
+    slice-aggregate-is-answer-4
     is-answer-requires
     returns)
 

@@ -1,6 +1,5 @@
 -- `build`: what the checks say decides between a refusal and the painting.
 use mathlib.Core.Path.{_≡_, sym, _∙_}
-use borrow.Author.Needs.{needs}
 use mir.Syntax.{w32}
 use mir.Facts.{toZ-ofZ}
 use mir.Val.{toZ, ofZ}
@@ -8,6 +7,7 @@ use Rattle.dequantize.specs.Judge.{Description, descriptionOf}
 use Rattle.table.specs.Table.{BuildRooms, roomsOf, Setting, settingOf}
 use Rattle.table.proofs.Checks.{ready}
 use Rattle.table.proofs.Placing.{build-refused, build-painted}
+use borrow.Author.Needs.{needs}
 use Rattle.table.proofs.build.Statement.{statement}
 use Rattle.table.proofs.build.Tie as tie
 
@@ -18,7 +18,7 @@ abbrev image : tie.Start → Setting
 image s = settingOf (s .args .adjustment) (s .args .width) (s .args .height) (s .args .y-to-x) (s .args .y-to-b) (s .args .high-precision) (s .args .level10)
 
 abbrev rooms : tie.Start → BuildRooms
-rooms s = roomsOf (s .args .path .now) (s .args .walk .now) (s .args .segments .now) (s .args .row-starts .now) (s .args .entries .now)
+rooms s = roomsOf (s .args .path .now) (s .args .walk .now) (s .args .segments .now) (s .args .owners .now) (s .args .row-starts .now) (s .args .entries .now)
 
 -- the adjustment as it was lent
 signed : (s : tie.Start) → toZ w32 (ofZ w32 (s .args .adjustment)) ≡ s .args .adjustment
@@ -41,7 +41,7 @@ enum-known-estimate c = search needs
 
 paint-requires : tie.Need-paint-requires
 paint-requires c κs =
-    let f = ready _ _ _ _ _ _ (sym (c .before .before .before .before .before .before .before .before .judge-all .ensures) ∙ c .before .before .before .before .before .before .estimate .given .1) in
+    let f = ready _ _ _ _ _ _ (sym (c .before .before .before .before .before .before .before .before .before .judge-all .ensures) ∙ c .before .before .before .before .before .before .before .estimate .given .1) in
     (f .shape, record { total = _; fine = f .fine }, f .low, f .tall)
 
 same-length : tie.Need-same-length
@@ -59,14 +59,14 @@ same-length-4 c = search needs
 same-length-5 : tie.Need-same-length-5
 same-length-5 c = search needs
 
-returns : tie.Need-returns
-returns c =
-    let s = c .before .before .before .before .before .before .before .before .before .before .before .before .before .before .before .before .before .before .before .before .before .before .before .before .before .before .before .before in
-    c .before .before .before .before .before .before .before .before .before .before .refuse .ensures
-    ∙ build-refused (described s) (image s) (rooms s) (rw (signed s) at (c .before .before .before .before .before .before .before .before .before .before .before .before .before .before .before .before .before .before .before .before .given-of .ensures)) (c .before .before .before .before .before .before .before .before .before .before .before .before .before .before .before .before .before .before .before .judge-all .ensures) (c .before .before .before .before .before .before .before .before .before .before .before .before .before .before .before .before .before .code .given .1)
-
 same-length-6 : tie.Need-same-length-6
 same-length-6 c = search needs
+
+returns : tie.Need-returns
+returns c =
+    let s = c .before .before .before .before .before .before .before .before .before .before .before .before .before .before .before .before .before .before .before .before .before .before .before .before .before .before .before .before .before .before .before .before in
+    c .before .before .before .before .before .before .before .before .before .before .before .before .refuse .ensures
+    ∙ build-refused (described s) (image s) (rooms s) (rw (signed s) at (c .before .before .before .before .before .before .before .before .before .before .before .before .before .before .before .before .before .before .before .before .before .before .before .given-of .ensures)) (c .before .before .before .before .before .before .before .before .before .before .before .before .before .before .before .before .before .before .before .before .before .before .judge-all .ensures) (c .before .before .before .before .before .before .before .before .before .before .before .before .before .before .before .before .before .before .before .before .code .given .1)
 
 same-length-7 : tie.Need-same-length-7
 same-length-7 c = search needs
@@ -80,11 +80,17 @@ same-length-9 c = search needs
 same-length-10 : tie.Need-same-length-10
 same-length-10 c = search needs
 
+same-length-11 : tie.Need-same-length-11
+same-length-11 c = search needs
+
+same-length-12 : tie.Need-same-length-12
+same-length-12 c = search needs
+
 returns-2 : tie.Need-returns-2
 returns-2 c =
-    let s = c .before .before .before .before .before .before .before .before .before .before .before .before .before .before .before .before .before .before .before .before .before .before .before .before .before .before .before .before in
-    c .before .before .before .before .before .before .before .before .before .before .paint .ensures
-    ∙ build-painted (described s) (image s) (rooms s) (rw (signed s) at (c .before .before .before .before .before .before .before .before .before .before .before .before .before .before .before .before .before .before .before .before .given-of .ensures)) (c .before .before .before .before .before .before .before .before .before .before .before .before .before .before .before .before .before .before .before .judge-all .ensures) (c .before .before .before .before .before .before .before .before .before .before .before .before .before .before .before .before .before .estimate .given .1)
+    let s = c .before .before .before .before .before .before .before .before .before .before .before .before .before .before .before .before .before .before .before .before .before .before .before .before .before .before .before .before .before .before .before .before in
+    c .before .before .before .before .before .before .before .before .before .before .before .before .paint .ensures
+    ∙ build-painted (described s) (image s) (rooms s) (rw (signed s) at (c .before .before .before .before .before .before .before .before .before .before .before .before .before .before .before .before .before .before .before .before .before .before .before .given-of .ensures)) (c .before .before .before .before .before .before .before .before .before .before .before .before .before .before .before .before .before .before .before .before .before .before .judge-all .ensures) (c .before .before .before .before .before .before .before .before .before .before .before .before .before .before .before .before .before .before .before .before .estimate .given .1)
 
 pub build-spec : {M : Type 1} → statement M
 build-spec =
@@ -101,12 +107,14 @@ build-spec =
     same-length-3
     same-length-4
     same-length-5
-    returns
     same-length-6
+    returns
     same-length-7
     same-length-8
     same-length-9
     same-length-10
+    same-length-11
+    same-length-12
     returns-2)
 
 -- Assumes nothing.

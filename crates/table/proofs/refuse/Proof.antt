@@ -1,6 +1,6 @@
--- `refuse`: all five buffers are wiped.
-use borrow.Author.Needs.{needs}
+-- `refuse`: all six buffers are wiped.
 use Rattle.table.specs.Table.{refusedWith}
+use borrow.Author.Needs.{needs}
 use Rattle.table.proofs.refuse.Statement.{statement}
 use Rattle.table.proofs.refuse.Tie as tie
 
@@ -22,11 +22,14 @@ same-length-4 c = search needs
 same-length-5 : tie.Need-same-length-5
 same-length-5 c = search needs
 
+same-length-6 : tie.Need-same-length-6
+same-length-6 c = search needs
+
 returns : tie.Need-returns
 unfolding refusedWith
 returns c =
-    let w = c .before .before .before .before .before .before .before .before .before .before .wipe .ensures in
-    rw (w .0, w .1 .0, w .1 .1 .0, w .1 .1 .1 .0, w .1 .1 .1 .1)
+    let w = c .before .before .before .before .before .before .before .before .before .before .before .before .wipe .ensures in
+    rw (w .0, w .1 .0, w .1 .1 .0, w .1 .1 .1 .0, w .1 .1 .1 .1 .0, w .1 .1 .1 .1 .1)
 
 pub refuse-spec : {M : Type 1} → statement M
 refuse-spec =
@@ -38,6 +41,7 @@ refuse-spec =
     same-length-3
     same-length-4
     same-length-5
+    same-length-6
     returns)
 
 -- Assumes nothing.

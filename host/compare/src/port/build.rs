@@ -5,7 +5,7 @@ use super::tally::Tally;
 use super::{guarded, parts, told_build};
 use crate::build::same_table;
 use crate::verdict::{code_of, no_equality};
-use cases::descriptions::{build_case, BuildCase, KINDS, SLOW_KINDS};
+use cases::descriptions::{build_case, BuildCase, KINDS, OWNER_KINDS, SLOW_KINDS};
 use cases::random::Random;
 use cases::{bits, each, few, Code, Given, Refusal, Table};
 use model::list::well_shaped;
@@ -45,7 +45,8 @@ pub fn compare(tally: &mut Tally) {
 }
 
 fn compare_share(mut share: Tally, first: usize) -> Tally {
-    for (kind, seed) in each(&KINDS, CASES_A_KIND).skip(first).step_by(THREADS) {
+    let all = each(&KINDS, CASES_A_KIND).chain(each(&OWNER_KINDS, CASES_A_KIND));
+    for (kind, seed) in all.skip(first).step_by(THREADS) {
         compare_case(&mut share, kind, seed);
     }
     share
@@ -88,6 +89,7 @@ fn exact_rooms(case: &BuildCase) -> Option<BuildRooms> {
         path: 2 * SOME,
         walk: 3 * SOME,
         segments: 8 * SOME,
+        owners: SOME,
         row_starts: (u64::from(case.given.height) + 1).min(MOST_ROW_STARTS),
         entries: SOME,
     };
@@ -96,13 +98,15 @@ fn exact_rooms(case: &BuildCase) -> Option<BuildRooms> {
     (numbers <= MOST_NUMBERS).then_some(least)
 }
 
-/// Exact, larger, one short each, and none.
+/// Exact, larger, one short each, and none; no owners beside exact others; and owners or segments one short beside larger
+/// others, so that each of the two bounds the segments alone.
 fn rooms(exact: &BuildRooms, r: &mut Random) -> Vec<BuildRooms> {
     let mut more = |n: u64| n + r.within(1, 9) as u64;
     let larger = BuildRooms {
         path: more(exact.path),
         walk: more(exact.walk),
         segments: more(exact.segments),
+        owners: more(exact.owners),
         row_starts: more(exact.row_starts),
         entries: more(exact.entries),
     };
@@ -110,6 +114,7 @@ fn rooms(exact: &BuildRooms, r: &mut Random) -> Vec<BuildRooms> {
         path: 0,
         walk: 0,
         segments: 0,
+        owners: 0,
         row_starts: 0,
         entries: 0,
     };
@@ -126,6 +131,19 @@ fn rooms(exact: &BuildRooms, r: &mut Random) -> Vec<BuildRooms> {
         short(|rooms| &mut rooms.path),
         short(|rooms| &mut rooms.walk),
         short(|rooms| &mut rooms.segments),
+        short(|rooms| &mut rooms.owners),
+        BuildRooms {
+            owners: 0,
+            ..*exact
+        },
+        BuildRooms {
+            owners: exact.owners.saturating_sub(1),
+            ..larger
+        },
+        BuildRooms {
+            segments: exact.segments.saturating_sub(1),
+            ..larger
+        },
         short(|rooms| &mut rooms.row_starts),
         short(|rooms| &mut rooms.entries),
     ]
@@ -181,6 +199,7 @@ pub struct PortBuilt {
     path: Lent<f32>,
     walk: Lent<f32>,
     segments: Lent<f32>,
+    owners: Lent<u64>,
     row_starts: Lent<u32>,
     entries: Lent<u32>,
 }
@@ -190,6 +209,7 @@ impl PortBuilt {
         let mut path = lent(rooms.path);
         let mut walk = lent(rooms.walk);
         let mut segments = lent(rooms.segments);
+        let mut owners = lent(rooms.owners);
         let mut row_starts = lent(rooms.row_starts);
         let mut entries = lent(rooms.entries);
         let (code, answer) = guarded::build(
@@ -199,6 +219,7 @@ impl PortBuilt {
                 path: path.lend(),
                 walk: walk.lend(),
                 segments: segments.lend(),
+                owners: owners.lend(),
                 row_starts: row_starts.lend(),
                 entries: entries.lend(),
             },
@@ -209,6 +230,7 @@ impl PortBuilt {
             path,
             walk,
             segments,
+            owners,
             row_starts,
             entries,
         }
@@ -228,6 +250,7 @@ impl PortBuilt {
             && self
                 .segments
                 .holds_as(&table.segments.concat(), |a, b| bits(a) == bits(b))
+            && self.owners.holds(&table.owners)
             && self.row_starts.holds(&table.row_starts)
             && self.entries.holds(&table.entries)
     }

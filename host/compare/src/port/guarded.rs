@@ -117,6 +117,7 @@ pub fn write(parts: &Parts, configured: u32, pixels: u32, list: &mut [u32]) -> (
 pub fn build(parts: &Parts, image: &Image, lent: Buffers) -> (u32, Answer) {
     let guarded = GuardedParts::of(parts);
     let mut floats = [&*lent.path, &*lent.walk, &*lent.segments].map(Guarded::of);
+    let mut owners = Guarded::of(lent.owners);
     let mut numbers = [&*lent.row_starts, &*lent.entries].map(Guarded::of);
     let told = answered(|answer| {
         let [path, walk, segments] = &mut floats;
@@ -125,6 +126,7 @@ pub fn build(parts: &Parts, image: &Image, lent: Buffers) -> (u32, Answer) {
             path: path.lend(),
             walk: walk.lend(),
             segments: segments.lend(),
+            owners: owners.lend(),
             row_starts: row_starts.lend(),
             entries: entries.lend(),
         };
@@ -137,6 +139,7 @@ pub fn build(parts: &Parts, image: &Image, lent: Buffers) -> (u32, Answer) {
     {
         guarded.back_to(buffer);
     }
+    owners.back_to(lent.owners);
     for (buffer, guarded) in [lent.row_starts, lent.entries].into_iter().zip(numbers) {
         guarded.back_to(buffer);
     }

@@ -23,6 +23,18 @@ impl Cell for u32 {
     }
 }
 
+impl Cell for u64 {
+    const ZERO: u64 = 0;
+
+    fn other(index: usize) -> u64 {
+        u64::from(u32::other(index)) << 32 | u64::from(u32::other(index + 1))
+    }
+
+    fn same(self, other: u64) -> bool {
+        self == other
+    }
+}
+
 impl Cell for i32 {
     const ZERO: i32 = 0;
 

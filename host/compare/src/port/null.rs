@@ -213,6 +213,7 @@ struct Rooms {
     path: Vec<f32>,
     walk: Vec<f32>,
     segments: Vec<f32>,
+    owners: Vec<u64>,
     row_starts: Vec<u32>,
     entries: Vec<u32>,
 }
@@ -223,6 +224,7 @@ impl Rooms {
             path: vec![7.0; 256],
             walk: vec![7.0; 256],
             segments: vec![7.0; 1024],
+            owners: vec![7; 128],
             row_starts: vec![7; SIDE as usize + 1],
             entries: vec![7; 4096],
         }
@@ -237,6 +239,7 @@ fn build_in(lender: &mut Lender, mut spline: Spline, rooms: &mut Rooms) -> (u32,
     let (path_at, path_len) = lender.lend(&mut rooms.path);
     let (walk_at, walk_len) = lender.lend(&mut rooms.walk);
     let (segments_at, segments_len) = lender.lend(&mut rooms.segments);
+    let (owners_at, owners_len) = lender.lend(&mut rooms.owners);
     let (row_starts_at, row_starts_len) = lender.lend(&mut rooms.row_starts);
     let (entries_at, entries_len) = lender.lend(&mut rooms.entries);
     let mut answer = UNFILLED;
@@ -264,6 +267,8 @@ fn build_in(lender: &mut Lender, mut spline: Spline, rooms: &mut Rooms) -> (u32,
             walk_len,
             segments_at,
             segments_len,
+            owners_at,
+            owners_len,
             row_starts_at,
             row_starts_len,
             entries_at,
@@ -279,6 +284,8 @@ fn told_of_build(lender: &mut Lender, spline: Spline) -> Told {
     let (code, answer) = build_in(lender, spline, &mut rooms);
     let floats = [&rooms.path, &rooms.walk, &rooms.segments];
     let left = floats.into_iter().flat_map(|floats| bits(floats));
+    let halves = |&owner: &u64| [owner as u32, (owner >> 32) as u32];
+    let left = left.chain(rooms.owners.iter().flat_map(halves));
     let left = left.chain(rooms.row_starts.iter().copied());
     Told {
         code,

@@ -328,7 +328,7 @@ fn float_sum() -> bool {
             segments: vec![segment],
             row_starts: vec![0, 1],
             entries: vec![0],
-            estimate: 0,
+            ..Table::default()
         };
         let channel = || vec![-0.0f32];
         oracle::draw(&table, 0, 0, [channel(), channel(), channel()])

@@ -384,7 +384,7 @@ fn columns_of(cx: f32, d: f32) -> Vec<usize> {
         segments,
         row_starts: vec![0, 1],
         entries: vec![0],
-        estimate: 0,
+        ..Table::default()
     };
     let channel = || vec![f32::MIN_POSITIVE; 8];
     let drawn = oracle::draw(&table, 0, 0, [channel(), channel(), channel()]);

@@ -311,6 +311,7 @@ pub(crate) fn build(description: &Description, given: &Given) -> Outcome<Built> 
     let mut splines = splines_of(description);
     initialize(&mut splines, given).map(|()| Built {
         table: Table {
+            owners: owners(description, given, splines.segments.len()),
             estimate: estimate(&splines, given),
             ..table_of(&splines)
         },
@@ -318,7 +319,42 @@ pub(crate) fn build(description: &Description, given: &Given) -> Outcome<Built> 
     })
 }
 
-/// The table that stands in `splines`, whole or not, without the estimate.
+/// The number of each segment's spline, of a build that was done with so many segments. The original keeps none: each spline is
+/// built alone, and so many segments as it makes then are its own.
+fn owners(description: &Description, given: &Given, segments: usize) -> Vec<u64> {
+    let alone = (0..).zip(each_alone(description));
+    let owners: Vec<u64> = alone
+        .flat_map(|(number, alone)| {
+            let mut splines = splines_of(&alone);
+            let built = initialize(&mut splines, given);
+            assert_eq!(built, Outcome::Done(()), "spline {number} is built alone");
+            std::iter::repeat(number).take(splines.segments.len())
+        })
+        .collect();
+    assert_eq!(owners.len(), segments, "each segment has a spline");
+    owners
+}
+
+/// Each spline as a description of its own.
+fn each_alone(description: &Description) -> impl Iterator<Item = Description> + '_ {
+    let mut rest = &description.deltas[..];
+    let starts = description.starts.chunks_exact(2);
+    let coefficients = description.coefficients.chunks_exact(128);
+    let splines = description.counts.iter().zip(starts).zip(coefficients);
+    splines.map(move |((&count, start), coefficients)| {
+        let (own, others) = rest.split_at(2 * count as usize);
+        rest = others;
+        Description {
+            counts: vec![count],
+            starts: start.to_vec(),
+            deltas: own.to_vec(),
+            coefficients: coefficients.to_vec(),
+            adjustment: description.adjustment,
+        }
+    })
+}
+
+/// The table that stands in `splines`, whole or not, without owners and the estimate.
 fn table_of(splines: &Splines) -> Table {
     let small = |number: u64| {
         u32::try_from(number).expect("a table that fits the memory has 32-bit numbers")
@@ -332,7 +368,7 @@ fn table_of(splines: &Splines) -> Table {
             .map(|&start| small(start))
             .collect(),
         entries: entries.map(|&index| small(index as u64)).collect(),
-        estimate: 0,
+        ..Table::default()
     }
 }
 

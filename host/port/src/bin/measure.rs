@@ -135,6 +135,7 @@ struct Picture {
     path: Vec<f32>,
     walk: Vec<f32>,
     segments: Vec<f32>,
+    owners: Vec<u64>,
     row_starts: Vec<u32>,
     entries: Vec<u32>,
     told: [u32; 2],
@@ -161,6 +162,7 @@ impl Picture {
             path: vec![0.0; 1 << 10],
             walk: vec![0.0; 1 << 10],
             segments: vec![0.0; 8 * 64 * splines],
+            owners: vec![0; 64 * splines],
             row_starts: vec![0; SIDE as usize + 1],
             entries: vec![0; 64 * 64 * splines],
             told: [0; 2],
@@ -185,6 +187,7 @@ impl Picture {
             path: &mut self.path,
             walk: &mut self.walk,
             segments: &mut self.segments,
+            owners: &mut self.owners,
             row_starts: &mut self.row_starts,
             entries: &mut self.entries,
         };

@@ -12,8 +12,8 @@ use cases::{Code, FlatTable, Given, Refusal, Table};
 use model::BuildRooms;
 use oracle::Outcome;
 
-/// Most cells of path, walk, segments, row starts and entries.
-const MOST_ROOMS: [usize; 5] = [2000, 6000, 16_000, 1100, 20_000];
+/// Most cells of path, walk, segments, owners, row starts and entries.
+const MOST_ROOMS: [usize; 6] = [2000, 6000, 16_000, 2000, 1100, 20_000];
 
 pub fn build(bytes: &mut Bytes) {
     let rooms = rooms(MOST_ROOMS.map(|most| bytes.length(most) as u64));
@@ -37,11 +37,12 @@ pub fn build(bytes: &mut Bytes) {
     draw_part(&FlatTable::from(&table), y, x0, n.into(), &channels);
 }
 
-fn rooms([path, walk, segments, row_starts, entries]: [u64; 5]) -> BuildRooms {
+fn rooms([path, walk, segments, owners, row_starts, entries]: [u64; 6]) -> BuildRooms {
     BuildRooms {
         path,
         walk,
         segments,
+        owners,
         row_starts,
         entries,
     }
@@ -58,6 +59,7 @@ fn check_rooms(case: &BuildCase, table: &Table) {
         least.path,
         least.walk,
         least.segments,
+        least.owners,
         least.row_starts,
         least.entries,
     ];

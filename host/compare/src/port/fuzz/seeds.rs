@@ -20,7 +20,8 @@ pub fn seeds() -> Vec<(String, Vec<u8>)> {
     for (kind, seed) in each(&WRITE_KINDS, A_KIND) {
         seeds.push((format!("write-{kind}-{seed}"), write(kind, seed)));
     }
-    for (kind, seed) in each(&descriptions::KINDS, A_KIND) {
+    let builds = each(&descriptions::KINDS, A_KIND);
+    for (kind, seed) in builds.chain(each(&descriptions::OWNER_KINDS, A_KIND)) {
         seeds.push((format!("build-{kind}-{seed}"), build(kind, seed)));
     }
     for (kind, seed) in each(&TABLE_KINDS, A_KIND) {
@@ -65,7 +66,7 @@ fn build(kind: &str, seed: u64) -> Vec<u8> {
     put.byte(BUILD);
     put_all(
         &mut put,
-        &[200, 1200, 3200, 250, 4000, given.width, given.height],
+        &[200, 1200, 3200, 400, 250, 4000, given.width, given.height],
     );
     put.float(given.y_to_x);
     put.float(given.y_to_b);

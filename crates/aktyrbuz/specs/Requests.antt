@@ -1,0 +1,195 @@
+
+use mathlib.Core.Path.{_≡_}
+use mathlib.Core.Bool.{true, false}
+use mathlib.Core.Logic.{_↔_, _⊎_}
+use mathlib.Core.List.{List, []}
+use Prim.Native.Nat.{ℕ, suc, _≤_, _<_, _+_, _^_}
+use lib.IntN.{pos, ℤ}
+use lib.ListN.{length, getD, take}
+use lib.Ieee.{Float, fin}
+use Rattle.dequantize.specs.Judge.{Description}
+use Rattle.segments.specs.declared.Segment.{Segment}
+use Rattle.segments.specs.Segment.{segmentAt}
+use Rattle.segments.specs.Ranges.{hasRow, hasColumn}
+use Rattle.segments.specs.Readings.{spot}
+use Rattle.table.specs.Table.{Setting, BuildRooms, BuildOutcome, givenOf}
+use Rattle.checks.specs.Tables.{Table, rowOf}
+use Rattle.draw.specs.Draw.{Channels, DrawOutcome}
+use Rattle.draw.specs.Keeps.{Updates, SameCell}
+use Rattle.draw.specs.declared.DrawAnswer.{DrawAnswer}
+use Rattle.hull.specs.Reach.{ReachOutcome}
+use Rattle.hull.specs.declared.ReachAnswer.{ReachAnswer}
+use Rattle.aktyrbuz.specs.Calls.{DrawCall, ReachCall, KeptTable, RowRun, BuildDone}
+use lib.Signed.{_≤ℤ_}
+use Rattle.near.specs.Near.{Edge, apart, Tight, RowsBy, ColumnsBy, RowsNear, ColumnsNear, EveryFinite}
+use Rattle.picture.specs.Picture.{Found}
+use Rattle.painting.specs.Segments.{SplineMakes}
+use Rattle.table.specs.Segments.{MakesOwned}
+use Rattle.picture.specs.Owners.{segmentsIn, ownedBy, Ascending, Skipped}
+use Rattle.rows.specs.Rows as listing
+
+-- ---- (iii) the reach of a row
+
+-- an answer of reach that is done, for row y of a table and a width
+pub record Reaches (t : Table) (y W first past : ℕ) : Type 0 where
+  pub outcome : ReachOutcome
+  pub called : ReachCall t y W outcome
+  pub done : outcome .answer ≡ ReachAnswer.Done first past
+
+-- column x lies from the first up to, not including, the one past the last
+abbrev pub InReach : ℕ → ℕ → ℕ → Type 0
+InReach first past x = (first ≤ x) × (x < past)
+
+-- reach is empty: 0, 0
+abbrev pub NoReach : ℕ → ℕ → Type 0
+NoReach first past = (first ≡ 0) × (past ≡ 0)
+
+-- a segment of the description, by its number, has row y and column x
+pub record HasSegment (segments : List Segment) (y x : ℕ) : Type 0 where
+  pub number : ℕ
+  pub listed : number < length segments
+  pub row : hasRow (getD segments number (segmentAt [] 0)) y ≡ true
+  pub column : hasColumn (getD segments number (segmentAt [] 0)) x ≡ true
+
+-- when the whole row is drawn, with any cut and in any order, a column outside reach is in the columns of no segment of the row, and its three cells come back as they were
+pub record OutsideReachUntouched : Type 0 where
+  pub any : (t : Table) (y W first past : ℕ) → Reaches t y W first past → (a w : Channels) (sum : ℕ) → RowRun t y W a w sum
+      → (x : ℕ) → (InReach first past x → ⊥) → (Updates t y 0 W x → ⊥) × SameCell x a w
+  pub built : (d : Description) (i : Setting) (segments : List Segment) (t : Table) → KeptTable d i segments t
+      → (y W first past : ℕ) → Reaches t y W first past → (a w : Channels) (sum : ℕ) → RowRun t y W a w sum
+      → (x : ℕ) → x < W → (InReach first past x → ⊥) → (HasSegment segments y x → ⊥) × SameCell x a w
+
+-- the first and the last column of a reach that is not empty, each with what holds of it
+pub record BothEnds (Holds : ℕ → Type 0) (W first past : ℕ) : Type 0 where
+  pub last : ℕ
+  pub ends : suc last ≡ past
+  pub ordered : first ≤ last
+  pub inside : past ≤ W
+  pub at-first : Holds first
+  pub at-last : Holds last
+
+-- unless reach is empty, its first and its last column each have a listed segment of the row, so an update; drawn alone, such a column counts one at least
+pub record ReachEndsUpdated : Type 0 where
+  pub any : (t : Table) (y W first past : ℕ) → Reaches t y W first past → (NoReach first past → ⊥) → BothEnds (Updates t y 0 W) W first past
+  pub built : (d : Description) (i : Setting) (segments : List Segment) (t : Table) → KeptTable d i segments t
+      → (y W first past : ℕ) → Reaches t y W first past → (NoReach first past → ⊥) → BothEnds (HasSegment segments y) W first past
+  pub counted : (t : Table) (y W x : ℕ) → Updates t y 0 W x → (a : Channels) (o : DrawOutcome) (n : ℕ) → DrawCall t y x 1 a o → o .answer ≡ DrawAnswer.Done n → 0 < n
+
+-- reach is 0, 0 exactly when no segment of the row has a column below the width
+pub record ReachEmptyExactly : Type 0 where
+  pub any : (t : Table) (y W first past : ℕ) → Reaches t y W first past → NoReach first past ↔ ((x : ℕ) → Updates t y 0 W x → ⊥)
+  pub built : (d : Description) (i : Setting) (segments : List Segment) (t : Table) → KeptTable d i segments t
+      → (y W first past : ℕ) → Reaches t y W first past → NoReach first past ↔ ((x : ℕ) → x < W → HasSegment segments y x → ⊥)
+
+-- a strand wholly left of the picture changes column 0, and reach says so: a segment at -5 with the distance 2, wherever it lies and whatever else the row lists
+abbrev pub LeftEdgeReached : Type 0
+LeftEdgeReached =
+    (t : Table) (y W first past : ℕ) → Reaches t y W first past → 0 < W → (j : ℕ) → j < length (rowOf t y) → (cy : Float)
+    → segmentAt (t .segments) (getD (rowOf t y) j 0) ≡ spot (fin true 5 (pos 0)) cy (fin false 1 (pos 1)) → InReach first past 0
+
+-- ---- (v) the number of a segment's spline
+
+-- a build that is done leaves the owners of the segments that the description makes, one for each, and zeros behind them
+pub record OwnersOf (r : BuildRooms) (o : BuildOutcome) (s : ℕ) (owners : List ℕ) : Type 0 where
+  pub count : length owners ≡ s
+  pub cells : o .owners ≡ listing.padded (r .owners) owners
+
+abbrev pub OwnersLeft : Type 0
+OwnersLeft =
+    (d : Description) (i : Setting) (r : BuildRooms) (o : BuildOutcome) (s e estimate : ℕ) → BuildDone d i r o s e estimate
+    → (segments : List Segment) (owners : List ℕ) → MakesOwned d i segments owners → OwnersOf r o s owners
+
+-- the owner never falls from one segment to the next, and it is the number of a spline
+abbrev pub OwnersAscend : Type 0
+OwnersAscend =
+    (d : Description) (i : Setting) (r : BuildRooms) (o : BuildOutcome) (s e estimate : ℕ) → BuildDone d i r o s e estimate → Ascending (length (d .counts)) s (o .owners)
+
+-- the segments of the table with the owner k, in their order, are those that the spline k makes, which are the only ones
+pub record SplineOwns (d : Description) (i : Setting) (o : BuildOutcome) (s k : ℕ) : Type 0 where
+  pub own : List Segment
+  pub makes : SplineMakes d (givenOf i) (i .high) k own
+  pub only : (others : List Segment) → SplineMakes d (givenOf i) (i .high) k others → others ≡ own
+  pub are : ownedBy k (take s (o .owners)) (segmentsIn (o .segments) 0 s) ≡ own
+
+abbrev pub OwnerIsSpline : Type 0
+OwnerIsSpline =
+    (d : Description) (i : Setting) (r : BuildRooms) (o : BuildOutcome) (s e estimate : ℕ) → BuildDone d i r o s e estimate → (k : ℕ) → k < length (d .counts) → SplineOwns d i o s k
+
+-- no segment of the table has the owner k
+abbrev pub NoOwner : ℕ → ℕ → BuildOutcome → Type 0
+NoOwner k s o = (j : ℕ) → j < s → getD (o .owners) j 0 ≡ k → ⊥
+
+-- so it is where the spline k is skipped, as one with no double delta is
+pub record SkippedHasNone : Type 0 where
+  pub skipped : (d : Description) (i : Setting) (r : BuildRooms) (o : BuildOutcome) (s e estimate : ℕ) → BuildDone d i r o s e estimate
+      → (k : ℕ) → Skipped d k → NoOwner k s o
+  pub no-deltas : (d : Description) (i : Setting) (r : BuildRooms) (o : BuildOutcome) (s e estimate : ℕ) → BuildDone d i r o s e estimate
+      → (k : ℕ) → k < length (d .counts) → getD (d .counts) k 0 ≡ 0 → Skipped d k
+
+-- ---- (xiii) how near a listed row is
+
+-- Centres c and distances d are whole numbers over one 2 ^ k, and `apart k c y` is how far row or column y is from c, over it: nothing is rounded.
+-- `Edge` has the premises: both finite, d at least 0, |c| + d at most 2 ^ 22.
+
+-- of every segment, rows and columns: what is no farther than d - 1 is among them, and none of them is farther than d + 1; more than was asked, what is nearer than d + 3/8 is, and none is farther than d + 5/8;
+-- and every finite f32 is a whole number over 2 ^ 149
+pub record SegmentsNear : Type 0 where
+  pub rows : RowsNear
+  pub columns : ColumnsNear
+  pub rows-tight : RowsBy Tight
+  pub columns-tight : ColumnsBy Tight
+  pub finite : EveryFinite
+
+-- as a certificate quotes it, of segment j of a kept table: every image row no farther than d - 1 from its centre lists it, and no row that lists it is farther than d + 1
+pub record ListedNear (t : Table) (height j k : ℕ) (c : ℤ) (d : ℕ) : Type 0 where
+  pub inside : (y : ℕ) → y < height → apart k c y + 2 ^ k ≤ d → Found (rowOf t y) j
+  pub outside : (y : ℕ) → y < height → Found (rowOf t y) j → apart k c y ≤ d + 2 ^ k
+
+abbrev pub TablesNear : Type 0
+TablesNear =
+    (d : Description) (i : Setting) (segments : List Segment) (t : Table) → KeptTable d i segments t
+    → (j : ℕ) → j < t .segmentCount → (k : ℕ) (c : ℤ) (far : ℕ) → Edge (segmentAt (t .segments) j .«center_y») (segmentAt (t .segments) j .«maximum_distance») k c far
+    → ListedNear t (i .height) j k c far
+
+-- how far a is from d, where 1 is `one`: no farther than d - 1, and farther than d + 1
+abbrev pub Inside : ℕ → ℕ → ℕ → Type 0
+Inside one d a = a + one ≤ d
+
+abbrev pub Beyond : ℕ → ℕ → ℕ → Type 0
+Beyond one d a = d + one < a
+
+-- row y is so far from a segment's centre, under the premises
+pub record RowIs (So : ℕ → ℕ → ℕ → Type 0) (s : Segment) (y : ℕ) : Type 0 where
+  pub k : ℕ
+  pub c : ℤ
+  pub d : ℕ
+  pub edge : Edge (s .«center_y») (s .«maximum_distance») k c d
+  pub is : So (2 ^ k) d (apart k c y)
+
+-- column x is
+pub record ColumnIs (So : ℕ → ℕ → ℕ → Type 0) (s : Segment) (x : ℕ) : Type 0 where
+  pub k : ℕ
+  pub c : ℤ
+  pub d : ℕ
+  pub edge : Edge (s .«center_x») (s .«maximum_distance») k c d
+  pub clear : pos (d + 2 ^ k) ≤ℤ c
+  pub is : So (2 ^ k) d (apart k c x)
+
+-- a drawing of n pixels of row y from column x0 on updates cell x by segment j
+pub record UpdatesBy (t : Table) (y x0 n x j : ℕ) : Type 0 where
+  pub updates : Updates t y x0 n x
+  pub by : getD (rowOf t y) (updates .entry) 0 ≡ j
+
+-- a pixel in row y is farther than d + 1 from segment j of a table, by its row or by its column x
+abbrev pub Clear : Table → ℕ → ℕ → ℕ → Type 0
+Clear t y x j = RowIs Beyond (segmentAt (t .segments) j) y ⊎ ColumnIs Beyond (segmentAt (t .segments) j) x
+
+-- what a drawing of a row of a kept table updates: a segment updates the pixels of the part that are no farther than d - 1 from its centre by row and by column, and none that is farther than d + 1
+-- by either; so a pixel that is so far from every segment comes back as it was
+pub record DrawingsNear : Type 0 where
+  pub inside : (d : Description) (i : Setting) (segments : List Segment) (t : Table) → KeptTable d i segments t → (y x0 n x j : ℕ) → y < i .height → x < n → j < t .segmentCount
+      → RowIs Inside (segmentAt (t .segments) j) y → ColumnIs Inside (segmentAt (t .segments) j) (x0 + x) → UpdatesBy t y x0 n x j
+  pub outside : (d : Description) (i : Setting) (segments : List Segment) (t : Table) → KeptTable d i segments t → (y x0 n x j : ℕ) → y < i .height
+      → Clear t y (x0 + x) j → UpdatesBy t y x0 n x j → ⊥
+  pub kept : (d : Description) (i : Setting) (segments : List Segment) (t : Table) → KeptTable d i segments t
+      → (y x0 n : ℕ) (a : Channels) (o : DrawOutcome) → y < i .height → DrawCall t y x0 n a o → (x : ℕ) → ((j : ℕ) → j < t .segmentCount → Clear t y (x0 + x) j) → SameCell x a (o .channels)

@@ -1,0 +1,181 @@
+// The table of a description, built in fixed rooms, and what is asked of it: its rows, a picture, or the traces that have a pixel.
+mod touching;
+
+ghost use Prim.Native.Nat.{_≤_};
+use canvas::Asked;
+use canvas::Task;
+use codes::Code;
+use table::BuildAnswer;
+
+const PATH: usize = 16384;
+
+const WALK: usize = 49152;
+
+const SEGMENTS: usize = 393216;
+
+// One for each segment that has room.
+const OWNERS: usize = 49152;
+
+const ROW_STARTS: usize = 16385;
+
+const ENTRIES: usize = 524288;
+
+fn say_built(segments: u32, entries: u32, estimate: u64) -> u8
+    ensures { λ r. ⌜ r ≤ 3 ⌝ }
+{
+    words::out(
+        b"# segments, # entries, estimate #\n",
+        &[segments as u64, entries as u64, estimate],
+    )
+}
+
+// What is asked of a table of these counts.
+fn perform(
+    segments: &[f32],
+    owners: &[u64],
+    segment_count: u32,
+    entries: &[u32],
+    entry_count: u32,
+    row_starts: &[u32],
+    estimate: u64,
+    task: Task,
+) -> u8
+    ensures { λ r. ⌜ r ≤ 3 ⌝ }
+{
+    let asked = task.asked;
+    if let Asked::Touch(x, y) = asked {
+        return touching::say(segments, owners, segment_count, x, y);
+    }
+    let status = say_built(segment_count, entry_count, estimate);
+    if status != 0 {
+        return status;
+    }
+    match asked {
+        Asked::Picture => canvas::draw(
+            segments,
+            segment_count,
+            entries,
+            entry_count,
+            row_starts,
+            task,
+        ),
+        _ => canvas::rows(
+            segments,
+            segment_count,
+            entries,
+            entry_count,
+            row_starts,
+            task,
+        ),
+    }
+}
+
+fn refuse(code: Code, place: usize) -> u8
+    ensures { λ r. ⌜ r ≤ 3 ⌝ }
+{
+    words::of_building(code, place)
+}
+
+// In lent rooms. X gains nothing of Y and B all of it, as usual; the precision that is asked for, and the lesser area limit.
+fn build_in(
+    counts: &[u32],
+    starts: &[f32],
+    deltas: &[i32],
+    coefficients: &[i32],
+    adjustment: i32,
+    task: Task,
+    path: &mut [f32],
+    walk: &mut [f32],
+    segments: &mut [f32],
+    owners: &mut [u64],
+    row_starts: &mut [u32],
+    entries: &mut [u32],
+) -> u8
+    ensures { λ r. ⌜ r ≤ 3 ⌝ }
+{
+    let width = task.width;
+    let height = task.height;
+    let high = task.high;
+    match table::build(
+        counts,
+        starts,
+        deltas,
+        coefficients,
+        adjustment,
+        width,
+        height,
+        0.0,
+        1.0,
+        high,
+        false,
+        path,
+        walk,
+        segments,
+        owners,
+        row_starts,
+        entries,
+    ) {
+        BuildAnswer::Refused(code, place) => {
+            if codes::number_of(code) == 7 {
+                shortage::say(
+                    counts,
+                    starts,
+                    deltas,
+                    coefficients,
+                    adjustment,
+                    height,
+                    high,
+                    path,
+                    walk,
+                    segments,
+                    owners,
+                )
+            } else {
+                refuse(code, place)
+            }
+        }
+        BuildAnswer::Done(made, listed, estimate) => perform(
+            segments,
+            owners,
+            made,
+            entries,
+            listed,
+            row_starts,
+            estimate,
+            task,
+        ),
+    }
+}
+
+// What is asked of the table of a description; the status.
+pub fn build(
+    counts: &[u32],
+    starts: &[f32],
+    deltas: &[i32],
+    coefficients: &[i32],
+    adjustment: i32,
+    task: Task,
+) -> u8
+    ensures { λ r. ⌜ r ≤ 3 ⌝ }
+{
+    let mut path = [0.0f32; PATH];
+    let mut walk = [0.0f32; WALK];
+    let mut segments = [0.0f32; SEGMENTS];
+    let mut owners = [0u64; OWNERS];
+    let mut row_starts = [0u32; ROW_STARTS];
+    let mut entries = [0u32; ENTRIES];
+    build_in(
+        counts,
+        starts,
+        deltas,
+        coefficients,
+        adjustment,
+        task,
+        &mut path,
+        &mut walk,
+        &mut segments,
+        &mut owners,
+        &mut row_starts,
+        &mut entries,
+    )
+}

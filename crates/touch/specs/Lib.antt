@@ -1,0 +1,3 @@
+-- The definitions of the crate `touch`.
+pub mod Touch
+pub mod Laws
