@@ -87,8 +87,9 @@ uint32_t aktyrbuz_draw(const float *segments, size_t segments_len, uint32_t segm
                        uint32_t y, uint32_t x0, uint32_t n,
                        float *r0, size_t r0_len, float *r1, size_t r1_len, float *r2, size_t r2_len, int64_t answer[5]);
 
-/* The columns of row y that its segments reach, in an image of this width.
- * Place: 0. Counts: the first column and one past the last; 0 and 0 if there are none. */
+/* The columns that drawing row y touches in an image of this width: from the first to the last of them. When the row is drawn whole, no column outside is
+ * updated, and the first and the last one are. What lies wholly left of the image touches column 0, as in drawing.
+ * Place: 0. Counts: the first column and one past the last; 0 and 0 if drawing touches none. */
 uint32_t aktyrbuz_reach(const float *segments, size_t segments_len, uint32_t segment_count,
                         const uint32_t *entries, size_t entries_len, uint32_t entry_count,
                         const uint32_t *row_starts, size_t row_starts_len, uint32_t height,

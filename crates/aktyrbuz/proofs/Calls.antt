@@ -21,8 +21,8 @@ use Rattle.draw.specs.Parts.{Part, Draws, Drawn}
 use Rattle.draw.specs.Parts as parts
 use Rattle.draw.specs.Image.{Job, DrawnAll}
 use Rattle.draw.specs.Image as images
-use Rattle.draw.specs.Reach.{ReachOutcome, reachOf}
-use Rattle.draw.specs.Reach as reaching
+use Rattle.hull.specs.Reach.{ReachOutcome, reachOf}
+use Rattle.hull.specs.Reach as reaching
 use Rattle.aktyrbuz.specs.Calls.{ReadCall, reads, WriteCall, writes, BuildCall, builds, DrawCall, draws, ReachCall, reaches, LnCall, logs, BuildDone, KeptTable, PartCall, RowCalls, ImageCalls}
 use Rattle.aktyrbuz.specs.Calls as calls
 

@@ -18,15 +18,17 @@ use Rattle.writer.specs.declared.WriteAnswer.{WriteAnswer}
 use Rattle.roundtrip.proofs.RoundTrip.{written-then-read, read-then-written}
 use Rattle.draw.specs.Draw as drawing
 use Rattle.draw.specs.Image.{mostPairs}
-use Rattle.draw.specs.Reach as reaching
+use Rattle.hull.specs.Reach as reaching
 use Rattle.draw.specs.declared.DrawAnswer.{DrawAnswer}
-use Rattle.draw.specs.declared.ReachAnswer.{ReachAnswer}
-use Rattle.draw.specs.declared.Verdict.{Verdict as Judged}
-use Rattle.draw.specs.declared.Verdict.the-variants as judged
+use Rattle.hull.specs.declared.ReachAnswer.{ReachAnswer}
+use Rattle.checks.specs.declared.Verdict.{Verdict as Judged}
+use Rattle.checks.specs.declared.Verdict.the-variants as judged
 use Rattle.table.specs.Table as building
 use Rattle.table.proofs.Users as building-laws
 use Rattle.draw.proofs.Refusals as refusals
-use Rattle.draw.proofs.Alike.{drawn-alike, reached-alike}
+use Rattle.draw.proofs.Alike.{drawn-alike}
+use Rattle.hull.proofs.Refusals as reach-refusals
+use Rattle.hull.proofs.Alike.{reached-alike}
 use Rattle.draw.proofs.Keeps.{keeps-cells, keeps-lengths}
 use Rattle.picture.specs.Picture.{imagePairs}
 use Rattle.picture.proofs.Tables.{built-table}
@@ -167,11 +169,11 @@ pub reach-codes : ReachCodes
 reach-codes = record {
   exactly = λ t y W o d c p.
       let is = ap (λ (u : reaching.ReachOutcome). u .answer) (reach-equation t y W o d) in
-      let when = refusals.reach-refused-exactly t y W c p in
+      let when = reach-refusals.reach-refused-exactly t y W c p in
       (λ e. when .0 (sym is ∙ e), λ l. is ∙ when .1 l);
   told = λ t y W o d c p e.
       let is = ap (λ (u : reaching.ReachOutcome). u .answer) (reach-equation t y W o d) in
-      let place : p ≡ 0 = refusals.reach-place t y W (refusals.reach-refused-exactly t y W c p .0 (sym is ∙ e)) in
+      let place : p ≡ 0 = reach-refusals.reach-place t y W (reach-refusals.reach-refused-exactly t y W c p .0 (sym is ∙ e)) in
       ap (λ (u : reaching.ReachOutcome). u .told) (reach-told-by t y W o d) ∙ ap reaching.toldOf (e ∙ ap (ReachAnswer.Refused c) place);
 }
 

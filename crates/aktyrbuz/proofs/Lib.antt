@@ -3,4 +3,5 @@ pub mod Numbers
 pub mod Calls
 pub mod Readings
 pub mod Demands
+pub mod Requests
 pub mod ListCodes

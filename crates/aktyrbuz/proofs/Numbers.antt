@@ -15,9 +15,9 @@ use Rattle.writer.specs.declared.WriteAnswer.{WriteAnswer}
 use Rattle.table.specs.Table as Build
 use Rattle.table.specs.declared.BuildAnswer.{BuildAnswer}
 use Rattle.draw.specs.Draw as Draw
-use Rattle.draw.specs.Reach as Reach
+use Rattle.hull.specs.Reach as Reach
 use Rattle.draw.specs.declared.DrawAnswer.{DrawAnswer}
-use Rattle.draw.specs.declared.ReachAnswer.{ReachAnswer}
+use Rattle.hull.specs.declared.ReachAnswer.{ReachAnswer}
 use Rattle.aktyrbuz.specs.declared.Told.{Told}
 use Rattle.aktyrbuz.specs.Exported.{signedOf, toldIn, toldRead, toldWrite, toldBuild, toldDraw, toldReach, readLeaves, readExport, writeLeaves, writeExport, buildLeaves, buildExport, drawLeaves, drawExport, reachLeaves, reachExport}
 

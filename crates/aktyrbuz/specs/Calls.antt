@@ -24,13 +24,13 @@ use Rattle.draw.specs.Draw.{Table, tableOf, Channels, three, DrawOutcome, leave
 use Rattle.segments.specs.declared.Segment.{Segment}
 use Rattle.table.specs.Segments.{Makes}
 use Rattle.picture.specs.Picture.{built}
-use Rattle.draw.specs.Alike.{Kept}
+use Rattle.checks.specs.Alike.{Kept}
 use Rattle.draw.specs.Parts.{Part, cuts, total, cellsOf, placedIn, Wide}
 use Rattle.draw.specs.Image.{Job, job, jobs, Each, withRow}
 use Rattle.draw.specs.Image as drawing
-use Rattle.draw.specs.Reach.{ReachOutcome, tells}
+use Rattle.hull.specs.Reach.{ReachOutcome, tells}
 use Rattle.draw.proofs.draw.Reads as draw
-use Rattle.draw.proofs.reach.Reads as reach
+use Rattle.hull.proofs.reach.Reads as reach
 
 -- ---- outcomes that a contract allows
 

@@ -40,14 +40,16 @@ use Rattle.table.specs.Refusals.{BuildRefusal}
 use Rattle.table.specs.declared.BuildAnswer.{BuildAnswer}
 use Rattle.picture.specs.Picture.{BuiltTable, Lists, rowPairs, imagePairs, RowPicture}
 use Rattle.draw.specs.Draw.{Table, rowOf, Channels, DrawOutcome, drawOf}
-use Rattle.draw.specs.Refusals.{SpanFits, DrawRefusal, ReachRefusal}
-use Rattle.draw.specs.Alike.{AlikeIn}
+use Rattle.checks.specs.Refusals.{SpanFits}
+use Rattle.checks.specs.Alike.{AlikeIn}
+use Rattle.draw.specs.Refusals.{DrawRefusal}
 use Rattle.draw.specs.Keeps.{Updates, SameCell, SameLengths}
 use Rattle.draw.specs.Image.{mostPairs}
 use Rattle.draw.specs.Image as drawing
 use Rattle.draw.specs.declared.DrawAnswer.{DrawAnswer}
-use Rattle.draw.specs.declared.ReachAnswer.{ReachAnswer}
-use Rattle.draw.specs.Reach.{ReachOutcome, reachOf}
+use Rattle.hull.specs.declared.ReachAnswer.{ReachAnswer}
+use Rattle.hull.specs.Refusals.{ReachRefusal}
+use Rattle.hull.specs.Reach.{ReachOutcome, reachOf}
 use Rattle.aktyrbuz.specs.ListCodes.{ReadCodes, WriteCodes}
 use Rattle.aktyrbuz.specs.Calls.{ReadCall, WriteCall, BuildCall, DrawCall, ReachCall, LnCall, BuildDone, KeptTable, RowRun, ImageRun}
 
@@ -102,7 +104,7 @@ pub record EnoughRoomIsDone : Type 0 where
 abbrev pub DrawsAsSplineRs : Type 0
 DrawsAsSplineRs = (t : Table) (y x0 n : ℕ) (a : Channels) (o : DrawOutcome) → DrawCall t y x0 n a o → o ≡ drawOf t y x0 n a
 
--- `reach` answers the columns of a row by the scope's rule
+-- `reach` answers the hull of the columns that drawing the row would touch, with the checks in their order
 abbrev pub ReachesByTheRule : Type 0
 ReachesByTheRule = (t : Table) (y W : ℕ) (o : ReachOutcome) → ReachCall t y W o → o ≡ reachOf t y W
 

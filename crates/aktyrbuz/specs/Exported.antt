@@ -13,9 +13,9 @@ use Rattle.writer.specs.declared.WriteAnswer.{WriteAnswer}
 use Rattle.table.specs.Table.{BuildOutcome}
 use Rattle.table.specs.declared.BuildAnswer.{BuildAnswer}
 use Rattle.draw.specs.Draw.{Channels, DrawOutcome}
-use Rattle.draw.specs.Reach.{ReachOutcome}
+use Rattle.hull.specs.Reach.{ReachOutcome}
 use Rattle.draw.specs.declared.DrawAnswer.{DrawAnswer}
-use Rattle.draw.specs.declared.ReachAnswer.{ReachAnswer}
+use Rattle.hull.specs.declared.ReachAnswer.{ReachAnswer}
 use Rattle.aktyrbuz.specs.declared.Told.{Told}
 
 -- a number as an int64_t

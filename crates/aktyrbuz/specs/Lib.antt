@@ -2,4 +2,5 @@
 pub mod Exported
 pub mod Calls
 pub mod Demands
+pub mod Requests
 pub mod ListCodes

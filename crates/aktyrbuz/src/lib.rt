@@ -9,11 +9,11 @@ ghost use Rattle.dequantize.specs.Judge.{descriptionOf};
 ghost use Rattle.table.specs.Table.{settingOf, buildOf};
 ghost use Rattle.table.specs.Table as build;
 ghost use Rattle.draw.specs.Draw.{tableOf, three, drawOf};
-ghost use Rattle.draw.specs.Reach.{reachOf};
+ghost use Rattle.hull.specs.Reach.{reachOf};
 ghost use Rattle.aktyrbuz.specs.Exported.{signedOf, toldIn, toldRefusal, toldRead, toldWrite, toldBuild, toldDraw, toldReach, readLeaves, readExport, writeLeaves, writeExport, buildLeaves, buildExport, drawLeaves, drawExport, reachLeaves, reachExport};
 use codes::Code;
 use draw::DrawAnswer;
-use draw::ReachAnswer;
+use hull::ReachAnswer;
 use reader::ReadAnswer;
 use table::BuildAnswer;
 use writer::WriteAnswer;
@@ -306,7 +306,7 @@ pub extern "C" fn aktyrbuz_reach(
     ensures { λ r. ⌜ reachLeaves r (now (answer .exit))
         ≡ reachExport (reachOf (tableOf (now (segments .entry)) «segment_count» (now (entries .entry)) «entry_count» (now («row_starts» .entry)) height) y width) ⌝ }
 {
-    let told = told_reach(draw::reach(
+    let told = told_reach(hull::reach(
         segments,
         segment_count,
         entries,

@@ -2,7 +2,7 @@
 ghost use Prim.Native.Nat.{_≤_, _<_};
 ghost use lib.ListN.{length};
 use draw::DrawAnswer;
-use draw::ReachAnswer;
+use hull::ReachAnswer;
 
 // The pixels that are drawn at a time, and the bytes that they take at most.
 const STRIP: u32 = 2048;
@@ -307,7 +307,7 @@ fn reach_row(
     }
     let height = task.height;
     let width = task.width;
-    match draw::reach(
+    match hull::reach(
         segments,
         segment_count,
         entries,

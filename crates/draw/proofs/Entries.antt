@@ -1,52 +1,20 @@
 -- Laws of a row's entries, taken from the front: what is still to be drawn and to be counted after each of them.
-use mathlib.Core.Path.{_≡_, refl, sym, ap, _∙_, subst}
-use mathlib.Core.Bool.{Bool, true, false, cond, _&&_}
+use mathlib.Core.Path.{_≡_, refl, sym, ap, _∙_}
+use mathlib.Core.Bool.{Bool, true, false, cond}
 use mathlib.Core.List.{List, [], _∷_}
 use Prim.Native.Nat.{ℕ, zero, suc, _+_, _*_, _^_, _<_, _≤_}
-use native.Mathlib.Nat.{le-trans, le-antisymm, suc-mul, mul-le-mul-left, mul-le-mul-right}
-use native.Mathlib.Numerals.{add-one}
+use native.Mathlib.Nat.{le-trans, suc-mul, mul-le-mul-left, mul-le-mul-right}
 use native.Mathlib.Omega.{arith}
 use lib.ListN.{length, getD}
-use lib.Seq.{slice, slice-cons, slice-empty, length-slice}
+use lib.Seq.{slice, length-slice}
 use lib.Dec.{ltb}
 use lib.Ieee.{Float, nan}
-use borrow.Author.Tests.{ltb-true}
 use Rattle.segments.specs.Segment.{segmentAt}
 use Rattle.segments.specs.Ranges.{hasColumn}
 use Rattle.shade.specs.Edit.{edit, firstCells}
 use Rattle.shade.proofs.Edits.{is-edit, edit-cong, edit-edit}
-use Rattle.draw.specs.Draw.{shadedInColumn, pixel, count, updates, allBelow}
-
-pub slice-next : (i e : ℕ) (l : List ℕ) → i < e → e ≤ length l → slice i e l ≡ getD l i 0 ∷ slice (i + 1) e l
-slice-next i e l h k = rw (add-one i) (slice-cons i e l 0 h k)
-
-pub slice-none : (i e : ℕ) (l : List ℕ) → i ≤ e → e ≤ i → slice i e l ≡ []
-slice-none i e l h k = ap (λ (j : ℕ). slice j e l) (le-antisymm h k) ∙ slice-empty e l
-
-pub all-next : (m i e : ℕ) (l : List ℕ) → i < e → e ≤ length l → allBelow m (slice i e l) ≡ ltb (getD l i 0) m && allBelow m (slice (i + 1) e l)
-all-next m i e l h k = ap (allBelow m) (slice-next i e l h k)
-
-pub and-left : (a b : Bool) → a && b ≡ true → a ≡ true
-and-left true b h = refl
-and-left false b h = h
-
-pub and-right : (a b : Bool) → a && b ≡ true → b ≡ true
-and-right true b h = h
-and-right false b h = absurd (false-true h)
-  where
-    is-false : Bool → Type 0
-    is-false true = ⊥
-    is-false false = Unit
-
-    false-true : false ≡ true → ⊥
-    false-true p = subst is-false p tt
-
--- the first entry is below m, and so are the others
-pub first-below : (m i e : ℕ) (l : List ℕ) → i < e → e ≤ length l → allBelow m (slice i e l) ≡ true → getD l i 0 < m
-first-below m i e l h k p = ltb-true (getD l i 0) m (and-left (ltb (getD l i 0) m) (allBelow m (slice (i + 1) e l)) (sym (all-next m i e l h k) ∙ p))
-
-pub rest-below : (m i e : ℕ) (l : List ℕ) → i < e → e ≤ length l → allBelow m (slice i e l) ≡ true → allBelow m (slice (i + 1) e l) ≡ true
-rest-below m i e l h k p = and-right (ltb (getD l i 0) m) (allBelow m (slice (i + 1) e l)) (sym (all-next m i e l h k) ∙ p)
+use Rattle.checks.proofs.Entries.{slice-next, slice-none}
+use Rattle.draw.specs.Draw.{shadedInColumn, pixel, count, updates}
 
 bit : (b : Bool) → cond b 1 0 ≤ 1
 bit true = omega arith
@@ -96,9 +64,6 @@ pub rest-none : (c : ℕ) (segs : List Float) (y x0 n i e : ℕ) (l : List ℕ) 
 rest-none c segs y x0 n i e l xs h k =
     ap (λ (es : List ℕ). rest c segs y x0 n es xs) (slice-none i e l h k)
     ∙ sym (is-edit (firstCells n (λ j v. v)) xs xs refl (λ j m. sym (same-cond (ltb j n) (getD xs j nan))))
-
-pub all-none : (m i e : ℕ) (l : List ℕ) → i ≤ e → e ≤ i → allBelow m (slice i e l) ≡ true
-all-none m i e l h k = ap (allBelow m) (slice-none i e l h k)
 
 pub total-none : (segs : List Float) (x0 n i e : ℕ) (l : List ℕ) (total all : ℕ) → i ≤ e → e ≤ i → total + updates segs x0 n (slice i e l) ≡ all → total ≡ all
 total-none segs x0 n i e l total all h k p = omega (arith, ap (updates segs x0 n) (slice-none i e l h k))

@@ -2,7 +2,6 @@
 pub mod Columns
 pub mod Entries
 pub mod Checks
-pub mod Reaches
 pub mod Refusals
 pub mod Alike
 pub mod Keeps

@@ -14,11 +14,11 @@ use Rattle.segments.specs.Segment.{segmentAt}
 use Rattle.segments.specs.Ranges.{hasColumn}
 use Rattle.shade.specs.Edit.{edit, firstCells, inside}
 use Rattle.shade.proofs.Edits.{lt-or-ge, length-edit, getD-edit, is-edit, edit-cong, edit-edit, edit-part}
+use Rattle.checks.specs.declared.Verdict.{Verdict}
+use Rattle.checks.specs.declared.Verdict.the-variants.{Fine}
 use Rattle.draw.specs.Draw.{pixel, count, updates, Table, rowOf, countsGood, spanGood, rowGood, judgeOf, Channels, DrawOutcome, leaves, drawnChannel, outcome, drawOf}
 use Rattle.draw.specs.Parts.{Part, cuts, total, cells, placed, cellsOf, Wide, Draws, Drawn, none, more, Whole}
 use Rattle.draw.specs.declared.DrawAnswer.{DrawAnswer}
-use Rattle.draw.specs.declared.Verdict.{Verdict}
-use Rattle.draw.specs.declared.Verdict.the-variants.{Fine}
 
 -- ---- a sum over a list does not mind the order
 

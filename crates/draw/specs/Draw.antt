@@ -1,19 +1,20 @@
 -- `draw_segments` and `draw_segment_simd`: a part of a row drawn, with the checks in their order, the answer and every lent cell. Definitions only.
-use mathlib.Core.Bool.{Bool, true, false, cond, _&&_}
+use mathlib.Core.Bool.{Bool, cond, _&&_}
 use mathlib.Core.List.{List, [], _∷_, foldl}
-use Prim.Native.Nat.{ℕ, zero, suc, _+_, _*_, _^_}
+use Prim.Native.Nat.{ℕ, zero, suc, _+_}
 use lib.Dec.{leb, ltb}
-use lib.ListN.{length, getD}
-use lib.Seq.{slice}
+use lib.ListN.{length}
 use lib.Ieee.{Float}
 use Rattle.codes.specs.Codes.{numberOf}
-use Rattle.codes.specs.declared.Code.{Code}
 use Rattle.segments.specs.Segment.{segmentAt}
 use Rattle.segments.specs.Ranges.{hasColumn}
 use Rattle.shade.specs.Edit.{edit, firstCells}
 use Rattle.shade.specs.Shade.{shaded}
-use Rattle.draw.specs.declared.Verdict.{Verdict}
-use Rattle.draw.specs.declared.Verdict.the-variants.{Fine, Fault}
+use Rattle.checks.specs.declared.Verdict.{Verdict}
+use Rattle.checks.specs.declared.Verdict.the-variants.{Fine, Fault}
+pub use Rattle.checks.specs.Tables.{Table, tableOf, rowOf}
+pub use Rattle.checks.specs.Checks.{allBelow, rowGood, orFault}
+unfoldable pub use Rattle.checks.specs.Checks.{countsGood, spanGood, entriesGood, judgeOf}
 use Rattle.draw.specs.declared.DrawAnswer.{DrawAnswer}
 use Rattle.draw.specs.declared.DrawAnswer.the-variants.{Done, Refused}
 
@@ -40,75 +41,6 @@ count p x0 (suc n) = cond (p (x0 + n)) 1 0 + count p x0 n
 abbrev pub updates : List Float → ℕ → ℕ → List ℕ → ℕ
 updates segments x0 n [] = 0
 updates segments x0 n (i ∷ listed) = count (hasColumn (segmentAt segments i)) x0 n + updates segments x0 n listed
-
--- ---- tables
-
--- segments, entries and row starts, each in a buffer with the count in use; the row starts are one more than the rows
-pub record Table : Type 0 where
-  pub segments : List Float
-  pub segmentCount : ℕ
-  pub entries : List ℕ
-  pub entryCount : ℕ
-  pub rowStarts : List ℕ
-  pub height : ℕ
-
-abbrev pub tableOf : List Float → ℕ → List ℕ → ℕ → List ℕ → ℕ → Table
-tableOf segments segmentCount entries entryCount rowStarts height = record {
-  segments = segments;
-  segmentCount = segmentCount;
-  entries = entries;
-  entryCount = entryCount;
-  rowStarts = rowStarts;
-  height = height;
-}
-
--- the entries between the two starts of row y
-abbrev pub entriesOf : List ℕ → List ℕ → ℕ → List ℕ
-entriesOf rowStarts entries y = slice (getD rowStarts y 0) (getD rowStarts (y + 1) 0) entries
-
-abbrev pub rowOf : Table → ℕ → List ℕ
-rowOf t y = entriesOf (t .rowStarts) (t .entries) y
-
--- ---- checks
-
--- the counts are in the buffers and not above 2^24 segments, 2^30 entries and the height 2^23
-unfoldable pub countsGood : Table → Bool
-countsGood t =
-    leb (t .segmentCount) (2 ^ 24) && leb (8 * t .segmentCount) (length (t .segments))
-    && leb (t .entryCount) (2 ^ 30)
-    && leb (t .entryCount) (length (t .entries))
-    && leb (t .height) (2 ^ 23)
-    && leb (t .height + 1) (length (t .rowStarts))
-
--- n pixels from column x0 on are in the widest image and in channels of these lengths
-unfoldable pub spanGood : ℕ → ℕ → ℕ → ℕ → ℕ → Bool
-spanGood x0 n l0 l1 l2 = leb (x0 + n) (2 ^ 23) && leb n l0 && leb n l1 && leb n l2
-
-abbrev pub allBelow : ℕ → List ℕ → Bool
-allBelow m [] = true
-allBelow m (i ∷ is) = ltb i m && allBelow m is
-
--- the two starts of row y do not descend nor pass the entry count, and the row's entries name segments
-unfoldable pub entriesGood : List ℕ → ℕ → List ℕ → ℕ → ℕ → Bool
-entriesGood entries entryCount rowStarts segmentCount y =
-    leb (getD rowStarts y 0) (getD rowStarts (y + 1) 0) && leb (getD rowStarts (y + 1) 0) entryCount
-    && allBelow segmentCount (entriesOf rowStarts entries y)
-
-abbrev pub rowGood : Table → ℕ → Bool
-rowGood t y = entriesGood (t .entries) (t .entryCount) (t .rowStarts) (t .segmentCount) y
-
--- a check: where it fails its code is the answer, else what comes after it
-abbrev pub orFault : Bool → Code → Verdict → Verdict
-orFault true c after = after
-orFault false c after = Fault c
-
--- the checks of a row, in their order: the counts, the row, whether the span is good, and the row's entries
-abbrev pub judgeRow : Table → ℕ → Bool → Verdict
-judgeRow t y spanned =
-    orFault (countsGood t) Code.Table (orFault (ltb y (t .height)) Code.Row (orFault spanned Code.Span (orFault (rowGood t y) Code.Table Fine)))
-
-unfoldable pub judgeOf : Table → ℕ → ℕ → ℕ → ℕ → ℕ → ℕ → Verdict
-judgeOf t y x0 n l0 l1 l2 = judgeRow t y (spanGood x0 n l0 l1 l2)
 
 -- ---- the call
 

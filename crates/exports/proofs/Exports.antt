@@ -29,10 +29,10 @@ use Rattle.table.specs.Refusals.{painted}
 use Rattle.table.specs.Table as building
 use Rattle.draw.specs.Draw.{Table, tableOf, Channels, three, DrawOutcome, drawOf, judgeOf}
 use Rattle.draw.specs.Draw as drawing
-use Rattle.draw.specs.declared.Verdict.{Verdict as DrawVerdict}
-use Rattle.draw.specs.declared.Verdict.the-variants as drawn
-use Rattle.draw.specs.Reach.{ReachOutcome, reachOf}
-use Rattle.draw.specs.Reach as reaching
+use Rattle.checks.specs.declared.Verdict.{Verdict as DrawVerdict}
+use Rattle.checks.specs.declared.Verdict.the-variants as drawn
+use Rattle.hull.specs.Reach.{ReachOutcome, reachOf}
+use Rattle.hull.specs.Reach as reaching
 use Rattle.aktyrbuz.specs.Exported.{ReadExport, readExport, WriteExport, writeExport, BuildExport, buildExport, DrawExport, drawExport, ReachExport, reachExport}
 use Rattle.aktyrbuz.specs.Calls as calls
 use Rattle.exports.specs.Exports.{ReadExportCall, reads, WriteExportCall, writes, BuildExportCall, builds, DrawExportCall, draws, ReachExportCall, reaches, LnExportCall, logs, Tells, ExportsTellTheCalls, OneOutcomeExported}

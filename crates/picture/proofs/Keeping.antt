@@ -9,19 +9,21 @@ use lib.Ieee.{Float}
 use borrow.Author.Tests.{lt-ltb, le-leb}
 use Rattle.dequantize.specs.Judge.{Description}
 use Rattle.segments.specs.declared.Segment.{Segment}
+use Rattle.segments.specs.Segment.{segmentAt}
 use Rattle.segments.specs.Ranges.{hasRow}
 use Rattle.rows.specs.Rows.{inRow}
 use Rattle.table.specs.Table.{BuildRooms, Setting, BuildOutcome}
 use Rattle.draw.specs.Draw.{pixel, updates, Table, rowOf, countsGood, rowGood, judgeOf}
-use Rattle.draw.specs.Reach.{judgeReachOf}
-use Rattle.draw.specs.Refusals.{SpanFits}
-use Rattle.draw.specs.Alike.{AlikeIn, Kept}
-use Rattle.draw.specs.declared.Verdict.the-variants.{Fine}
-use Rattle.draw.proofs.Checks.{counts-facts, RowFacts, row-facts}
-use Rattle.draw.proofs.Refusals.{counts-fit, span-fits}
-use Rattle.draw.proofs.Alike.{alike-row, alike-pixel, alike-updates, kept-fits, kept-segment, kept-alike}
+use Rattle.hull.specs.Reach.{judgeReachOf}
+use Rattle.checks.specs.Refusals.{SpanFits}
+use Rattle.checks.specs.Alike.{AlikeIn, Kept}
+use Rattle.checks.specs.declared.Verdict.the-variants.{Fine}
+use Rattle.checks.proofs.Checks.{counts-facts, RowFacts, row-facts}
+use Rattle.checks.proofs.Refusals.{counts-fit, span-fits}
+use Rattle.checks.proofs.Alike.{alike-row, kept-fits, kept-segment, kept-alike}
+use Rattle.draw.proofs.Alike.{alike-pixel, alike-updates}
 use Rattle.picture.specs.Picture.{Built, built, segmentsOf, pixelOf, rowPairs, Lists}
-use Rattle.picture.proofs.Tables.{row-pixel, row-pairs, counts-good, row-good, built-table}
+use Rattle.picture.proofs.Tables.{facts as table-facts, segments-are, segment-is, row-pixel, row-pairs, counts-good, row-good, built-table}
 use Rattle.picture.proofs.Listings.{lists}
 
 -- a list of numbers below n, by another test that says the same of them
@@ -36,6 +38,15 @@ lists-same f g n m row rest p q same l =
 module _ {d : Description} {i : Setting} {r : BuildRooms} {o : BuildOutcome} {s e estimate : ℕ} (b : Built d i r o s e estimate) {t : Table} (k : Kept (built i o s e) t) where
   pub kept-counts : countsGood t ≡ true
   kept-counts = counts-fit t (kept-fits k (counts-facts (built i o s e) (counts-good b)))
+
+  -- its segments are those of the description, number by number
+  pub kept-count : t .segmentCount ≡ length (segmentsOf d i r)
+  kept-count = sym (k .segment-count) ∙ built-table b .count
+
+  pub kept-is : (j : ℕ) (m : Segment) → j < t .segmentCount → segmentAt (t .segments) j ≡ getD (segmentsOf d i r) j m
+  kept-is j m h =
+      let n : j < s = omega (arith, k .segment-count, h) in
+      sym (kept-segment k j n) ∙ segment-is b j m (omega (arith, table-facts b .size, n)) ∙ ap (λ (l : List Segment). getD l j m) (segments-are b)
 
   module _ (y : ℕ) (l : y < t .height) where
     low : y < i .height

@@ -10,7 +10,7 @@ use Rattle.shade.specs.Edit.{edit}
 use Rattle.shade.proofs.Edits.{edit-cong}
 use Rattle.table.specs.Table.{BuildRooms, Setting, BuildOutcome}
 use Rattle.draw.specs.Draw.{pixel, Table, rowOf, Channels}
-use Rattle.draw.specs.Alike.{Kept}
+use Rattle.checks.specs.Alike.{Kept}
 use Rattle.draw.specs.Parts.{Part, cuts, total, Wide, Drawn, Whole}
 use Rattle.draw.specs.Image as image
 use Rattle.draw.specs.Image.{Job, jobs, Each, DrawnAll, pairs, mostPairs}

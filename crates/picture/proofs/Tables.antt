@@ -24,7 +24,7 @@ use Rattle.rows.proofs.Counts.{listed-in, by-row}
 use Rattle.rows.proofs.Table.{rest-same}
 use Rattle.rows.proofs.Users as users
 use Rattle.table.specs.Table.{BuildRooms, Setting, BuildOutcome, zeros, padded}
-use Rattle.draw.proofs.Entries.{and-left, and-right}
+use Rattle.checks.proofs.Entries.{and-left, and-right}
 use Rattle.draw.specs.Draw.{pixel, updates, rowOf, allBelow, countsGood, entriesGood, rowGood}
 use Rattle.picture.specs.Picture.{Built, built, BuiltTable, segmentsOf, pixelOf, rowPairs}
 use Rattle.picture.proofs.Flat.{segment-at}

@@ -21,7 +21,7 @@ use Rattle.shade.specs.Edit.{edit}
 use Rattle.shade.specs.Shade.{shaded}
 use Rattle.draw.specs.declared.DrawAnswer.the-variants.{Done, Refused}
 use Rattle.draw.specs.Draw.{between, count, spanGood, three, Channels, leaves}
-use Rattle.draw.proofs.Entries.{and-left, and-right}
+use Rattle.checks.proofs.Entries.{and-left, and-right}
 use Rattle.draw.proofs.Columns.{ranged, count-columns, draw-columns}
 use Rattle.records.specs.Records.{segmentOf, joinedOf, zeroRecord, recordOf, recordsOf, drawnChannelAlone, judgeRecord, drawAlone, drawRecordOf, isKnown, drawNumberOf}
 use Rattle.records.proofs.Fills.{length-listFrom, listFrom-at}

@@ -13,11 +13,12 @@ use borrow.Author.Tests.{ltb-true}
 use Rattle.segments.specs.Segment.{segmentAt}
 use Rattle.segments.specs.Ranges.{hasColumn}
 use Rattle.shade.specs.Edit.{edit, firstCells}
-use Rattle.draw.specs.declared.Verdict.the-variants.{Fine}
+use Rattle.checks.specs.declared.Verdict.the-variants.{Fine}
 use Rattle.draw.specs.Draw.{pixel, count, updates, allBelow, drawnChannel, Table, rowOf, judgeOf, Channels, drawOf}
-use Rattle.draw.proofs.Entries.{and-left}
-use Rattle.draw.proofs.Checks.{judged-fine, answer-done}
-use Rattle.draw.proofs.Refusals.{span-fits}
+use Rattle.checks.proofs.Entries.{and-left}
+use Rattle.checks.proofs.Checks.{judged-fine}
+use Rattle.checks.proofs.Refusals.{span-fits}
+use Rattle.draw.proofs.Checks.{answer-done}
 use Rattle.records.specs.Records.{isKnown, drawnChannelAlone, drawAlone, drawNumberOf}
 use Rattle.records.specs.Numbers.{KnownIsDrawn, UnknownIsRefused, RowOfOneIsItsNumber}
 use Rattle.records.proofs.Alone.{known-here, not-counted, not-fitting, not-known, drawn-alone}

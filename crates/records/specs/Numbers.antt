@@ -8,7 +8,7 @@ use lib.ListN.{length}
 use lib.Ieee.{Float}
 use Rattle.codes.specs.declared.Code.{Code}
 use Rattle.segments.specs.Segment.{segmentAt}
-use Rattle.draw.specs.declared.Verdict.the-variants.{Fine}
+use Rattle.checks.specs.declared.Verdict.the-variants.{Fine}
 use Rattle.draw.specs.declared.DrawAnswer.the-variants.{Refused}
 use Rattle.draw.specs.Draw.{Table, rowOf, judgeOf, Channels, leaves, drawOf}
 use Rattle.records.specs.Records.{drawAlone, drawNumberOf}

@@ -13,8 +13,8 @@ use Rattle.segments.specs.Segment.{segmentAt}
 use Rattle.segments.specs.Ranges.{hasColumn}
 use Rattle.shade.specs.Edit.{edit, firstCells}
 use Rattle.shade.specs.Shade.{shaded}
-use Rattle.draw.specs.declared.Verdict.{Verdict}
-use Rattle.draw.specs.declared.Verdict.the-variants.{Fine, Fault}
+use Rattle.checks.specs.declared.Verdict.{Verdict}
+use Rattle.checks.specs.declared.Verdict.the-variants.{Fine, Fault}
 use Rattle.draw.specs.declared.DrawAnswer.the-variants.{Done, Refused}
 use Rattle.draw.specs.Draw.{count, spanGood, orFault, three, Channels, leaves, DrawOutcome}
 

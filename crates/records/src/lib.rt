@@ -107,7 +107,7 @@ fn draw_alone(
     if 8388608 <= y {
         return DrawAnswer::Refused(Code::Row, 0);
     }
-    if !draw::span_good(x0, n, r0.len(), r1.len(), r2.len()) {
+    if !checks::span_good(x0, n, r0.len(), r1.len(), r2.len()) {
         return DrawAnswer::Refused(Code::Span, 0);
     }
     let segment = segment_of(whole);

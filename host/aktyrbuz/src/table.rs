@@ -204,7 +204,8 @@ impl Table {
         judged(port::draw(&self.lent(), y, x0, n, channels)).map(|[updates, _, _]| updates as u64)
     }
 
-    /// The columns of row y that its segments reach; 0..0 if there are none.
+    /// The columns that drawing row y touches, from the first to the last: none outside is updated, and both ends are. What lies wholly left of
+    /// the image touches column 0. 0..0 if drawing touches none.
     pub fn reach(&self, y: u32) -> Result<Range<u32>, Refusal> {
         judged(port::reach(&self.lent(), y, self.image.width))
             .map(|[first, past, _]| first as u32..past as u32)
@@ -364,6 +365,25 @@ mod tests {
                 place: 0
             }
         );
+    }
+
+    /// The fibre above, moved so far to the left that only its columns' rule brings it into the image.
+    #[test]
+    fn what_lies_left_of_the_image_is_reached_at_column_0() {
+        let mut left = fibre();
+        left.starts[0] = -90.0;
+        let table = Table::build(&left, &Image::new(64, 16)).expect("a good description");
+        assert_eq!(table.reach(8), Ok(0..1));
+        let (_, updates) = row(&table, 8, &[0, 64]);
+        let (_, right_of_it) = row(&table, 8, &[1, 64]);
+        assert!(updates > 0 && right_of_it == 0);
+        let table = self::table();
+        for y in 0..16 {
+            let reach = table.reach(y).expect("a row of the image");
+            let outside = [0..reach.start, reach.end..64]
+                .map(|columns| row(&table, y, &[columns.start as usize, columns.end as usize]).1);
+            assert_eq!(outside, [0, 0]);
+        }
     }
 
     /// A faint light over 350,000 rows of a great image: 43 million entries.

@@ -2,10 +2,14 @@
 
 use crate::random::Random;
 use crate::segments::ordinary_record;
-use crate::FlatTable;
+use crate::{FlatTable, Segment};
 
 pub const TABLE_KINDS: [&str; 3] = ["sound", "strange", "hostile"];
 pub const REQUEST_KINDS: [&str; 3] = ["inside", "edges", "hostile"];
+/// The kinds of rows for the reach alone.
+pub const EDGE_KINDS: [&str; 2] = ["alone", "together"];
+/// Widths that reach is asked for.
+pub const REACH_WIDTHS: [u32; 5] = [0, 1, 40, 80, 1 << 23];
 
 /// A part of a row, and what its channels hold before.
 #[derive(Clone, Debug, PartialEq)]
@@ -89,6 +93,67 @@ fn hostile(r: &mut Random, table: &mut FlatTable) {
             }
         }
     }
+}
+
+/// A table and a row of it that lists one segment, or up to four, at an edge of one of the widths above or far from it.
+pub fn edge_row(kind: &str, seed: u64) -> (FlatTable, u32) {
+    let mut random = Random::new(kind, seed);
+    let r = &mut random;
+    let segment_count = match kind {
+        "alone" => 1,
+        "together" => r.below(5) as u32,
+        _ => panic!("no kind of row is called {kind}"),
+    };
+    let height = r.pick(&[1, 2, 5]);
+    let y = r.below(height.into()) as u32;
+    let row_starts = (0..=height).map(|row| if row > y { segment_count } else { 0 });
+    let mut table = FlatTable {
+        segment_count,
+        entries: (0..segment_count).collect(),
+        entry_count: segment_count,
+        row_starts: row_starts.collect(),
+        height,
+        ..FlatTable::default()
+    };
+    for _ in 0..segment_count {
+        table.segments.extend(edge_record(r));
+    }
+    (table, y)
+}
+
+/// Left of an image, right of it, across either edge, or with a distance that is no ordinary one.
+fn edge_record(r: &mut Random) -> Segment {
+    let width = r.pick(&REACH_WIDTHS) as f32;
+    let d = match r.below(4) {
+        0 => r.pick(&[0.0, 0.5, 1.0, 2.5]),
+        1 => r.between(0.0, 60.0),
+        _ => r.between(0.0, 6.0),
+    };
+    let beyond = r.pick(&[0.0, 0.25, 0.5, 0.75, 1.0, 9.0]);
+    let mut record = ordinary_record(r);
+    (record[0], record[2]) = match r.below(10) {
+        0 => (-d - beyond, d),
+        1 => (r.between(-d, d), d),
+        2 => (d - beyond, d),
+        3 => (r.between(0.0, width), d),
+        4 => (width - d - beyond, d),
+        5 => (width + r.between(-d, d), d),
+        6 => (width + d + beyond - 1.0, d),
+        7 => (width * r.pick(&[-1.0, 0.0, 0.5, 1.0]), f32::NAN),
+        8 => {
+            let great = [
+                f32::INFINITY,
+                f32::NEG_INFINITY,
+                1e18,
+                9_223_372e12,
+                18_446_744e12,
+                -d,
+            ];
+            (r.between(-9.0, 90.0), r.pick(&great))
+        }
+        _ => (r.any_f32(), r.any_f32()),
+    };
+    record
 }
 
 /// A part of a row of an image of this height, which is above 0.

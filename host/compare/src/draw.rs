@@ -1,4 +1,4 @@
-//! Drawing: the pixels, and the updates as the pixels that spline.rs touches segment by segment; reach beside them.
+//! Drawing: the pixels, and the updates as the pixels that spline.rs touches segment by segment.
 
 use crate::segments::touched;
 use crate::tally::Tally;
@@ -6,7 +6,6 @@ use crate::verdict::{equal, same_floats, Verdict};
 use cases::descriptions::build_case;
 use cases::tables::{request, table, Request, REQUEST_KINDS, TABLE_KINDS};
 use cases::{each, FlatTable, Table};
-use model::numbers::round;
 use oracle::Outcome;
 
 const CASES_A_KIND: u64 = 600;
@@ -67,10 +66,7 @@ fn against_oracle(table: &FlatTable, request: &Request) -> Verdict {
         return equal(false, &mine, &(drawn, theirs));
     }
     let theirs = touched_in_all(table, y, x0, n);
-    if theirs != Some(updates) {
-        return equal(false, &updates, &theirs);
-    }
-    reach_against_oracle(table, y)
+    equal(theirs == Some(updates), &updates, &theirs)
 }
 
 /// The sound part of a table, as the oracle takes it.
@@ -86,7 +82,7 @@ pub fn unflattened(table: &FlatTable) -> Table {
 }
 
 /// The entries of row y; the table has been accepted.
-fn entries(table: &FlatTable, y: u32) -> &[u32] {
+pub fn entries(table: &FlatTable, y: u32) -> &[u32] {
     let (first, past) = (
         table.row_starts[y as usize],
         table.row_starts[y as usize + 1],
@@ -102,30 +98,4 @@ pub fn touched_in_all(table: &FlatTable, y: u32, x0: u32, n: u32) -> Option<u64>
         sum += pixels.iter().filter(|&&pixel| pixel).count() as u64;
     }
     Some(sum)
-}
-
-/// An image of this width is asked for its reach.
-const WIDTH: u32 = 80;
-
-/// Reach runs from the first to the last column that spline.rs touches, segments left of the image not counted; where
-/// a segment ends past 2^64, reach runs on and spline.rs touches nothing, so there is nothing to compare.
-fn reach_against_oracle(table: &FlatTable, y: u32) -> Verdict {
-    let mine = model::reach(table, y, WIDTH);
-    let mut columns = Vec::new();
-    for &entry in entries(table, y) {
-        let segment = table.segment(entry);
-        let last = round(segment[0] + segment[2]);
-        if last >= 1 << 64 {
-            return Verdict::Same;
-        }
-        if last >= 0 {
-            let pixels = touched(&segment, y, 0, WIDTH).unwrap_or_default();
-            columns.extend((0..WIDTH).filter(|&x| pixels.get(x as usize) == Some(&true)));
-        }
-    }
-    let theirs = match (columns.iter().min(), columns.iter().max()) {
-        (Some(&first), Some(&last)) => (first, last + 1),
-        _ => (0, 0),
-    };
-    equal(mine == Ok(theirs), &mine, &theirs)
 }

@@ -7,6 +7,7 @@ pub mod draw;
 pub mod numbers;
 #[cfg(feature = "port")]
 pub mod port;
+pub mod reach;
 pub mod read;
 pub mod segments;
 pub mod tally;

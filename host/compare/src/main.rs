@@ -4,13 +4,13 @@
 //! answer differs in a way that docs/DIFFERENCES.md does not list.
 
 use compare::tally::Tally;
-use compare::{build, curve, dequantize, draw, numbers, read, segments, transform, write};
+use compare::{build, curve, dequantize, draw, numbers, reach, read, segments, transform, write};
 use std::process::ExitCode;
 
 /// A layer's name, and what runs its cases.
 type Layer = (&'static str, fn(&mut Tally));
 
-const LAYERS: [Layer; 12] = [
+const LAYERS: [Layer; 13] = [
     ("numbers", numbers::compare),
     ("read", read::compare),
     ("write", write::compare),
@@ -23,6 +23,7 @@ const LAYERS: [Layer; 12] = [
     ("columns", segments::compare_columns),
     ("build", build::compare),
     ("draw", draw::compare),
+    ("reach", reach::compare),
 ];
 
 fn main() -> ExitCode {

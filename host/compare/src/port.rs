@@ -9,6 +9,7 @@ pub mod lent;
 pub mod ln;
 pub mod null;
 pub mod pages;
+pub mod reach;
 pub mod read;
 pub mod tally;
 pub mod write;

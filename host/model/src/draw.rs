@@ -1,6 +1,5 @@
 //! Drawing a part of a row, and the reach of a row (the scope, "Segments and rows", last two paragraphs).
 
-use crate::numbers::round;
 use crate::segments::{columns, filled, MOST_SEGMENTS};
 use crate::table::{MOST_ENTRIES, MOST_PIXELS};
 use cases::{Code, FlatTable, Refusal, Segment};
@@ -94,22 +93,21 @@ fn row(table: &FlatTable, y: u32) -> Result<Vec<Segment>, Refusal> {
     Ok(entries.iter().map(|&entry| table.segment(entry)).collect())
 }
 
-/// "the first and one-past-last column over the row's segments, each taken from max(0, R(cx-d)) up to but not including
-/// min(W, R(cx+d)+1), empty ones skipped; 0, 0 if none. SIZE for W, then TABLE and ROW as drawing."
+/// "Reach must be the hull of the columns that drawing the row would touch in columns 0 to W-1" (document 02, (iii)): its first
+/// and one-past-last column; "0, 0 if none. SIZE for W, then TABLE and ROW as drawing."
 pub fn reach(table: &FlatTable, y: u32, width: u32) -> Result<(u32, u32), Refusal> {
     if width > MOST_PIXELS {
         return refuse(Code::Size);
     }
     check_counts_and_row(table, y)?;
-    let taken = row(table, y)?.into_iter().map(|[cx, _, d, ..]| {
-        let first = round(cx - d).max(0);
-        let past = (round(cx + d) + 1).min(width.into());
-        (first, past)
-    });
-    let filled: Vec<(i128, i128)> = taken.filter(|(first, past)| first < past).collect();
-    let first = filled.iter().map(|taken| taken.0).min().unwrap_or(0);
-    let past = filled.iter().map(|taken| taken.1).max().unwrap_or(0);
-    Ok((first as u32, past as u32))
+    let segments = row(table, y)?;
+    let touched = || {
+        let each = segments.iter().map(|one| inside(columns(one), 0, width));
+        each.filter(|columns| !columns.is_empty())
+    };
+    let first = touched().map(|columns| columns.start).min();
+    let past = touched().map(|columns| columns.end).max();
+    Ok((first.unwrap_or(0), past.unwrap_or(0)))
 }
 
 #[cfg(test)]
@@ -139,10 +137,12 @@ mod tests {
         assert_eq!(drawn(&table(), 0, 0, 10), Ok(4));
         assert_eq!(drawn(&table(), 0, 3, 10), Ok(2));
         assert_eq!(drawn(&table(), 1, 0, 10), Ok(0));
-        assert_eq!(reach(&table(), 0, 100), Ok((2, 5)));
-        assert_eq!(reach(&table(), 0, 4), Ok((2, 4)));
-        assert_eq!(reach(&table(), 0, 2), Ok((0, 0)));
-        assert_eq!(reach(&table(), 1, 100), Ok((0, 100)));
+        // What lies left of the image still changes column 0.
+        assert_eq!(reach(&table(), 0, 100), Ok((0, 5)));
+        assert_eq!(reach(&table(), 0, 4), Ok((0, 4)));
+        assert_eq!(reach(&table(), 0, 2), Ok((0, 1)));
+        assert_eq!(reach(&table(), 0, 0), Ok((0, 0)));
+        assert_eq!(reach(&table(), 1, 100), Ok((0, 0)));
     }
 
     #[test]

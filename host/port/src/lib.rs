@@ -255,7 +255,7 @@ pub fn draw_into(
     }
 }
 
-/// The reach of row y in an image of this width: the code's number and the answer.
+/// The columns that drawing row y touches in an image of this width: the code's number and the answer.
 pub fn reach(table: &Table, y: u32, width: u32) -> (u32, Answer) {
     answered(|answer| reach_into(table, y, width, answer))
 }

@@ -3,8 +3,9 @@ use mathlib.Core.Path.{sym, _∙_}
 use Prim.Native.Nat.{_+_}
 use native.Mathlib.Omega.{arith}
 use borrow.Author.Needs.{needs}
+use Rattle.checks.proofs.Checks.{judged-fine}
 use Rattle.draw.specs.Draw.{tableOf, three}
-use Rattle.draw.proofs.Checks.{judged-fine, answer-fault, answer-done}
+use Rattle.draw.proofs.Checks.{answer-fault, answer-done}
 use Rattle.draw.proofs.draw.Statement.{statement}
 use Rattle.draw.proofs.draw.Tie as tie
 

@@ -6,7 +6,8 @@ use native.Mathlib.Omega.{arith}
 use lib.ListN.{length}
 use lib.Seq.{slice}
 use Rattle.draw.specs.Draw.{allBelow, updates}
-use Rattle.draw.proofs.Entries.{rest, first-below, rest-below, updates-small, total-next, total-none, rest-next, rest-none}
+use Rattle.checks.proofs.Entries.{first-below, rest-below}
+use Rattle.draw.proofs.Entries.{rest, updates-small, total-next, total-none, rest-next, rest-none}
 use Rattle.draw.proofs.draw_entries.Statement.{statement}
 use Rattle.draw.proofs.draw_entries.Tie as tie
 

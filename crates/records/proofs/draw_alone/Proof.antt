@@ -3,7 +3,7 @@ use mathlib.Core.Path.{sym, _∙_}
 use native.Mathlib.Omega.{arith}
 use borrow.Author.Tests.{not-true, not-false}
 use Rattle.draw.specs.Draw.{three}
-use Rattle.draw.proofs.Checks.{span-facts}
+use Rattle.checks.proofs.Checks.{span-facts}
 use Rattle.records.proofs.Alone.{not-known, no-row, no-span, drawn-alone, count-alone, columns-alone}
 use Rattle.records.specs.Records.{segmentOf}
 use borrow.Author.Needs.{needs}

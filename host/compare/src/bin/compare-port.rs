@@ -6,7 +6,7 @@
 //! Prints a table; ends with 1, and the smallest input, where an answer differs.
 
 use compare::port::tally::Tally;
-use compare::port::{build, draw, ln, null, pages, read, write};
+use compare::port::{build, draw, ln, null, pages, reach, read, write};
 use std::process::ExitCode;
 
 /// A call's name, and what runs its cases.
@@ -17,7 +17,7 @@ const CALLS: [Call; 6] = [
     ("write", write::compare),
     ("build", build::compare),
     ("draw", draw::compare),
-    ("reach", draw::compare_reach),
+    ("reach", reach::compare),
     ("ln", ln::compare),
 ];
 

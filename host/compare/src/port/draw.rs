@@ -1,4 +1,4 @@
-//! Drawing: sound, strange and hostile tables and requests as they come, and rows of built tables cut into parts that are drawn in any order; reach beside them.
+//! Drawing: sound, strange and hostile tables and requests as they come, and rows of built tables cut into parts that are drawn in any order.
 //! Every accepted part is drawn by spline.rs too: its cells, and its updates as the pixels that it touches segment by segment.
 
 use super::tally::Tally;
@@ -206,7 +206,7 @@ fn rust_part(
     (touched_in_all(table, y, x0, n), after)
 }
 
-fn lent(table: &FlatTable) -> port::Table<'_> {
+pub fn lent(table: &FlatTable) -> port::Table<'_> {
     port::Table {
         segments: &table.segments,
         segment_count: table.segment_count,
@@ -214,28 +214,5 @@ fn lent(table: &FlatTable) -> port::Table<'_> {
         entry_count: table.entry_count,
         row_starts: &table.row_starts,
         height: table.height,
-    }
-}
-
-/// Widths that reach is asked for.
-const WIDTHS: [u32; 6] = [0, 1, 40, 80, 1 << 23, (1 << 23) + 1];
-
-pub fn compare_reach(tally: &mut Tally) {
-    for (kind, seed) in each(&TABLE_KINDS, CASES_A_KIND) {
-        let table = table(kind, seed);
-        let y = request(REQUEST_KINDS[seed as usize % 3], seed, table.height.max(1)).y;
-        tally.cases += 1;
-        for width in WIDTHS {
-            let expected = model::reach(&table, y, width);
-            tally.called(&expected);
-            let told = match &expected {
-                Ok((first, past)) => (0, [0, i64::from(*first), i64::from(*past), 0, 0]),
-                Err(refusal) => told_refusal(refusal),
-            };
-            let found = guarded::reach(&lent(&table), y, width);
-            if found != told {
-                tally.differs(format!("reach, {kind}, seed {seed}, row {y}, width {width}: {table:?}\n  port: {found:?}\n  model: {told:?}"));
-            }
-        }
     }
 }

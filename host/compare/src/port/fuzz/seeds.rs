@@ -5,7 +5,7 @@ use super::{BUILD, DRAW, LN, REACH, READ, WRITE};
 use cases::descriptions::{self, build_case, BuildCase};
 use cases::lists::{list_case, write_case, KINDS, WRITE_KINDS};
 use cases::random::Random;
-use cases::tables::{request, table, REQUEST_KINDS, TABLE_KINDS};
+use cases::tables::{edge_row, request, table, EDGE_KINDS, REQUEST_KINDS, TABLE_KINDS};
 use cases::{each, Description, FlatTable};
 
 /// So many of each kind.
@@ -27,6 +27,10 @@ pub fn seeds() -> Vec<(String, Vec<u8>)> {
     for (kind, seed) in each(&TABLE_KINDS, A_KIND) {
         let table = table(kind, seed);
         seeds.push((format!("draw-{kind}-{seed}"), draw(&table, seed)));
+        seeds.push((format!("reach-{kind}-{seed}"), reach(&table, seed)));
+    }
+    for (kind, seed) in each(&EDGE_KINDS, A_KIND) {
+        let (table, _) = edge_row(kind, seed);
         seeds.push((format!("reach-{kind}-{seed}"), reach(&table, seed)));
     }
     seeds.push((String::from("ln"), ln()));

@@ -3,6 +3,7 @@
 use super::bytes::Bytes;
 use crate::draw::unflattened;
 use crate::port::{guarded, told_refusal};
+use crate::reach::Probe;
 use crate::verdict::same_floats;
 use cases::{bits, FlatTable};
 use oracle::Outcome;
@@ -100,6 +101,14 @@ pub fn reach(bytes: &mut Bytes) {
         found == told,
         "reach of row {y}, width {width} of {table:?}: the port {found:?}, the second reading {told:?}"
     );
+    if found.0 == 0 {
+        let reach = (found.1[1] as u32, found.1[2] as u32);
+        let wrong = Probe::of(&table, y).wrong(width, reach);
+        assert!(
+            wrong.is_none(),
+            "reach of row {y}, width {width} of {table:?}: the port {reach:?}; {wrong:?}"
+        );
+    }
 }
 
 pub fn ln(bytes: &mut Bytes) {

@@ -1,0 +1,49 @@
+-- The checks of a table and of a part of a row, each a test, and their order. Definitions only.
+use mathlib.Core.Bool.{Bool, true, false, _&&_}
+use mathlib.Core.List.{List, [], _∷_}
+use Prim.Native.Nat.{ℕ, _+_, _*_, _^_}
+use lib.Dec.{leb, ltb}
+use lib.ListN.{length, getD}
+use Rattle.codes.specs.declared.Code.{Code}
+use Rattle.checks.specs.Tables.{Table, entriesOf}
+use Rattle.checks.specs.declared.Verdict.{Verdict}
+use Rattle.checks.specs.declared.Verdict.the-variants.{Fine, Fault}
+
+-- the counts are in the buffers and not above 2^24 segments, 2^30 entries and the height 2^23
+unfoldable pub countsGood : Table → Bool
+countsGood t =
+    leb (t .segmentCount) (2 ^ 24) && leb (8 * t .segmentCount) (length (t .segments))
+    && leb (t .entryCount) (2 ^ 30)
+    && leb (t .entryCount) (length (t .entries))
+    && leb (t .height) (2 ^ 23)
+    && leb (t .height + 1) (length (t .rowStarts))
+
+-- n pixels from column x0 on are in the widest image and in channels of these lengths
+unfoldable pub spanGood : ℕ → ℕ → ℕ → ℕ → ℕ → Bool
+spanGood x0 n l0 l1 l2 = leb (x0 + n) (2 ^ 23) && leb n l0 && leb n l1 && leb n l2
+
+abbrev pub allBelow : ℕ → List ℕ → Bool
+allBelow m [] = true
+allBelow m (i ∷ is) = ltb i m && allBelow m is
+
+-- the two starts of row y do not descend nor pass the entry count, and the row's entries name segments
+unfoldable pub entriesGood : List ℕ → ℕ → List ℕ → ℕ → ℕ → Bool
+entriesGood entries entryCount rowStarts segmentCount y =
+    leb (getD rowStarts y 0) (getD rowStarts (y + 1) 0) && leb (getD rowStarts (y + 1) 0) entryCount
+    && allBelow segmentCount (entriesOf rowStarts entries y)
+
+abbrev pub rowGood : Table → ℕ → Bool
+rowGood t y = entriesGood (t .entries) (t .entryCount) (t .rowStarts) (t .segmentCount) y
+
+-- a check: where it fails its code is the answer, else what comes after it
+abbrev pub orFault : Bool → Code → Verdict → Verdict
+orFault true c after = after
+orFault false c after = Fault c
+
+-- the checks of a row, in their order: the counts, the row, whether the span is good, and the row's entries
+abbrev pub judgeRow : Table → ℕ → Bool → Verdict
+judgeRow t y spanned =
+    orFault (countsGood t) Code.Table (orFault (ltb y (t .height)) Code.Row (orFault spanned Code.Span (orFault (rowGood t y) Code.Table Fine)))
+
+unfoldable pub judgeOf : Table → ℕ → ℕ → ℕ → ℕ → ℕ → ℕ → Verdict
+judgeOf t y x0 n l0 l1 l2 = judgeRow t y (spanGood x0 n l0 l1 l2)

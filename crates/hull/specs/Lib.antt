@@ -1,0 +1,3 @@
+-- The definitions of the crate `hull`.
+pub mod Reach
+pub mod Refusals

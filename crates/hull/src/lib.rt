@@ -1,0 +1,142 @@
+// The reach of a row: the hull of the columns of an image that drawing the row would touch.
+ghost use mathlib.Core.Path.{_≡_};
+ghost use mathlib.Core.Bool.{true};
+ghost use Prim.Native.Nat.{_+_, _*_, _^_, _<_, _≤_, min, max};
+ghost use lib.ListN.{length};
+ghost use lib.Seq.{slice};
+ghost use Rattle.checks.specs.Tables.{tableOf};
+ghost use Rattle.checks.specs.Checks.{allBelow};
+ghost use Rattle.hull.specs.Reach.{joined, reachOver, columnsBelow, judgeReachOf, tells, reachOf};
+use checks::Verdict;
+use codes::Code;
+use segments::Range;
+use segments::Segment;
+
+// The first column of a row's reach and the one past the last.
+pub enum ReachAnswer {
+    Done(u32, u32),
+    Refused(Code, usize),
+}
+
+fn least(a: u32, b: u32) -> u32
+    ensures { λ r. ⌜ r ≡ min a b ⌝ }
+{
+    if a < b { a } else { b }
+}
+
+fn greatest(a: u32, b: u32) -> u32
+    ensures { λ r. ⌜ r ≡ max a b ⌝ }
+{
+    if a < b { b } else { a }
+}
+
+// The least range that holds what was found and the columns from `first` up to `past`.
+fn join(found: Range, first: u32, past: u32) -> Range
+    requires { ⌜ first < past ⌝ }
+    ensures { λ r. ⌜ r ≡ joined found (record { first = first; past = past }) ⌝ }
+{
+    if found.past <= found.first {
+        return Range { first, past };
+    }
+    Range {
+        first: least(found.first, first),
+        past: greatest(found.past, past),
+    }
+}
+
+// The least range that holds what was found and the segment's columns below the width; a segment without such columns is skipped.
+fn with_segment(found: Range, segment: Segment, width: u32) -> Range
+    ensures { λ r. ⌜ r ≡ joined found (columnsBelow width segment) ⌝ }
+{
+    let columns = segment.columns();
+    let past = least(width, columns.past);
+    if past <= columns.first {
+        return found;
+    }
+    join(found, columns.first, past)
+}
+
+// The reach over the entries from b up to e.
+fn reach_entries(
+    segments: &[f32],
+    segment_count: u32,
+    entries: &[u32],
+    b: usize,
+    e: usize,
+    width: u32,
+) -> Range
+    requires { ⌜ (b ≤ e) × (e ≤ length (now entries)) × (8 * «segment_count» ≤ length (now segments)) × (width ≤ 2 ^ 23) ⌝ }
+    requires { ⌜ allBelow «segment_count» (slice b e (now entries)) ≡ true ⌝ }
+    ensures { λ r. ⌜ r ≡ reachOver (now (segments .entry)) width (slice b e (now (entries .entry))) ⌝ }
+{
+    let mut found = Range { first: 0, past: 0 };
+    let mut j = b;
+    while j < e {
+        let i = entries[j] as usize;
+        found = with_segment(found, Segment::at(segments, i), width);
+        j += 1;
+    }
+    found
+}
+
+// The checks of `reach`, in their order.
+fn judge_reach(
+    segments: &[f32],
+    segment_count: u32,
+    entries: &[u32],
+    entry_count: u32,
+    row_starts: &[u32],
+    height: u32,
+    y: u32,
+    width: u32,
+) -> Verdict
+    ensures { λ r. ⌜ r ≡ judgeReachOf (tableOf (now (segments .entry)) «segment_count» (now (entries .entry)) «entry_count» (now («row_starts» .entry)) height) y width ⌝ }
+{
+    if 8388608 < width {
+        return Verdict::Fault(Code::Size);
+    }
+    checks::judge_row(
+        segments,
+        segment_count,
+        entries,
+        entry_count,
+        row_starts,
+        height,
+        y,
+        true,
+    )
+}
+
+// The first column and the one past the last that drawing row y would touch in an image of the width; 0 and 0 where it touches none.
+pub fn reach(
+    segments: &[f32],
+    segment_count: u32,
+    entries: &[u32],
+    entry_count: u32,
+    row_starts: &[u32],
+    height: u32,
+    y: u32,
+    width: u32,
+) -> ReachAnswer
+    ensures { λ r. ⌜ tells r ≡ reachOf (tableOf (now (segments .entry)) «segment_count» (now (entries .entry)) «entry_count» (now («row_starts» .entry)) height) y width ⌝ }
+{
+    match judge_reach(
+        segments,
+        segment_count,
+        entries,
+        entry_count,
+        row_starts,
+        height,
+        y,
+        width,
+    ) {
+        Verdict::Fault(code) => ReachAnswer::Refused(code, 0),
+        Verdict::Fine => {
+            let at = y as usize;
+            let b = row_starts[at] as usize;
+            let e = row_starts[at + 1] as usize;
+            let found = reach_entries(segments, segment_count, entries, b, e, width);
+            ReachAnswer::Done(found.first, found.past)
+        }
+    }
+}
