@@ -24,22 +24,23 @@ extern "C" {
 
 enum aktyrbuz_code {
     AKTYRBUZ_DONE = 0,
-    AKTYRBUZ_SHORT = 1,     /* the list ends before the next value */
+    AKTYRBUZ_SHORT = 1,     /* the list or trace file ends before the next value */
     AKTYRBUZ_SPLINES = 2,   /* more splines than the limit; writing also: none */
-    AKTYRBUZ_COORD = 3,     /* a start with a coordinate of magnitude 2^23 or more; writing also: not whole, minus zero, NaN, or a negative first start */
+    AKTYRBUZ_COORD = 3,     /* a start with a coordinate of magnitude 2^23 or more; writing also: not whole, minus zero, NaN, or a negative first start; in a trace file -2^23 and a negative first start are good */
     AKTYRBUZ_POINTS = 4,    /* more points than the limit */
     AKTYRBUZ_DELTA = 5,     /* a double delta of magnitude 2^30 or more */
-    AKTYRBUZ_TRAIL = 6,     /* values left over */
+    AKTYRBUZ_TRAIL = 6,     /* values or bytes left over */
     AKTYRBUZ_ROOM = 7,      /* a lent buffer is too short for what is due */
     AKTYRBUZ_SIZE = 8,      /* a width or height above 2^23 */
-    AKTYRBUZ_SHAPE = 9,     /* lengths that disagree: S counts go with 2S starts, a double delta (x, y) a point and 128S coefficients */
+    AKTYRBUZ_SHAPE = 9,     /* lengths that disagree: S counts go with 2S starts, a double delta (x, y) a point and 128S coefficients; in a trace file counts that do not add up to its points */
     AKTYRBUZ_POSITION = 10, /* a start, delta or point outside -2^23 up to but not including 2^23, or a NaN start */
     AKTYRBUZ_DISTANCE = 11, /* a spline whose steps add up to more than the area limit */
     AKTYRBUZ_AREA = 12,     /* splines whose estimates add up to more than the area limit */
     AKTYRBUZ_COINCIDE = 13, /* two adjacent control points are equal */
     AKTYRBUZ_TABLE = 14,    /* a table that no build makes: a height above 2^23, more than 2^24 segments or 2^30 entries, counts that overrun the buffers, starts of row y that descend or pass the entries, an entry of it that names no segment */
     AKTYRBUZ_ROW = 15,      /* a row that is not below the height */
-    AKTYRBUZ_SPAN = 16      /* x0 + n above 2^23, or a channel shorter than n */
+    AKTYRBUZ_SPAN = 16,     /* x0 + n above 2^23, or a channel shorter than n */
+    AKTYRBUZ_HEADER = 17    /* a trace file of a version other than 1, or with an offset that is not its part's; writing: a count or offset of 2^32 or more */
 };
 
 /* The natural logarithm that building uses: a fixed sequence of operations, the same on every machine. */
@@ -94,6 +95,23 @@ uint32_t aktyrbuz_reach(const float *segments, size_t segments_len, uint32_t seg
                         const uint32_t *entries, size_t entries_len, uint32_t entry_count,
                         const uint32_t *row_starts, size_t row_starts_len, uint32_t height,
                         uint32_t y, uint32_t width, int64_t answer[5]);
+
+/* Reads a trace file, a description without its picture, into a description. It has no limit of splines or points but its own length.
+ *
+ * The file is little-endian, four bytes a number: version 1, splines S, points P, adjustment, the byte offsets of the four parts, then from byte 32 on with no
+ * gaps the parts: S counts, 2S starts (whole numbers from -2^23 up to but not including 2^23), 2P double deltas, 128S coefficients. It has 32 + 524 S + 8 P bytes.
+ * Rooms as in aktyrbuz_read. Cells past these, and all cells after a refusal, are 0.
+ * Checks: SHORT below 32 bytes, HEADER, SHORT, TRAIL, SHAPE, COORD, DELTA, ROOM.
+ * Place: the first byte of the number refused; SHORT: the length of the file; TRAIL: the first byte left over; SHAPE, ROOM: 0. Counts: splines, points, adjustment. */
+uint32_t aktyrbuz_trace_read(const uint8_t *bytes, size_t bytes_len, uint32_t *counts, size_t counts_len, float *starts, size_t starts_len,
+                             int32_t *deltas, size_t deltas_len, int32_t *coefficients, size_t coefficients_len, int64_t answer[5]);
+
+/* Writes a description as its trace file, the one that is read back as it. The lengths are exact (SHAPE).
+ * Bytes past the file, and all after a refusal, are 0. Checks: SHAPE, HEADER, COORD, DELTA, ROOM.
+ * Place: the first byte that the number would have; SHAPE, ROOM: 0. Counts: bytes written. */
+uint32_t aktyrbuz_trace_write(const uint32_t *counts, size_t counts_len, const float *starts, size_t starts_len,
+                              const int32_t *deltas, size_t deltas_len, const int32_t *coefficients, size_t coefficients_len,
+                              int32_t adjustment, uint8_t *bytes, size_t bytes_len, int64_t answer[5]);
 
 #ifdef __cplusplus
 }

@@ -1,8 +1,8 @@
 
 use mathlib.Core.Path.{_≡_, sym, ap, _∙_, refl, subst}
-use mathlib.Core.Logic.{⊎-elim, inl, inr}
+use mathlib.Core.Logic.{⊎-elim, inl, inr, _↔_}
 use mathlib.Core.List.{List, []}
-use Prim.Native.Nat.{ℕ, _≤_, _<_, _+_, suc, _-_}
+use Prim.Native.Nat.{ℕ, _≤_, _<_, _+_, suc, _-_, _^_}
 use native.Mathlib.Nat.{zero-add, not-le-of-lt}
 use native.Mathlib.Omega.{arith}
 use lib.ListN.{length, getD, take, replicate, List·getD-append}
@@ -10,7 +10,7 @@ use Rattle.dequantize.specs.Judge.{Description}
 use Rattle.segments.specs.declared.Segment.{Segment}
 use Rattle.segments.specs.declared.Range.{Range}
 use Rattle.segments.specs.Segment.{segmentAt}
-use Rattle.segments.specs.Ranges.{hasRow, hasColumn}
+use Rattle.segments.specs.Ranges.{hasRow, hasColumn, rowEnd, columnEnd}
 use Rattle.rows.specs.Rows.{inRow}
 use Rattle.shade.proofs.Edits.{lt-or-ge}
 use Rattle.table.specs.Table.{Setting, BuildRooms, BuildOutcome, givenOf, zeros, padded, buildOf}
@@ -29,15 +29,15 @@ use Rattle.hull.proofs.Reaches.{PassedReach, reached}
 use Rattle.picture.specs.Picture.{Lists, Found}
 use Rattle.picture.proofs.Keeping.{kept-count, kept-is, kept-lists}
 use Rattle.aktyrbuz.specs.Calls.{KeptTable, RowRun, BuildDone}
-use Rattle.aktyrbuz.specs.Requests.{Reaches, InReach, NoReach, HasSegment, OutsideReachUntouched, BothEnds, ReachEndsUpdated, ReachEmptyExactly, LeftEdgeReached, SegmentsNear, TablesNear, Beyond, RowIs, ColumnIs, Clear, DrawingsNear, OwnersOf, OwnersLeft, OwnersAscend, SplineOwns, OwnerIsSpline, NoOwner, SkippedHasNone}
+use Rattle.aktyrbuz.specs.Requests.{Reaches, InReach, NoReach, HasSegment, OutsideReachUntouched, BothEnds, ReachEndsUpdated, ReachEmptyExactly, LeftEdgeReached, SegmentsNear, TablesNear, Beyond, RowIs, ColumnIs, Clear, DrawingsNear, OwnersOf, OwnersLeft, OwnersAscend, SplineOwns, OwnerIsSpline, NoOwner, SkippedHasNone, NumbersByKind, FaintCounted, FaintEnds, FaintByKind, FileReadBack, FileWrittenBack, OneFile, TraceReadCodes, TraceWriteCodes, TraceOneOutcome, NegativeFirstStart}
 use Rattle.aktyrbuz.proofs.Readings.{starred-readings}
 use Rattle.aktyrbuz.proofs.Calls.{draw-equation, reach-equation, built-by, kept-are, row-by, build-equation}
-use mathlib.Core.Bool.{Bool, true, false}
+use mathlib.Core.Bool.{Bool, true, false, true≢false}
 use Rattle.near.proofs.Near.{rows-near, columns-near, rows-tight, columns-tight, every-finite}
 use Rattle.aktyrbuz.proofs.Demands.{once-ascending, keeps-other-cells, builds-the-table}
 use lib.Dec.{leb}
 use lib.Seq.{take-at}
-use lib.Ieee.{Float}
+use lib.Ieee.{Float, nan, inf, fin, isNan, add, sub}
 use borrow.Author.Tests.{leb-true, leb-false}
 use Rattle.painting.proofs.Segments.{spline-one, makes-owned}
 use Rattle.points.specs.Points.{eights}
@@ -46,8 +46,106 @@ use Rattle.table.proofs.Segments.{one-owned}
 use Rattle.picture.specs.Owners.{segmentsIn, ownedBy, Ascending, Skipped}
 use Rattle.picture.proofs.Owners.{Owned, makes-ascend, ascending-front, makes-owned-by, none-owned, segments-found}
 use Rattle.picture.proofs.Skips.{skipped-makes-none, no-deltas-skipped}
+use Rattle.numbers.specs.Arith.{_⊕_, _⊖_}
+use Rattle.numbers.specs.Whole.{wholeBy}
+use Rattle.numbers.specs.Kind.{kindBy}
+use Rattle.dequantize.proofs.ByKind.{start-by-kind, estimate-by-kind}
+use Rattle.segments.proofs.ByBound.{rows-by-kind, columns-by-kind}
+use Rattle.points.proofs.Adding.{length-eights}
+use Rattle.faint.specs.Faint.{faintIn}
+use Rattle.faint.proofs.Counts.{faint-front}
+use lib.IntN.{ℤ}
+use lib.Signed.{mag}
+use Rattle.list.specs.List.{ListRooms, Got, got, Described, described}
+use Rattle.reader.specs.Read.{Outcome}
+use Rattle.reader.specs.declared.ReadAnswer.{ReadAnswer}
+use Rattle.writer.specs.Write.{WriteOutcome}
+use Rattle.writer.specs.declared.WriteAnswer.{WriteAnswer}
+use Rattle.write_laws.specs.Floats.{Floats}
+use Rattle.little.specs.Little.{numbersIn, Bytes, Numbers, Signeds}
+use Rattle.trace.specs.Read.{describedIn, readTraceOf}
+use Rattle.trace.specs.Write.{writeTraceOf}
+use Rattle.trace_read.proofs.Loads.{judged-fine}
+use Rattle.trace_laws.proofs.Trips.{file-then-read, read-then-file, same-file}
+use Rattle.trace_laws.proofs.ReadWhen.{read-exactly, read-refused, read-else}
+use Rattle.trace_laws.proofs.WriteWhen.{write-exactly, write-refused, write-done}
+use Rattle.trace_laws.proofs.Readings.{small-outcome}
+use Rattle.aktyrbuz.specs.ListCodes.{ReadDone}
+use Rattle.aktyrbuz.specs.TraceCalls.{TraceReadCall, reads, TraceWriteCall, writes}
 use Rattle.draw.proofs.Parts as parts
 use Rattle.rows.specs.Rows as listing
+use Rattle.numbers.specs.declared.KindI64.the-variants as I64
+use Rattle.numbers.specs.declared.KindU64.the-variants as U64
+use Rattle.table.specs.Table as building
+use Rattle.table.proofs.Segments as making
+use Rattle.reader.specs.Read as reading
+
+-- ---- (i) a trace file
+
+trace-read-equation : (bytes : List ℕ) (rooms : ListRooms) (o : Outcome) → TraceReadCall bytes rooms o → o ≡ readTraceOf rooms bytes
+trace-read-equation bytes rooms o (reads κs _ _ _ _ _ _ _ _ _ _ _ b p) = p
+
+trace-read-bytes : (bytes : List ℕ) (rooms : ListRooms) (o : Outcome) → TraceReadCall bytes rooms o → Bytes bytes
+trace-read-bytes bytes rooms o (reads κs _ _ _ _ _ _ _ _ _ _ _ b p) = b
+
+trace-write-equation : (ns : List ℕ) (ss : List Float) (ds cs : List ℤ) (a : ℤ) (room : ℕ) (o : WriteOutcome) → TraceWriteCall ns ss ds cs a room o → o ≡ writeTraceOf ns ss ds cs a room
+trace-write-equation ns ss ds cs a room o (writes κs _ _ _ _ _ _ _ _ _ _ _ _ _ n f c m p) = p
+
+record Lent (ns : List ℕ) (ss : List Float) (cs : List ℤ) (a : ℤ) : Type 0 where
+  pub counts : Numbers ns
+  pub starts : Floats ss
+  pub coefficients : Signeds cs
+  pub adjustment : mag a < 2 ^ 31
+
+trace-write-lent : (ns : List ℕ) (ss : List Float) (ds cs : List ℤ) (a : ℤ) (room : ℕ) (o : WriteOutcome) → TraceWriteCall ns ss ds cs a room o → Lent ns ss cs a
+trace-write-lent ns ss ds cs a room o (writes κs _ _ _ _ _ _ _ _ _ _ _ _ _ n f c m p) = record { counts = n; starts = f; coefficients = c; adjustment = m }
+
+pub file-read-back : FileReadBack
+file-read-back ns ss ds cs a room o n w e rooms h q r =
+    let l = trace-write-lent ns ss ds cs a room o w in
+    file-then-read ns ss ds cs a room o n (l .counts) (l .starts) (l .coefficients) (l .adjustment) (trace-write-equation ns ss ds cs a room o w) e rooms h q
+    (trace-read-equation _ rooms q r)
+
+pub file-written-back : FileWrittenBack
+file-written-back bytes rooms q s p a r e room h o w =
+    read-then-file rooms bytes q s p a (trace-read-bytes bytes rooms q r) (trace-read-equation bytes rooms q r) e room h o (trace-write-equation _ _ _ _ a room o w)
+
+pub one-file : OneFile
+one-file bytes bytes′ rooms q s p a r r′ e =
+    same-file rooms bytes bytes′ q s p a (trace-read-bytes bytes rooms q r) (trace-read-bytes bytes′ rooms q r′) (trace-read-equation bytes rooms q r) (trace-read-equation bytes′ rooms q r′) e
+
+-- what holds of the definition's answer holds of an outcome's
+along : {A : Type 0} {x y : A} (B : A → Type 0) {C : Type 0} → x ≡ y → B y ↔ C → B x ↔ C
+along B {C} e i = subst (λ (z : _). B z ↔ C) (sym e) i
+
+done-of : (rooms : ListRooms) (x : Described) (o : Outcome) → o ≡ reading.outcome rooms (got x []) → ReadDone o
+done-of rooms (described a zs ns ds cs) o e = record { splines = _; points = _; adjustment = a; is = ap (λ (u : Outcome). u .answer) e }
+
+pub trace-read-codes : TraceReadCodes
+unfolding readTraceOf
+trace-read-codes = record {
+  exactly = λ bytes rooms o r c p. along (λ (u : Outcome). u .answer ≡ ReadAnswer.Refused c p) (trace-read-equation bytes rooms o r) (read-exactly rooms bytes c p);
+  told = λ bytes rooms o r c p t. read-refused rooms bytes c p o (trace-read-equation bytes rooms o r) t;
+  else-done = λ bytes rooms o r none.
+  done-of rooms (describedIn 8 (numbersIn bytes)) o (trace-read-equation bytes rooms o r ∙ ap (reading.outcome rooms) (judged-fine rooms bytes (read-else rooms bytes none)));
+}
+
+pub trace-write-codes : TraceWriteCodes
+trace-write-codes = record {
+  exactly = λ ns ss ds cs a room o w c p.
+  along (λ (u : WriteOutcome). u .answer ≡ WriteAnswer.Refused c p) (trace-write-equation ns ss ds cs a room o w) (write-exactly ns ss ds cs room a c p);
+  told = λ ns ss ds cs a room o w c p t. write-refused ns ss ds cs room a c p o (trace-write-equation ns ss ds cs a room o w) t;
+  done = λ ns ss ds cs a room o w n. along (λ (u : WriteOutcome). u .answer ≡ WriteAnswer.Done n) (trace-write-equation ns ss ds cs a room o w) (write-done ns ss ds cs room a n);
+}
+
+pub trace-one-outcome : TraceOneOutcome
+trace-one-outcome = record {
+  read = λ bytes rooms o q r t. trace-read-equation bytes rooms o r ∙ sym (trace-read-equation bytes rooms q t);
+  write = λ ns ss ds cs a room o q w t. trace-write-equation ns ss ds cs a room o w ∙ sym (trace-write-equation ns ss ds cs a room q t);
+}
+
+pub negative-first-start : NegativeFirstStart
+negative-first-start o r = trace-read-equation _ _ o r ∙ small-outcome
 
 -- ---- (iii) the reach of a row
 
@@ -256,6 +354,36 @@ skipped-has-none = record {
   skipped = λ d i r o s e estimate b k p. no-owner b k p;
   no-deltas = λ d i r o s e estimate b k h z. no-deltas-skipped d (givenOf i) (i .high) k (made b .needs .passes) h z;
 }
+
+-- ---- (vii) why a segment sits at the corner
+
+pub numbers-by-kind : NumbersByKind
+numbers-by-kind = record { rows = rows-by-kind; columns = columns-by-kind; starts = start-by-kind; estimates = estimate-by-kind }
+
+pub faint-counted : FaintCounted
+faint-counted d i r o s e estimate b =
+    let q : o ≡ building.buildOf d i r = build-equation d i r o (b .called) in
+    let m = making.build-makes d i r s e estimate (b .faint) (sym (ap (λ (u : building.BuildOutcome). u .answer) q) ∙ b .done) in
+    let xs = eights (m .segs) in
+    sym (m .faint-count)
+    ∙ sym (faint-front xs (building.zeros (r .segments - length xs)) (length (m .segs)) (omega (arith, length-eights (m .segs))))
+    ∙ ap (λ (l : List Float). faintIn l (length (m .segs))) (sym (ap (λ (u : building.BuildOutcome). u .segments) q ∙ m .numbers))
+    ∙ ap (faintIn (o .segments)) (m .count)
+
+-- with a NaN every sum and difference is NaN, and R keeps it
+ends-of : (x d : Float) → isNan d ≡ true → (rowEnd (x ⊖ d) ≡ I64.NotNumber) × (rowEnd (x ⊕ d) ≡ I64.NotNumber) × (columnEnd (x ⊖ d) ≡ U64.NotNumber) × (columnEnd (x ⊕ d) ≡ U64.NotNumber)
+unfolding isNan kindBy wholeBy add sub
+ends-of nan nan h = (refl, refl, refl, refl)
+ends-of (inf s) nan h = (refl, refl, refl, refl)
+ends-of (fin s m e) nan h = (refl, refl, refl, refl)
+ends-of x (inf s) h = absurd (true≢false (sym h))
+ends-of x (fin s m e) h = absurd (true≢false (sym h))
+
+pub faint-by-kind : FaintByKind
+faint-by-kind s h =
+    let y = ends-of (s .«center_y») (s .«maximum_distance») h in
+    let x = ends-of (s .«center_x») (s .«maximum_distance») h in
+    record { first-row = y .0; last-row = y .1; first-column = x .2; last-column = x .3 }
 
 -- ---- (xiii) how near a listed row is
 

@@ -2,15 +2,15 @@
 use mathlib.Core.Path.{_≡_}
 use mathlib.Core.Bool.{true, false}
 use mathlib.Core.Logic.{_↔_, _⊎_}
-use mathlib.Core.List.{List, []}
-use Prim.Native.Nat.{ℕ, suc, _≤_, _<_, _+_, _^_}
-use lib.IntN.{pos, ℤ}
-use lib.ListN.{length, getD, take}
-use lib.Ieee.{Float, fin}
+use mathlib.Core.List.{List, [], _∷_, _++_}
+use Prim.Native.Nat.{ℕ, suc, _≤_, _<_, _+_, _^_, _-_, _*_}
+use lib.IntN.{pos, ℤ, negsuc}
+use lib.ListN.{length, getD, take, replicate}
+use lib.Ieee.{Float, fin, isNan}
 use Rattle.dequantize.specs.Judge.{Description}
 use Rattle.segments.specs.declared.Segment.{Segment}
 use Rattle.segments.specs.Segment.{segmentAt}
-use Rattle.segments.specs.Ranges.{hasRow, hasColumn}
+use Rattle.segments.specs.Ranges.{hasRow, hasColumn, rowEnd, columnEnd}
 use Rattle.segments.specs.Readings.{spot}
 use Rattle.table.specs.Table.{Setting, BuildRooms, BuildOutcome, givenOf}
 use Rattle.checks.specs.Tables.{Table, rowOf}
@@ -26,7 +26,86 @@ use Rattle.picture.specs.Picture.{Found}
 use Rattle.painting.specs.Segments.{SplineMakes}
 use Rattle.table.specs.Segments.{MakesOwned}
 use Rattle.picture.specs.Owners.{segmentsIn, ownedBy, Ascending, Skipped}
+use Rattle.numbers.specs.Arith.{_⊕_, _⊖_}
+use Rattle.dequantize.specs.ByKind.{StartByKind, EstimateByKind}
+use Rattle.segments.specs.Bounds.{RowsByKind, ColumnsByKind}
+use Rattle.faint.specs.Faint.{faintIn}
+use Rattle.codes.specs.declared.Code.{Code}
+use Rattle.shape.specs.Shape.{pointsOf}
+use Rattle.list.specs.List.{ListRooms}
+use Rattle.list.specs.Steps.{zeroF32}
+use Rattle.reader.specs.Read.{Outcome, padded}
+use Rattle.reader.specs.Refusals.{ReadRefused}
+use Rattle.reader.specs.declared.ReadAnswer.{ReadAnswer}
+use Rattle.writer.specs.Write.{WriteOutcome}
+use Rattle.writer.specs.declared.WriteAnswer.{WriteAnswer}
+use Rattle.write_laws.specs.Refusals.{WriteRefused}
+use Rattle.roundtrip.specs.Enough.{Enough}
+use Rattle.trace_laws.specs.Refusals.{TraceReadRefusal, TraceWriteRefusal, TraceAccepted}
+use Rattle.trace_laws.specs.Small.{smallFile, smallRooms}
+use Rattle.aktyrbuz.specs.ListCodes.{ReadDone}
+use Rattle.aktyrbuz.specs.TraceCalls.{TraceReadCall, TraceWriteCall}
 use Rattle.rows.specs.Rows as listing
+use Rattle.numbers.specs.declared.KindI64.the-variants as I64
+use Rattle.numbers.specs.declared.KindU64.the-variants as U64
+use Rattle.table.specs.Table as building
+use Rattle.reader.specs.Read as reading
+use Rattle.writer.specs.Write as writing
+
+-- ---- (i) a trace file
+
+-- reading what was written gives the description back, every number, with zeros behind, in rooms exact or larger
+abbrev pub FileReadBack : Type 0
+FileReadBack =
+    (ns : List ℕ) (ss : List Float) (ds cs : List ℤ) (a : ℤ) (room : ℕ) (o : WriteOutcome) (n : ℕ) → TraceWriteCall ns ss ds cs a room o → o .answer ≡ WriteAnswer.Done n
+    → (rooms : ListRooms) → Enough rooms ns ss ds cs → (q : Outcome) → TraceReadCall (take n (o .list)) rooms q
+    → q ≡ reading.leaves (ReadAnswer.Done (length ns) (pointsOf ns) a) (padded (rooms .counts) 0 ns) (padded (rooms .starts) zeroF32 ss)
+    (padded (rooms .deltas) (pos 0) ds) (padded (rooms .coefficients) (pos 0) cs)
+
+-- what is read is written as the same bytes, with zeros behind
+abbrev pub FileWrittenBack : Type 0
+FileWrittenBack =
+    (bytes : List ℕ) (rooms : ListRooms) (q : Outcome) (s p : ℕ) (a : ℤ) → TraceReadCall bytes rooms q → q .answer ≡ ReadAnswer.Done s p a
+    → (room : ℕ) → length bytes ≤ room → (o : WriteOutcome)
+    → TraceWriteCall (take s (q .counts)) (take (2 * s) (q .starts)) (take (2 * p) (q .deltas)) (take (128 * s) (q .coefficients)) a room o
+    → o ≡ writing.leaves (WriteAnswer.Done (length bytes)) (bytes ++ replicate (room - length bytes) 0)
+
+-- a description has one file only
+abbrev pub OneFile : Type 0
+OneFile =
+    (bytes bytes′ : List ℕ) (rooms : ListRooms) (q : Outcome) (s p : ℕ) (a : ℤ) → TraceReadCall bytes rooms q → TraceReadCall bytes′ rooms q
+    → q .answer ≡ ReadAnswer.Done s p a → bytes ≡ bytes′
+
+-- reading refuses with a code at a place exactly when the table of reading gives it; the number, the place and the counts of 0 are then told, and every lent cell is zero
+-- where the table gives nothing, reading is done
+pub record TraceReadCodes : Type 0 where
+  pub exactly : (bytes : List ℕ) (rooms : ListRooms) (o : Outcome) → TraceReadCall bytes rooms o
+      → (c : Code) (p : ℕ) → o .answer ≡ ReadAnswer.Refused c p ↔ TraceReadRefusal rooms bytes c p
+  pub told : (bytes : List ℕ) (rooms : ListRooms) (o : Outcome) → TraceReadCall bytes rooms o
+      → (c : Code) (p : ℕ) → TraceReadRefusal rooms bytes c p → ReadRefused rooms c p o
+  pub else-done : (bytes : List ℕ) (rooms : ListRooms) (o : Outcome) → TraceReadCall bytes rooms o
+      → ((c : Code) (p : ℕ) → TraceReadRefusal rooms bytes c p → ⊥) → ReadDone o
+
+-- writing likewise, by the table of writing; and it is done exactly when nothing is given, with so many bytes
+pub record TraceWriteCodes : Type 0 where
+  pub exactly : (ns : List ℕ) (ss : List Float) (ds cs : List ℤ) (a : ℤ) (room : ℕ) (o : WriteOutcome) → TraceWriteCall ns ss ds cs a room o
+      → (c : Code) (p : ℕ) → o .answer ≡ WriteAnswer.Refused c p ↔ TraceWriteRefusal ns ss ds cs room c p
+  pub told : (ns : List ℕ) (ss : List Float) (ds cs : List ℤ) (a : ℤ) (room : ℕ) (o : WriteOutcome) → TraceWriteCall ns ss ds cs a room o
+      → (c : Code) (p : ℕ) → TraceWriteRefusal ns ss ds cs room c p → WriteRefused room c p o
+  pub done : (ns : List ℕ) (ss : List Float) (ds cs : List ℤ) (a : ℤ) (room : ℕ) (o : WriteOutcome) → TraceWriteCall ns ss ds cs a room o
+      → (n : ℕ) → o .answer ≡ WriteAnswer.Done n ↔ TraceAccepted ns ss ds cs room n
+
+-- any two outcomes that a contract allows are equal
+pub record TraceOneOutcome : Type 0 where
+  pub read : (bytes : List ℕ) (rooms : ListRooms) (o q : Outcome) → TraceReadCall bytes rooms o → TraceReadCall bytes rooms q → o ≡ q
+  pub write : (ns : List ℕ) (ss : List Float) (ds cs : List ℤ) (a : ℤ) (room : ℕ) (o q : WriteOutcome)
+      → TraceWriteCall ns ss ds cs a room o → TraceWriteCall ns ss ds cs a room q → o ≡ q
+
+-- a negative first start is read, and so is -8388608: a small file of one spline with the start -3 and -8388608 and the adjustment -8
+abbrev pub NegativeFirstStart : Type 0
+NegativeFirstStart =
+    (o : Outcome) → TraceReadCall smallFile smallRooms o
+    → o ≡ reading.leaves (ReadAnswer.Done 1 0 (negsuc 7)) (0 ∷ []) (fin true 3 (pos 0) ∷ fin true 1 (pos 23) ∷ []) [] (replicate 128 (pos 0))
 
 -- ---- (iii) the reach of a row
 
@@ -125,6 +204,30 @@ pub record SkippedHasNone : Type 0 where
       → (k : ℕ) → Skipped d k → NoOwner k s o
   pub no-deltas : (d : Description) (i : Setting) (r : BuildRooms) (o : BuildOutcome) (s e estimate : ℕ) → BuildDone d i r o s e estimate
       → (k : ℕ) → k < length (d .counts) → getD (d .counts) k 0 ≡ 0 → Skipped d k
+
+-- ---- (vii) why a segment sits at the corner
+
+-- rows, columns, starts and estimates, told by the kind of each conversion, have the numbers that they had: ranges those of a bound with NaN folded into 0, starts and estimates those of Rust's `as`
+pub record NumbersByKind : Type 0 where
+  pub rows : RowsByKind
+  pub columns : ColumnsByKind
+  pub starts : StartByKind
+  pub estimates : EstimateByKind
+
+-- the fourth count of a build that is done is the number of the segments left whose third float, the distance, is NaN
+abbrev pub FaintCounted : Type 0
+FaintCounted =
+    (d : Description) (i : Setting) (r : building.BuildRooms) (o : building.BuildOutcome) (s e estimate : ℕ) (b : BuildDone d i r o s e estimate) → b .faint ≡ faintIn (o .segments) s
+
+-- the four ends of such a segment are no numbers
+pub record FaintEnds (s : Segment) : Type 0 where
+  pub first-row : rowEnd (s .«center_y» ⊖ s .«maximum_distance») ≡ I64.NotNumber
+  pub last-row : rowEnd (s .«center_y» ⊕ s .«maximum_distance») ≡ I64.NotNumber
+  pub first-column : columnEnd (s .«center_x» ⊖ s .«maximum_distance») ≡ U64.NotNumber
+  pub last-column : columnEnd (s .«center_x» ⊕ s .«maximum_distance») ≡ U64.NotNumber
+
+abbrev pub FaintByKind : Type 0
+FaintByKind = (s : Segment) → isNan (s .«maximum_distance») ≡ true → FaintEnds s
 
 -- ---- (xiii) how near a listed row is
 

@@ -11,6 +11,9 @@ ghost use Rattle.table.specs.Table as build;
 ghost use Rattle.draw.specs.Draw.{tableOf, three, drawOf};
 ghost use Rattle.hull.specs.Reach.{reachOf};
 ghost use Rattle.aktyrbuz.specs.Exported.{signedOf, toldIn, toldRefusal, toldRead, toldWrite, toldBuild, toldDraw, toldReach, readLeaves, readExport, writeLeaves, writeExport, buildLeaves, buildExport, drawLeaves, drawExport, reachLeaves, reachExport};
+
+pub mod trace_files;
+
 use codes::Code;
 use draw::DrawAnswer;
 use hull::ReachAnswer;
@@ -44,6 +47,7 @@ struct Told {
     first: i64,
     second: i64,
     third: i64,
+    fourth: i64,
 }
 
 fn told_refusal(code: Code, place: usize) -> Told
@@ -55,6 +59,7 @@ fn told_refusal(code: Code, place: usize) -> Told
         first: 0,
         second: 0,
         third: 0,
+        fourth: 0,
     }
 }
 
@@ -68,6 +73,7 @@ fn told_read(answer: ReadAnswer) -> Told
             first: splines as i64,
             second: points as i64,
             third: adjustment as i64,
+            fourth: 0,
         },
         ReadAnswer::Refused(code, place) => told_refusal(code, place),
     }
@@ -83,6 +89,7 @@ fn told_write(answer: WriteAnswer) -> Told
             first: signed(values),
             second: 0,
             third: 0,
+            fourth: 0,
         },
         WriteAnswer::Refused(code, place) => told_refusal(code, place),
     }
@@ -92,12 +99,13 @@ fn told_build(answer: BuildAnswer) -> Told
     ensures { λ r. ⌜ r ≡ toldBuild answer ⌝ }
 {
     match answer {
-        BuildAnswer::Done(segments, entries, estimate) => Told {
+        BuildAnswer::Done(segments, entries, estimate, faint) => Told {
             number: 0,
             place: 0,
             first: segments as i64,
             second: entries as i64,
             third: signed(estimate as usize),
+            fourth: faint as i64,
         },
         BuildAnswer::Refused(code, place) => told_refusal(code, place),
     }
@@ -113,6 +121,7 @@ fn told_draw(answer: DrawAnswer) -> Told
             first: signed(updates as usize),
             second: 0,
             third: 0,
+            fourth: 0,
         },
         DrawAnswer::Refused(code, place) => told_refusal(code, place),
     }
@@ -128,6 +137,7 @@ fn told_reach(answer: ReachAnswer) -> Told
             first: first as i64,
             second: past as i64,
             third: 0,
+            fourth: 0,
         },
         ReachAnswer::Refused(code, place) => told_refusal(code, place),
     }
@@ -141,7 +151,8 @@ fn five(told: Told) -> [i64; 5]
     let first = told.first;
     let second = told.second;
     let third = told.third;
-    [place, first, second, third, 0]
+    let fourth = told.fourth;
+    [place, first, second, third, fourth]
 }
 
 fn tell(answer: &mut [i64; 5], told: Told)

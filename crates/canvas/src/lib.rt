@@ -14,15 +14,17 @@ const BYTES: usize = 24576;
 // The bytes of the longest head, and more.
 const HEAD: usize = 64;
 
-// What is asked of a description: to be told, its rows, its picture, or the traces that have the pixel in this column and row.
+// What is asked of a description: to be told, its rows, its picture, the traces that have the pixel in this column and row, its trace file, or its list.
 pub enum Asked {
     Told,
     Rows,
     Picture,
     Touch(u32, u32),
+    Trace,
+    List,
 }
 
-// What is asked, of an image of this size (no rows and columns where there is none), and where a picture of either kind goes.
+// What is asked, of an image of this size (no rows and columns where there is none), and where a picture of either kind or a file goes.
 pub struct Task {
     pub width: u32,
     pub height: u32,

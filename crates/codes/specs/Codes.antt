@@ -2,7 +2,7 @@
 -- Two codes with one number are equal: `numberOf-injective` of proofs/Codes.antt.
 use Prim.Native.Nat.{ℕ}
 use Rattle.codes.specs.declared.Code.{Code}
-use Rattle.codes.specs.declared.Code.the-variants.{Done, Short, Splines, Coord, Points, Delta, Trail, Room, Size, Shape, Position, Distance, Area, Coincide, Table, Row, Span}
+use Rattle.codes.specs.declared.Code.the-variants.{Done, Short, Splines, Coord, Points, Delta, Trail, Room, Size, Shape, Position, Distance, Area, Coincide, Table, Row, Span, Header}
 
 abbrev pub numberOf : Code → ℕ
 numberOf Done = 0
@@ -22,3 +22,4 @@ numberOf Coincide = 13
 numberOf Table = 14
 numberOf Row = 15
 numberOf Span = 16
+numberOf Header = 17

@@ -20,6 +20,7 @@ pub enum Code {
     Table,
     Row,
     Span,
+    Header,
 }
 
 pub fn number_of(code: Code) -> u32
@@ -43,5 +44,6 @@ pub fn number_of(code: Code) -> u32
         Code::Table => 14,
         Code::Row => 15,
         Code::Span => 16,
+        Code::Header => 17,
     }
 }

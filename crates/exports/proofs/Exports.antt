@@ -39,17 +39,17 @@ use Rattle.exports.specs.Exports.{ReadExportCall, reads, WriteExportCall
 
 -- ---- an outcome is its answer, what that tells, and its cells
 
-abbrev ReadWhole : Outcome → Type 0
+abbrev pub ReadWhole : Outcome → Type 0
 ReadWhole o = reading.leaves (o .answer) (o .counts) (o .starts) (o .deltas) (o .coefficients) ≡ o
 
-read-whole : (rooms : ListRooms) (g : Got Described) → ReadWhole (outcome rooms g)
+pub read-whole : (rooms : ListRooms) (g : Got Described) → ReadWhole (outcome rooms g)
 read-whole rooms (got (described a zs ns ds cs) l) = refl
 read-whole rooms (stop c p) = refl
 
-abbrev WriteWhole : WriteOutcome → Type 0
+abbrev pub WriteWhole : WriteOutcome → Type 0
 WriteWhole o = writing.leaves (o .answer) (o .list) ≡ o
 
-verdict-whole : (room : ℕ) (values : List ℕ) (v : Verdict) → WriteWhole (writing.outcome room values v)
+pub verdict-whole : (room : ℕ) (values : List ℕ) (v : Verdict) → WriteWhole (writing.outcome room values v)
 verdict-whole room values Fine = refl
 verdict-whole room values (Fault c p) = refl
 

@@ -1,2 +1,3 @@
 -- The laws of the crate `exports`.
 pub mod Exports
+pub mod TraceExports

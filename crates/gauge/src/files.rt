@@ -1,45 +1,41 @@
-// The values of a file.
+// The bytes of a file, and the values of a text.
 ghost use Rattle.io.specs.Counts.{Counts};
 use text::Parsed;
 
-// More than a file may have, so that one that fills it is known to be too long.
-const BYTES: usize = 524288;
-
-// How many values there are; or the status, after a line that says what is wrong.
+// How many bytes or values there are; or the status, after a line that says what is wrong.
 pub enum Loaded {
-    Values(usize),
+    Count(usize),
     Status(u8),
 }
 
-// A line that begins with the file's name and the line in it.
-fn at_line(path: &[u8], line: usize, what: &[u8]) {
-    io::write_all(2, path);
+// A line that begins with the name that argument i is, and the line in that file.
+fn at_line(i: usize, line: usize, what: &[u8]) {
+    let mut held = io::buffer();
+    let n = os::arg(i, &mut held);
+    io::write_all(2, &held[..n]);
     words::wrong(2, b": line #", &[line as u64]);
     words::wrong(2, what, &[]);
 }
 
-fn parse(path: &[u8], text: &[u8], values: &mut [u32]) -> Loaded {
+// The values of the text in the file that argument i names.
+pub fn parse(i: usize, text: &[u8], values: &mut [u32]) -> Loaded {
     match text::values_of(text, values) {
-        Parsed::Values(n) => Loaded::Values(n),
+        Parsed::Values(n) => Loaded::Count(n),
         Parsed::Stranger(at) => {
             at_line(
-                path,
+                i,
                 text::line_of(text, at),
                 b": a byte that is neither a digit nor white space\n",
             );
             Loaded::Status(2)
         }
         Parsed::Great(at) => {
-            at_line(
-                path,
-                text::line_of(text, at),
-                b": a number above 4294967295\n",
-            );
+            at_line(i, text::line_of(text, at), b": a number above 4294967295\n");
             Loaded::Status(2)
         }
         Parsed::Full(at) => {
             at_line(
-                path,
+                i,
                 text::line_of(text, at),
                 b": more values than this program has room for, 65536\n",
             );
@@ -55,10 +51,15 @@ fn can_read(fd: i32) -> bool {
     0 <= got
 }
 
-// The first n bytes of the file, which fill the buffer only if there are too many.
-fn parse_read(path: &[u8], bytes: &[u8], n: usize, values: &mut [u32]) -> Loaded
-    requires { ⌜ Counts n (now bytes) ⌝ }
-{
+// The bytes of an open file, which fill the buffer only if there are too many.
+fn fill(path: &[u8], fd: i32, bytes: &mut [u8]) -> Loaded {
+    let n = io::read_full(fd, bytes);
+    if n == 0 {
+        if !can_read(fd) {
+            os::fail(path);
+            return Loaded::Status(2);
+        }
+    }
     if n == bytes.len() {
         io::write_all(2, path);
         return Loaded::Status(words::wrong(
@@ -67,23 +68,11 @@ fn parse_read(path: &[u8], bytes: &[u8], n: usize, values: &mut [u32]) -> Loaded
             &[],
         ));
     }
-    parse(path, &bytes[..n], values)
+    Loaded::Count(n)
 }
 
-fn fill(path: &[u8], fd: i32, values: &mut [u32]) -> Loaded {
-    let mut bytes = [0u8; BYTES];
-    let n = io::read_full(fd, &mut bytes);
-    if n == 0 {
-        if !can_read(fd) {
-            os::fail(path);
-            return Loaded::Status(2);
-        }
-    }
-    parse_read(path, &bytes, n, values)
-}
-
-// The values of the file that argument i names.
-pub fn load(i: usize, values: &mut [u32]) -> Loaded {
+// The bytes of the file that argument i names.
+pub fn load(i: usize, bytes: &mut [u8]) -> Loaded {
     let mut held = io::buffer();
     let n = os::arg(i, &mut held);
     let path = &held[..n];
@@ -92,7 +81,7 @@ pub fn load(i: usize, values: &mut [u32]) -> Loaded {
         os::fail(path);
         return Loaded::Status(2);
     }
-    let loaded = fill(path, fd, values);
+    let loaded = fill(path, fd, bytes);
     libc::close(fd);
     loaded
 }

@@ -1,4 +1,5 @@
-// What a list of decoded values holds, what it draws, which rows, and whose a pixel is: `gauge read`, `gauge draw`, `gauge rows`, `gauge touch`.
+// What a list of decoded values or a trace file holds, what it draws, which rows, whose a pixel is, and either made from the other: `gauge read`, `gauge draw`,
+// `gauge rows`, `gauge touch`, `gauge trace`.
 // A program has no exit status: with `--status` it is written as a digit to descriptor 3 (0: done, 1: refused, 2: wrong use).
 mod arguments;
 mod files;
@@ -11,23 +12,27 @@ use files::Loaded;
 
 const VALUES: usize = 65536;
 
+// More than a file may have, so that one that fills it is known to be too long.
+const BYTES: usize = 524288;
+
 // The size of an image or a pixel of it, by two arguments.
 enum Two {
     Are(u32, u32),
     Not,
 }
 
-// What a picture's name says of its kind.
+// What a file's name says of its kind: a picture of either kind, a trace file, or another.
 enum Kind {
     Tones,
     Floats,
+    Trace,
     Other,
 }
 
 fn usage() -> u8 {
     words::wrong(
         2,
-        b"usage: gauge read VALUES, gauge rows VALUES WIDTH HEIGHT, gauge touch VALUES WIDTH HEIGHT X Y, or gauge draw VALUES WIDTH HEIGHT PICTURE.ppm or .pfm\n",
+        b"usage: gauge read VALUES, rows VALUES WIDTH HEIGHT, touch VALUES WIDTH HEIGHT X Y, draw VALUES WIDTH HEIGHT PICTURE.ppm or .pfm, trace out VALUES FILE.trace, or trace in FILE.trace VALUES\n",
         &[],
     )
 }
@@ -53,15 +58,35 @@ fn perform_first(values: &[u32], n: usize, task: Task) -> u8 {
     if values.len() < n {
         return 2;
     }
-    rooms::of_list(&values[..n], task)
+    rooms::of_list(&values[0..n], task)
+}
+
+// What is asked of the text in the file that argument i names.
+fn perform_text(i: usize, text: &[u8], task: Task) -> u8 {
+    let mut values = [0u32; VALUES];
+    match files::parse(i, text, &mut values) {
+        Loaded::Status(status) => status,
+        Loaded::Count(n) => perform_first(&values, n, task),
+    }
+}
+
+// What is asked of the first n bytes, which the file that argument i names has.
+fn perform_bytes(i: usize, bytes: &[u8], n: usize, task: Task) -> u8 {
+    if bytes.len() < n {
+        return 2;
+    }
+    match kind_at(i) {
+        Kind::Trace => rooms::of_trace(&bytes[0..n], task),
+        _ => perform_text(i, &bytes[0..n], task),
+    }
 }
 
 // What is asked of the file that argument i names.
 fn perform(i: usize, task: Task) -> u8 {
-    let mut values = [0u32; VALUES];
-    match files::load(i, &mut values) {
+    let mut bytes = [0u8; BYTES];
+    match files::load(i, &mut bytes) {
         Loaded::Status(status) => status,
-        Loaded::Values(n) => perform_first(&values, n, task),
+        Loaded::Count(n) => perform_bytes(i, &bytes, n, task),
     }
 }
 
@@ -182,25 +207,41 @@ fn touch(i: u8, high: bool) -> u8
     }
 }
 
-fn kind_of(path: &[u8]) -> Kind {
-    if path.len() < 4 {
-        return Kind::Other;
+// Whether a name ends so.
+fn ends_in(path: &[u8], ending: &[u8]) -> bool {
+    if path.len() < ending.len() {
+        return false;
     }
-    let from = path.len() - 4;
-    if text::same(&path[from..], b".ppm") {
+    let from = path.len() - ending.len();
+    text::same(&path[from..], ending)
+}
+
+fn kind_of(path: &[u8]) -> Kind {
+    if ends_in(path, b".ppm") {
         return Kind::Tones;
     }
-    if text::same(&path[from..], b".pfm") {
+    if ends_in(path, b".pfm") {
         return Kind::Floats;
+    }
+    if ends_in(path, b".trace") {
+        return Kind::Trace;
     }
     Kind::Other
 }
 
-// Draws the file that argument i names into a picture of this name.
-fn draw_to(
+// What the name that argument i is says.
+fn kind_at(i: usize) -> Kind {
+    let mut held = io::buffer();
+    let n = os::arg(i, &mut held);
+    kind_of(&held[..n])
+}
+
+// What is asked of the file that argument i names, into a file of this name.
+fn write_to(
     i: u8,
     width: u32,
     height: u32,
+    asked: Asked,
     path: &[u8],
     floats: bool,
     progress: bool,
@@ -219,7 +260,7 @@ fn draw_to(
         Task {
             width: width,
             height: height,
-            asked: Asked::Picture,
+            asked: asked,
             fd: fd,
             floats: floats,
             progress: progress,
@@ -232,9 +273,18 @@ fn draw_to(
 
 fn draw_named(i: u8, width: u32, height: u32, path: &[u8], progress: bool, high: bool) -> u8 {
     match kind_of(path) {
-        Kind::Tones => draw_to(i, width, height, path, false, progress, high),
-        Kind::Floats => draw_to(i, width, height, path, true, progress, high),
-        Kind::Other => usage(),
+        Kind::Tones => write_to(
+            i,
+            width,
+            height,
+            Asked::Picture,
+            path,
+            false,
+            progress,
+            high,
+        ),
+        Kind::Floats => write_to(i, width, height, Asked::Picture, path, true, progress, high),
+        _ => usage(),
     }
 }
 
@@ -249,6 +299,46 @@ fn draw(i: u8, progress: bool, high: bool) -> u8
             draw_named(i, width, height, &held[..n], progress, high)
         }
     }
+}
+
+// The trace file of the file that argument i names, into the file that the next one names.
+fn trace_out(i: u8) -> u8
+    requires { ⌜ i ≤ 7 ⌝ }
+{
+    let mut held = io::buffer();
+    let n = os::arg(i as usize + 1, &mut held);
+    match kind_of(&held[..n]) {
+        Kind::Trace => write_to(i, 0, 0, Asked::Trace, &held[..n], false, false, false),
+        _ => usage(),
+    }
+}
+
+// The list of the trace file that argument i names, into the file that the next one names, which is none.
+fn trace_in(i: u8) -> u8
+    requires { ⌜ i ≤ 7 ⌝ }
+{
+    let Kind::Trace = kind_at(i as usize) else {
+        return usage();
+    };
+    let mut held = io::buffer();
+    let n = os::arg(i as usize + 1, &mut held);
+    match kind_of(&held[..n]) {
+        Kind::Other => write_to(i, 0, 0, Asked::List, &held[..n], false, false, false),
+        _ => usage(),
+    }
+}
+
+// `out` or `in` at argument i, and two files.
+fn trace(i: u8) -> u8
+    requires { ⌜ i ≤ 6 ⌝ }
+{
+    if arguments::is_argument(i as usize, b"out") {
+        return trace_out(i + 1);
+    }
+    if arguments::is_argument(i as usize, b"in") {
+        return trace_in(i + 1);
+    }
+    usage()
 }
 
 // The command whose words begin at argument `at`.
@@ -274,6 +364,12 @@ fn run(at: u8, progress: bool, high: bool) -> u8
             return usage();
         }
         return touch(at + 1, high);
+    }
+    if arguments::is_argument(first, b"trace") {
+        if words != first + 4 {
+            return usage();
+        }
+        return trace(at + 1);
     }
     if arguments::is_argument(first, b"draw") {
         if words != first + 5 {

@@ -219,12 +219,12 @@ module _ (limit : ℕ) (rooms : ListRooms) (l rest : List ℕ) (v : ℕ) (e : ne
 
 -- ---- zeros before, and zeros after a refusal
 
-drop-replicate : {A : Type 0} (k n : ℕ) (z : A) → drop k (replicate n z) ≡ replicate (n - k) z
+pub drop-replicate : {A : Type 0} (k n : ℕ) (z : A) → drop k (replicate n z) ≡ replicate (n - k) z
 drop-replicate zero n z = rw sub-zero
 drop-replicate (suc k) zero z = rw zero-sub
 drop-replicate (suc k) (suc n) z = rw suc-sub-suc (drop-replicate k n z)
 
-refused : (g : Got Described) (k : Code) (p : ℕ) (n n′ : List ℕ) (s s′ : List Float) (d d′ c c′ : List ℤ) (rooms : ListRooms) → ListLeft g (ReadAnswer.Refused k p) n n′ s s′ d d′ c c′
+pub refused : (g : Got Described) (k : Code) (p : ℕ) (n n′ : List ℕ) (s s′ : List Float) (d d′ c c′ : List ℤ) (rooms : ListRooms) → ListLeft g (ReadAnswer.Refused k p) n n′ s s′ d d′ c c′
     → leaves (ReadAnswer.Refused k p) (replicate (rooms .counts) 0) (replicate (rooms .starts) zeroF32) (replicate (rooms .deltas) (pos 0)) (replicate (rooms .coefficients) (pos 0)) ≡ outcome rooms g
 refused (got (described a zs ns ds cs) l) k p n n′ s s′ d d′ c c′ rooms h = cc (h .0)
 refused (stop j q) k p n n′ s s′ d d′ c c′ rooms h =
@@ -232,7 +232,7 @@ refused (stop j q) k p n n′ s s′ d d′ c c′ rooms h =
     let y : q ≡ p = cc in
     rw (x, y)
 
-done : (g : Got Described) (i m : ℕ) (a : ℤ) (n′ : List ℕ) (s′ : List Float) (d′ c′ : List ℤ) (rooms : ListRooms)
+pub done : (g : Got Described) (i m : ℕ) (a : ℤ) (n′ : List ℕ) (s′ : List Float) (d′ c′ : List ℤ) (rooms : ListRooms)
     → ListLeft g (ReadAnswer.Done i m a) (replicate (rooms .counts) 0) n′ (replicate (rooms .starts) zeroF32) s′ (replicate (rooms .deltas) (pos 0)) d′ (replicate (rooms .coefficients) (pos 0)) c′
     → leaves (ReadAnswer.Done i m a) n′ s′ d′ c′ ≡ outcome rooms g
 done (stop j q) i m a n′ s′ d′ c′ rooms h = cc

@@ -104,7 +104,7 @@ fn read_list(
     }
 }
 
-fn wipe(counts: &mut [u32], starts: &mut [f32], deltas: &mut [i32], coefficients: &mut [i32])
+pub fn wipe(counts: &mut [u32], starts: &mut [f32], deltas: &mut [i32], coefficients: &mut [i32])
     ensures { λ _. ⌜ Wiped (now (counts .entry)) (now (counts .exit)) (now (starts .entry)) (now (starts .exit)) (now (deltas .entry)) (now (deltas .exit)) (now (coefficients .entry)) (now (coefficients .exit)) ⌝ }
 {
     clear_u32(counts);

@@ -1,4 +1,4 @@
-// A list that is read in the fixed rooms of the program, lent buffers on the stack, and what is asked of its description.
+// A list or a trace file that is read in the fixed rooms of the program, lent buffers on the stack, and what is asked of its description.
 mod telling;
 
 ghost use Prim.Native.Nat.{_≤_};
@@ -38,6 +38,14 @@ fn answer(
     let asked = task.asked;
     match asked {
         Asked::Told => telling::say(counts, starts, deltas.len() / 2, adjustment, source),
+        Asked::Trace => {
+            let fd = task.fd;
+            passing::as_trace(counts, starts, deltas, coefficients, adjustment, fd)
+        }
+        Asked::List => {
+            let fd = task.fd;
+            passing::as_list(counts, starts, deltas, coefficients, adjustment, fd)
+        }
         _ => tables::build(counts, starts, deltas, coefficients, adjustment, task),
     }
 }
@@ -126,6 +134,36 @@ pub fn of_list(list: &[u32], task: Task) -> u8
             points,
             adjustment,
             Source::List(list.len()),
+            task,
+        ),
+    }
+}
+
+// What is asked of a trace file; the status.
+pub fn of_trace(bytes: &[u8], task: Task) -> u8
+    ensures { λ r. ⌜ r ≤ 3 ⌝ }
+{
+    let mut counts = [0u32; SPLINES];
+    let mut starts = [0.0f32; STARTS];
+    let mut deltas = [0i32; DELTAS];
+    let mut coefficients = [0i32; COEFFICIENTS];
+    match trace_read::trace_read(
+        bytes,
+        &mut counts,
+        &mut starts,
+        &mut deltas,
+        &mut coefficients,
+    ) {
+        ReadAnswer::Refused(code, place) => words::of_trace(code, place, bytes),
+        ReadAnswer::Done(splines, points, adjustment) => answer_first(
+            &counts,
+            &starts,
+            &deltas,
+            &coefficients,
+            splines,
+            points,
+            adjustment,
+            Source::File(bytes.len()),
             task,
         ),
     }

@@ -1,5 +1,6 @@
 // Sentences: a text in which each `#` stands for the next of some numbers, and each `~` for the next one with its sign.
 mod refusals;
+mod traces;
 
 ghost use mathlib.Core.Path.{_≡_};
 ghost use Prim.Native.Nat.{_≤_};
@@ -7,6 +8,8 @@ ghost use lib.ListN.{length};
 ghost use Rattle.io.specs.Counts.{Counts};
 pub use refusals::of_building;
 pub use refusals::of_reading;
+pub use traces::of_trace;
+pub use traces::of_writing;
 
 // The bytes of the longest line, and more.
 const LINE: usize = 256;
@@ -100,11 +103,18 @@ pub fn write(text: &[u8], numbers: &[u64], out: &mut [u8]) -> usize
     at
 }
 
-// Whether the whole sentence was written.
-fn tell(fd: i32, text: &[u8], numbers: &[u64]) -> bool {
+// Writes the sentence; whether the whole of it was written.
+fn told(fd: i32, text: &[u8], numbers: &[u64]) -> bool {
     let mut line = [0u8; LINE];
     let n = write(text, numbers, &mut line);
     io::write_all(fd, &line[..n])
+}
+
+// A sentence into a file: 0 where the whole of it was written, else 1.
+pub fn tell(fd: i32, text: &[u8], numbers: &[u64]) -> u8
+    ensures { λ r. ⌜ r ≤ 1 ⌝ }
+{
+    if told(fd, text, numbers) { 0 } else { 1 }
 }
 
 // The status where standard output cannot be written: 1, after a line that says why; where its reader has gone away 3, and no word.
@@ -122,7 +132,7 @@ fn unwritten() -> u8
 pub fn out(text: &[u8], numbers: &[u64]) -> u8
     ensures { λ r. ⌜ r ≤ 3 ⌝ }
 {
-    if tell(1, text, numbers) {
+    if told(1, text, numbers) {
         return 0;
     }
     unwritten()
@@ -132,6 +142,6 @@ pub fn out(text: &[u8], numbers: &[u64]) -> u8
 pub fn wrong(status: u8, text: &[u8], numbers: &[u64]) -> u8
     ensures { λ r. ⌜ r ≡ status ⌝ }
 {
-    tell(2, text, numbers);
+    told(2, text, numbers);
     status
 }

@@ -36,7 +36,7 @@ fn disagree(counts: &[u32], starts: &[f32], deltas: &[i32], coefficients: &[i32]
 }
 
 // Whether a double delta has magnitude 2^30 or more.
-fn wild_at(deltas: &[i32], i: usize) -> bool
+pub fn wild_at(deltas: &[i32], i: usize) -> bool
     requires { ⌜ i < length (now deltas) ⌝ }
     ensures { λ r. ⌜ r ≡ leb deltaLimit (natAbs (getD (now (deltas .entry)) i (pos 0))) ⌝ }
 {
@@ -96,7 +96,7 @@ fn judge_splines(counts: &[u32], deltas: &[i32], limit: u32) -> Verdict
 }
 
 // Whether a number is no start of the list: a whole number that is in range and not minus zero comes back with its bits.
-fn unfit_start(x: f32) -> bool
+pub fn unfit_start(x: f32) -> bool
     ensures { λ r. ⌜ r ≡ unfit x ⌝ }
 {
     if -8388608.0 < x {

@@ -8,17 +8,17 @@ use std::fmt;
 #[derive(Clone, Copy, Debug, PartialEq, Eq, Hash)]
 #[repr(u32)]
 pub enum Code {
-    /// The list ends before the next value.
+    /// The list or trace file ends before the next value.
     Short = 1,
     /// More splines than the limit; writing also: none.
     Splines = 2,
-    /// A start that is too far out; writing also: not whole, minus zero, NaN, or a negative first start.
+    /// A start that is too far out; writing also: not whole, minus zero, NaN, or, in a list, a negative first start.
     Coord = 3,
     /// More points than the limit.
     Points = 4,
     /// A double delta of magnitude 2^30 or more.
     Delta = 5,
-    /// Values are left over.
+    /// Values or bytes are left over.
     Trail = 6,
     /// It needs more memory than it may take, or than there is.
     Room = 7,
@@ -40,24 +40,30 @@ pub enum Code {
     Row = 15,
     /// Pixels past 2^23, or channels of different lengths.
     Span = 16,
+    /// A trace file of another version or with an offset that is not its part's; writing: a count or offset of 2^32 or more.
+    Header = 17,
 }
 
 /// Each code with its name and what it says, in the order of their numbers.
-const CODES: [(Code, &str, &str); 16] = [
-    (Code::Short, "SHORT", "the list ends before the next value"),
+const CODES: [(Code, &str, &str); 17] = [
+    (Code::Short, "SHORT", "it ends before the next value"),
     (
         Code::Splines,
         "SPLINES",
         "no splines, or more than the limit",
     ),
-    (Code::Coord, "COORD", "a start that no list can hold"),
+    (
+        Code::Coord,
+        "COORD",
+        "a start that no list, or no trace file, can hold",
+    ),
     (Code::Points, "POINTS", "more points than the limit"),
     (
         Code::Delta,
         "DELTA",
         "a double delta of magnitude 2^30 or more",
     ),
-    (Code::Trail, "TRAIL", "values are left over"),
+    (Code::Trail, "TRAIL", "values or bytes are left over"),
     (
         Code::Room,
         "ROOM",
@@ -88,10 +94,15 @@ const CODES: [(Code, &str, &str); 16] = [
         "SPAN",
         "pixels past 2^23, or channels of different lengths",
     ),
+    (
+        Code::Header,
+        "HEADER",
+        "a version or offset that a trace file cannot have there",
+    ),
 ];
 
 impl Code {
-    /// The code of a number from 1 through 16.
+    /// The code of a number from 1 through 17.
     fn of(number: u32) -> Option<Code> {
         CODES
             .get((number as usize).checked_sub(1)?)
@@ -110,7 +121,8 @@ impl Code {
 
 /// A refusal: what, and where.
 ///
-/// The place is an index of the list for reading and writing, the number of a spline for building, and 0 for drawing and reach.
+/// The place is an index of the list for reading and writing, a byte of the file for trace files, the number of a spline for building, and 0 for
+/// drawing and reach.
 #[derive(Clone, Copy, Debug, PartialEq, Eq, Hash)]
 pub struct Refusal {
     pub code: Code,
@@ -147,7 +159,7 @@ mod tests {
             assert_eq!(code.number() as usize, index + 1);
             assert_eq!(Code::of(code.number()), Some(code));
         }
-        assert_eq!((Code::of(0), Code::of(17)), (None, None));
+        assert_eq!((Code::of(0), Code::of(18)), (None, None));
     }
 
     #[test]

@@ -1,4 +1,4 @@
-//! Descriptions, and the lists that hold them.
+//! Descriptions, and the lists and trace files that hold them.
 
 use crate::cells::{first, zeros};
 use crate::code::{judged, Code, Refusal};
@@ -38,6 +38,24 @@ pub struct Description {
     pub adjustment: i32,
 }
 
+/// What a call leaves in the four parts of a description, each with so many cells.
+fn filled(
+    room: usize,
+    call: impl FnOnce(&mut [u32], &mut [f32], &mut [i32], &mut [i32]) -> (u32, port::Answer),
+) -> Result<Description, Refusal> {
+    let (mut counts, mut starts) = (zeros(room)?, zeros(room)?);
+    let (mut deltas, mut coefficients) = (zeros(room)?, zeros(room)?);
+    let told = call(&mut counts, &mut starts, &mut deltas, &mut coefficients);
+    let [splines, points, adjustment] = judged(told)?;
+    Ok(Description {
+        counts: first(counts, splines as usize),
+        starts: first(starts, 2 * splines as usize),
+        deltas: first(deltas, 2 * points as usize),
+        coefficients: first(coefficients, 128 * splines as usize),
+        adjustment: adjustment as i32,
+    })
+}
+
 impl Description {
     /// Reads a list of decoded values.
     ///
@@ -56,32 +74,24 @@ impl Description {
 
     /// The same with so many cells for each of the four parts.
     fn read_within(list: &[u32], limit: Limit, room: usize) -> Result<Description, Refusal> {
-        let (mut counts, mut starts) = (zeros(room)?, zeros(room)?);
-        let (mut deltas, mut coefficients) = (zeros(room)?, zeros(room)?);
-        let [splines, points, adjustment] = judged(port::read(
-            list,
-            limit.configured,
-            limit.pixels,
-            &mut counts,
-            &mut starts,
-            &mut deltas,
-            &mut coefficients,
-        ))?;
-        Ok(Description {
-            counts: first(counts, splines as usize),
-            starts: first(starts, 2 * splines as usize),
-            deltas: first(deltas, 2 * points as usize),
-            coefficients: first(coefficients, 128 * splines as usize),
-            adjustment: adjustment as i32,
+        filled(room, |counts, starts, deltas, coefficients| {
+            let Limit { configured, pixels } = limit;
+            port::read(
+                list,
+                configured,
+                pixels,
+                counts,
+                starts,
+                deltas,
+                coefficients,
+            )
         })
     }
 
     /// The list that is read back as this description under the same limit.
     pub fn write(&self, limit: Limit) -> Result<Vec<u32>, Refusal> {
         // The count, the adjustment, and each cell of the four parts.
-        let room =
-            2 + self.counts.len() + self.starts.len() + self.deltas.len() + self.coefficients.len();
-        let mut list = zeros(room)?;
+        let mut list = zeros(2 + self.cells())?;
         let [values, _, _] = judged(port::write(
             &self.parts(),
             limit.configured,
@@ -89,6 +99,26 @@ impl Description {
             &mut list,
         ))?;
         Ok(first(list, values as usize))
+    }
+
+    /// Reads a trace file, which holds a description without its picture. A first start may be negative here.
+    pub fn from_trace(file: &[u8]) -> Result<Description, Refusal> {
+        // Each cell of a description is four bytes of the file, and a file of another length is refused before any cell is asked for.
+        filled(file.len() / 4, |counts, starts, deltas, coefficients| {
+            port::trace_read(file, counts, starts, deltas, coefficients)
+        })
+    }
+
+    /// The one trace file that is read back as this description.
+    pub fn to_trace(&self) -> Result<Vec<u8>, Refusal> {
+        // The header, and four bytes for each cell of the four parts.
+        let mut file = zeros(32 + 4 * self.cells())?;
+        let [bytes, _, _] = judged(port::trace_write(&self.parts(), &mut file))?;
+        Ok(first(file, bytes as usize))
+    }
+
+    fn cells(&self) -> usize {
+        self.counts.len() + self.starts.len() + self.deltas.len() + self.coefficients.len()
     }
 
     /// The points of the longest path: 16 for each point of its spline, and the start.
@@ -171,6 +201,52 @@ mod tests {
             pixels: u32::MAX,
         };
         assert_eq!(Description::read(&[1 << 30, 0, 0], greatest), Err(refusal));
+    }
+
+    #[test]
+    fn a_trace_file_holds_what_a_list_holds_and_more() {
+        let mut read = Description::read(&list(), limit()).expect("a good list");
+        let file = read.to_trace().expect("a trace");
+        assert_eq!(file.len(), 32 + 4 + 8 + 8 + 512);
+        assert_eq!(Description::from_trace(&file).as_ref(), Ok(&read));
+        // No list holds a negative first start.
+        read.starts = vec![-8_388_608.0, -1.0];
+        let file = read.to_trace().expect("a trace");
+        assert_eq!(Description::from_trace(&file), Ok(read));
+        let nothing = Description::default();
+        let file = nothing.to_trace().expect("a trace of no splines");
+        assert_eq!(file.len(), 32);
+        assert_eq!(Description::from_trace(&file), Ok(nothing));
+    }
+
+    #[test]
+    fn trace_files_are_refused_by_code_and_byte() {
+        let good = Description::read(&list(), limit()).expect("a good list");
+        let file = good.to_trace().expect("a trace");
+        let refused = |file: &[u8]| {
+            let refusal = Description::from_trace(file).expect_err("a bad file");
+            (refusal.code, refusal.place)
+        };
+        for end in 0..file.len() {
+            assert_eq!(refused(&file[..end]), (Code::Short, end as u64));
+        }
+        for (byte, value, due) in [
+            (0, 2, (Code::Header, 0)),
+            (20, 0, (Code::Header, 20)),
+            (32, 2, (Code::Shape, 0)),
+            (43, 1, (Code::Coord, 40)),
+            (47, 64, (Code::Delta, 44)),
+        ] {
+            let mut bad = file.clone();
+            bad[byte] = value;
+            assert_eq!(refused(&bad), due);
+        }
+        let longer = [&file[..], &[0]].concat();
+        assert_eq!(refused(&longer), (Code::Trail, file.len() as u64));
+        let mut minus_zero = good;
+        minus_zero.starts[1] = -0.0;
+        let refusal = minus_zero.to_trace().expect_err("minus zero");
+        assert_eq!((refusal.code, refusal.place), (Code::Coord, 40));
     }
 
     #[test]

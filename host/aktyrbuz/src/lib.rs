@@ -1,6 +1,6 @@
 //! JPEG XL splines, from a list of decoded values to pixel rows: the proved library behind owned types.
 //!
-//! A [`Description`] is read from a list or written as one; a [`Table`] is built from it for an image; rows of the image are then drawn,
+//! A [`Description`] is read from a list or a trace file, or written as one; a [`Table`] is built from it for an image; rows of the image are then drawn,
 //! whole or in parts, in any order. No input makes a call panic or take more memory than it may: what cannot be done is a [`Refusal`] with its
 //! code and place.
 //!

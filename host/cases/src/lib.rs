@@ -7,6 +7,7 @@ pub mod lists;
 pub mod random;
 pub mod segments;
 pub mod tables;
+pub mod traces;
 
 use std::ops::Range;
 use std::sync::atomic::{AtomicU64, Ordering};
@@ -84,10 +85,11 @@ pub enum Code {
     Table = 14,
     Row = 15,
     Span = 16,
+    Header = 17,
 }
 
 /// All of them, in the order of their numbers.
-pub const CODES: [Code; 16] = [
+pub const CODES: [Code; 17] = [
     Code::Short,
     Code::Splines,
     Code::Coord,
@@ -104,6 +106,7 @@ pub const CODES: [Code; 16] = [
     Code::Table,
     Code::Row,
     Code::Span,
+    Code::Header,
 ];
 
 /// A refusal: what, and where.
@@ -138,6 +141,11 @@ fn share(n: u64) -> u64 {
 pub fn seeds(n: u64) -> Range<u64> {
     let first = FIRST_SEED.load(Ordering::Relaxed);
     first..first + share(n * TIMES.load(Ordering::Relaxed))
+}
+
+/// Whether every standing case is run: then slow ones are too.
+pub fn whole_run() -> bool {
+    ONE_IN.load(Ordering::Relaxed) == 1
 }
 
 /// Every kind with n seeds however long the run is: for cases that are slow.

@@ -11,6 +11,7 @@ pub mod reach;
 pub mod read;
 pub mod segments;
 pub mod tally;
+pub mod trace;
 pub mod transform;
 pub mod verdict;
 pub mod write;

@@ -4,13 +4,15 @@
 //! answer differs in a way that docs/DIFFERENCES.md does not list.
 
 use compare::tally::Tally;
-use compare::{build, curve, dequantize, draw, numbers, reach, read, segments, transform, write};
+use compare::{
+    build, curve, dequantize, draw, numbers, reach, read, segments, trace, transform, write,
+};
 use std::process::ExitCode;
 
 /// A layer's name, and what runs its cases.
 type Layer = (&'static str, fn(&mut Tally));
 
-const LAYERS: [Layer; 13] = [
+const LAYERS: [Layer; 14] = [
     ("numbers", numbers::compare),
     ("read", read::compare),
     ("write", write::compare),
@@ -24,6 +26,7 @@ const LAYERS: [Layer; 13] = [
     ("build", build::compare),
     ("draw", draw::compare),
     ("reach", reach::compare),
+    ("trace", trace::compare),
 ];
 
 fn main() -> ExitCode {

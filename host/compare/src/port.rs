@@ -12,6 +12,7 @@ pub mod pages;
 pub mod reach;
 pub mod read;
 pub mod tally;
+pub mod trace;
 pub mod write;
 
 use cases::{Description, Refusal, Table};
@@ -34,10 +35,10 @@ fn told_read(expected: &Result<Description, Refusal>) -> (u32, Answer) {
     }
 }
 
-/// The code and answer that stand for a list that was written, or for a refusal.
-fn told_write(expected: &Result<Vec<u32>, Refusal>) -> (u32, Answer) {
+/// The code and answer that stand for a list or a trace file that was written, or for a refusal.
+fn told_write<T>(expected: &Result<Vec<T>, Refusal>) -> (u32, Answer) {
     match expected {
-        Ok(list) => (0, [0, list.len() as i64, 0, 0, 0]),
+        Ok(written) => (0, [0, written.len() as i64, 0, 0, 0]),
         Err(refusal) => told_refusal(refusal),
     }
 }

@@ -56,7 +56,7 @@ pub fn no_equality(code: Code) -> bool {
     use Code::*;
     matches!(
         code,
-        Short | Trail | Room | Size | Shape | Table | Row | Span
+        Short | Trail | Room | Size | Shape | Table | Row | Span | Header
     )
 }
 

@@ -1,5 +1,5 @@
 //! A second reading of the scope, written from its words alone and without a look at spline.rs: the whole of reading,
-//! writing, building, drawing and reach on plain slices. It is slow and plain on purpose, and shares no code with the oracle.
+//! writing, building, drawing and reach on plain slices, and the trace file. It is slow and plain on purpose, and shares no code with the oracle.
 //! What the words leave to the Rust stands in one file, `left_open`.
 //!
 //! Lent buffers appear as rooms, their lengths in floats or u32s; what would be stored in them is returned.
@@ -15,6 +15,7 @@ pub mod logarithm;
 pub mod numbers;
 pub mod segments;
 pub mod table;
+pub mod trace;
 pub mod transform;
 pub mod walk;
 
@@ -22,3 +23,4 @@ pub use draw::{draw, reach};
 pub use list::{read, write, ListRooms};
 pub use numbers::set_ln;
 pub use table::{build, least_rooms, BuildRooms, AMPLE};
+pub use trace::{trace_read, trace_write};

@@ -280,3 +280,67 @@ pub fn reach_into(table: &Table, y: u32, width: u32, answer: &mut Answer) -> u32
         )
     }
 }
+
+/// Reads a trace file into the lent buffers: the code's number and the answer.
+pub fn trace_read(
+    bytes: &[u8],
+    counts: &mut [u32],
+    starts: &mut [f32],
+    deltas: &mut [i32],
+    coefficients: &mut [i32],
+) -> (u32, Answer) {
+    answered(|answer| trace_read_into(bytes, counts, starts, deltas, coefficients, answer))
+}
+
+/// The same, with an answer that is lent too.
+pub fn trace_read_into(
+    bytes: &[u8],
+    counts: &mut [u32],
+    starts: &mut [f32],
+    deltas: &mut [i32],
+    coefficients: &mut [i32],
+    answer: &mut Answer,
+) -> u32 {
+    // SAFETY: each pointer comes with its slice's length, and no two slices overlap.
+    unsafe {
+        symbols::aktyrbuz_trace_read(
+            bytes.as_ptr(),
+            bytes.len(),
+            counts.as_mut_ptr(),
+            counts.len(),
+            starts.as_mut_ptr(),
+            starts.len(),
+            deltas.as_mut_ptr(),
+            deltas.len(),
+            coefficients.as_mut_ptr(),
+            coefficients.len(),
+            answer,
+        )
+    }
+}
+
+/// Writes a description as a trace file into the lent bytes: the code's number and the answer.
+pub fn trace_write(parts: &Parts, bytes: &mut [u8]) -> (u32, Answer) {
+    answered(|answer| trace_write_into(parts, bytes, answer))
+}
+
+/// The same, with an answer that is lent too.
+pub fn trace_write_into(parts: &Parts, bytes: &mut [u8], answer: &mut Answer) -> u32 {
+    // SAFETY: each pointer comes with its slice's length, and the bytes overlap no other slice.
+    unsafe {
+        symbols::aktyrbuz_trace_write(
+            parts.counts.as_ptr(),
+            parts.counts.len(),
+            parts.starts.as_ptr(),
+            parts.starts.len(),
+            parts.deltas.as_ptr(),
+            parts.deltas.len(),
+            parts.coefficients.as_ptr(),
+            parts.coefficients.len(),
+            parts.adjustment,
+            bytes.as_mut_ptr(),
+            bytes.len(),
+            answer,
+        )
+    }
+}

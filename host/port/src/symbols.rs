@@ -103,4 +103,33 @@ extern "C" {
         width: u32,
         answer: *mut [i64; 5],
     ) -> u32;
+
+    pub fn aktyrbuz_trace_read(
+        bytes: *const u8,
+        bytes_len: usize,
+        counts: *mut u32,
+        counts_len: usize,
+        starts: *mut f32,
+        starts_len: usize,
+        deltas: *mut i32,
+        deltas_len: usize,
+        coefficients: *mut i32,
+        coefficients_len: usize,
+        answer: *mut [i64; 5],
+    ) -> u32;
+
+    pub fn aktyrbuz_trace_write(
+        counts: *const u32,
+        counts_len: usize,
+        starts: *const f32,
+        starts_len: usize,
+        deltas: *const i32,
+        deltas_len: usize,
+        coefficients: *const i32,
+        coefficients_len: usize,
+        adjustment: i32,
+        bytes: *mut u8,
+        bytes_len: usize,
+        answer: *mut [i64; 5],
+    ) -> u32;
 }

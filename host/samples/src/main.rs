@@ -17,6 +17,7 @@ const USAGE: &str = "\
 usage, from the repository's top:
   samples make | check                 samples/fibres.values, and what it holds
   samples examples                     what examples/ have to print of it
+  samples trace                        what tools/trace_reader.py has to print of its trace file
   samples read | [--high] rows WIDTH HEIGHT | [--high] draw WIDTH HEIGHT PICTURE | touch WIDTH HEIGHT X Y
                                        what ./gauge has to print of it, and its picture
 ";
@@ -76,6 +77,7 @@ fn run(words: &[&str]) -> Option<Result<String, String>> {
         ["make"] => make(),
         ["check"] => check(),
         ["examples"] => judged(WHOLE).and_then(|judged| said::examples(&judged, WHOLE)),
+        ["trace"] => judged(WHOLE).map(|judged| said::trace(&judged)),
         ["read"] => judged(WHOLE).map(|judged| said::read(&judged)),
         ["rows", width, height] => {
             let size = size(width, height, high)?;

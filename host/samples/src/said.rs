@@ -123,6 +123,33 @@ pub fn read(judged: &Judged) -> String {
     text
 }
 
+/// tools/trace_reader.py of the sample's trace file: every number, spline by spline.
+pub fn trace(judged: &Judged) -> String {
+    let description = &judged.description;
+    let mut text = counts(description) + "\n";
+    let mut rest = &description.deltas[..];
+    for (k, &points) in description.counts.iter().enumerate() {
+        let start = &description.starts[2 * k..];
+        text += &format!(
+            "spline {k} starts at {}, {} and has {points} points\n",
+            start[0], start[1]
+        );
+        let (own, others) = rest.split_at(2 * points as usize);
+        rest = others;
+        text += &numbers("double deltas", own);
+        let rows = description.coefficients[128 * k..].chunks(32);
+        for (name, row) in ["X", "Y", "B", "sigma"].into_iter().zip(rows) {
+            text += &numbers(name, row);
+        }
+    }
+    text
+}
+
+fn numbers(name: &str, numbers: &[i32]) -> String {
+    let words: Vec<String> = numbers.iter().map(i32::to_string).collect();
+    format!("{name}: {}\n", words.join(" "))
+}
+
 /// `gauge rows`: the entries by the table of spline.rs, the reach of them by the second reading, since the Rust has none.
 pub fn rows(judged: &Judged, size: Size) -> Result<String, String> {
     let flat = FlatTable::from(&judged.table);

@@ -1,23 +1,25 @@
 //! The port through its C interface on fixed cases: reading and writing with both round trips, building, drawing whole and in parts,
-//! reach, and the logarithm; every cell of every lent buffer, and each buffer against an inaccessible page. Before that, empty buffers by NULL.
+//! reach, trace files with both round trips, and the logarithm; every cell of every lent buffer, and each buffer against an inaccessible page. Before that, empty buffers by NULL.
 //!
 //! `compare-port` runs the standing cases, `compare-port --long` more than a million of other seeds, with lines of progress, and
-//! `compare-port --one-in N` the first N-th of each kind's standing cases.
+//! `compare-port --one-in N` the first N-th of each kind's standing cases. Names of calls behind that leave the others out.
 //! Prints a table; ends with 1, and the smallest input, where an answer differs.
 
 use compare::port::tally::Tally;
-use compare::port::{build, draw, ln, null, pages, reach, read, write};
+use compare::port::{build, draw, ln, null, pages, reach, read, trace, write};
 use std::process::ExitCode;
 
 /// A call's name, and what runs its cases.
 type Call = (&'static str, fn(&mut Tally));
 
-const CALLS: [Call; 6] = [
+const CALLS: [Call; 8] = [
     ("read", read::compare),
     ("write", write::compare),
     ("build", build::compare),
     ("draw", draw::compare),
     ("reach", reach::compare),
+    ("trace-in", trace::compare_read),
+    ("trace-out", trace::compare_write),
     ("ln", ln::compare),
 ];
 
@@ -29,35 +31,47 @@ fn main() -> ExitCode {
     quiet::end_with_the_reader();
     let words: Vec<String> = std::env::args().skip(1).collect();
     let words: Vec<&str> = words.iter().map(String::as_str).collect();
-    match words[..] {
-        [] => {}
-        ["--long"] => cases::set_seeds(LONG_FIRST_SEED, LONG_TIMES),
-        ["--one-in", many] => match many.parse() {
-            Ok(many) if many > 0 => cases::set_one_in(many),
+    let (long, names) = match words[..] {
+        ["--long", ref names @ ..] => {
+            cases::set_seeds(LONG_FIRST_SEED, LONG_TIMES);
+            (true, names)
+        }
+        ["--one-in", many, ref names @ ..] => match many.parse() {
+            Ok(many) if many > 0 => {
+                cases::set_one_in(many);
+                (false, names)
+            }
             _ => return usage(),
         },
-        _ => return usage(),
+        ref names => (false, names),
+    };
+    if !names
+        .iter()
+        .all(|name| CALLS.iter().any(|call| call.0 == *name))
+    {
+        return usage();
     }
-    let long = words == ["--long"];
     pages::check_guards();
     null::check();
     oracle::set_ln(port::ln);
     model::set_ln(port::ln);
-    compare(long)
+    compare(long, names)
 }
 
 fn usage() -> ExitCode {
-    eprintln!("compare-port: usage: compare-port [--long | --one-in N]");
+    let calls = CALLS.map(|call| call.0).join(" ");
+    eprintln!("compare-port: usage: compare-port [--long | --one-in N] [CALL..], calls: {calls}");
     ExitCode::from(2)
 }
 
-/// Runs every call, printing lines for each and for all.
-fn compare(long: bool) -> ExitCode {
+/// Runs every call, or those with these names, printing lines for each and for all.
+fn compare(long: bool, names: &[&str]) -> ExitCode {
     println!("the port against spline.rs where that decides, and against the second reading of the scope");
     println!("{}", Tally::HEAD);
     let mut code = ExitCode::SUCCESS;
     let mut all = Tally::new("all", false);
-    for (name, run) in CALLS {
+    let chosen = |name| names.is_empty() || names.contains(&name);
+    for (name, run) in CALLS.into_iter().filter(|call| chosen(call.0)) {
         let mut tally = Tally::new(name, long);
         run(&mut tally);
         println!("{tally}");

@@ -6,6 +6,7 @@ pub mod bytes;
 mod list;
 mod seeds;
 mod table;
+mod trace;
 
 use super::pages;
 use bytes::Bytes;
@@ -24,6 +25,8 @@ pub fn run(input: &[u8]) {
         BUILD => build::build(&mut bytes),
         DRAW => table::draw(&mut bytes),
         REACH => table::reach(&mut bytes),
+        TRACE_READ => trace::read(&mut bytes),
+        TRACE_WRITE => trace::write(&mut bytes),
         _ => table::ln(&mut bytes),
     }
 }
@@ -34,4 +37,6 @@ const BUILD: u8 = 2;
 const DRAW: u8 = 3;
 const REACH: u8 = 4;
 const LN: u8 = 5;
-const CALLS: u8 = 6;
+const TRACE_READ: u8 = 6;
+const TRACE_WRITE: u8 = 7;
+const CALLS: u8 = 8;

@@ -36,6 +36,16 @@ pub fn lists() -> Vec<ListCase> {
     SIZES.map(list).into()
 }
 
+/// A trace file of so many points, and one with a byte too few.
+pub fn files() -> Vec<Vec<u8>> {
+    let mut description = description(3, USUAL);
+    for delta in &mut description.deltas {
+        *delta %= 1 << 30;
+    }
+    let file = model::trace_write(&description, u64::MAX).expect("a description that a file holds");
+    vec![file[..file.len() - 1].to_vec(), file]
+}
+
 pub fn descriptions() -> Vec<WriteCase> {
     let case = |(splines, points, pixels)| WriteCase {
         description: description(splines, points),

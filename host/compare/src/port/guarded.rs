@@ -39,6 +39,36 @@ pub fn read(
     coefficients: &mut [i32],
 ) -> (u32, Answer) {
     let guarded = Guarded::of(list);
+    let told = filled(
+        counts,
+        starts,
+        deltas,
+        coefficients,
+        |counts, starts, deltas, coefficients, answer| {
+            port::read_into(
+                guarded.lent(),
+                configured,
+                pixels,
+                counts,
+                starts,
+                deltas,
+                coefficients,
+                answer,
+            )
+        },
+    );
+    guarded.is_still(list);
+    told
+}
+
+/// The code and the answer of a call that fills the four parts of a description.
+fn filled(
+    counts: &mut [u32],
+    starts: &mut [f32],
+    deltas: &mut [i32],
+    coefficients: &mut [i32],
+    call: impl FnOnce(&mut [u32], &mut [f32], &mut [i32], &mut [i32], &mut Answer) -> u32,
+) -> (u32, Answer) {
     let mut lent = (
         Guarded::of(counts),
         Guarded::of(starts),
@@ -46,10 +76,7 @@ pub fn read(
         Guarded::of(coefficients),
     );
     let told = answered(|answer| {
-        port::read_into(
-            guarded.lent(),
-            configured,
-            pixels,
+        call(
             lent.0.lend(),
             lent.1.lend(),
             lent.2.lend(),
@@ -57,7 +84,6 @@ pub fn read(
             answer,
         )
     });
-    guarded.is_still(list);
     lent.0.back_to(counts);
     lent.1.back_to(starts);
     lent.2.back_to(deltas);
@@ -111,6 +137,36 @@ pub fn write(parts: &Parts, configured: u32, pixels: u32, list: &mut [u32]) -> (
     });
     guarded.are_still(parts);
     lent.back_to(list);
+    told
+}
+
+pub fn trace_read(
+    bytes: &[u8],
+    counts: &mut [u32],
+    starts: &mut [f32],
+    deltas: &mut [i32],
+    coefficients: &mut [i32],
+) -> (u32, Answer) {
+    let guarded = Guarded::of(bytes);
+    let told = filled(
+        counts,
+        starts,
+        deltas,
+        coefficients,
+        |counts, starts, deltas, coefficients, answer| {
+            port::trace_read_into(guarded.lent(), counts, starts, deltas, coefficients, answer)
+        },
+    );
+    guarded.is_still(bytes);
+    told
+}
+
+pub fn trace_write(parts: &Parts, bytes: &mut [u8]) -> (u32, Answer) {
+    let guarded = GuardedParts::of(parts);
+    let mut lent = Guarded::of(bytes);
+    let told = answered(|answer| port::trace_write_into(&guarded.lent(), lent.lend(), answer));
+    guarded.are_still(parts);
+    lent.back_to(bytes);
     told
 }
 

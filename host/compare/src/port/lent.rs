@@ -11,6 +11,18 @@ pub trait Cell: Copy {
     fn same(self, other: Self) -> bool;
 }
 
+impl Cell for u8 {
+    const ZERO: u8 = 0;
+
+    fn other(index: usize) -> u8 {
+        u32::other(index) as u8
+    }
+
+    fn same(self, other: u8) -> bool {
+        self == other
+    }
+}
+
 impl Cell for u32 {
     const ZERO: u32 = 0;
 

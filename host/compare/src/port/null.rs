@@ -37,9 +37,12 @@ impl Lender {
 /// A call that makes its own slices, each with cells, and lends them.
 type Call = fn(&mut Lender) -> Told;
 
-const CALLS: [(&str, Call); 9] = [
+const CALLS: [(&str, Call); 12] = [
     ("read", read),
     ("write", write),
+    ("trace_read", trace_read),
+    ("trace_write", trace_write),
+    ("trace_write of nothing", trace_write_nothing),
     ("build", build),
     ("build of nothing", build_nothing),
     ("draw", draw),
@@ -119,80 +122,128 @@ impl Spline {
             coefficients: Vec::new(),
         }
     }
+
+    /// More room than it takes, with other numbers in it.
+    fn rooms() -> Spline {
+        Spline {
+            counts: vec![7; 2],
+            starts: vec![7.0; 4],
+            deltas: vec![7; 6],
+            coefficients: vec![7; 256],
+        }
+    }
+
+    fn parts(&self) -> port::Parts<'_> {
+        port::Parts {
+            counts: &self.counts,
+            starts: &self.starts,
+            deltas: &self.deltas,
+            coefficients: &self.coefficients,
+            adjustment: 0,
+        }
+    }
+
+    fn lend(&mut self, lender: &mut Lender) -> LentSpline {
+        LentSpline {
+            counts: lender.lend(&mut self.counts),
+            starts: lender.lend(&mut self.starts),
+            deltas: lender.lend(&mut self.deltas),
+            coefficients: lender.lend(&mut self.coefficients),
+        }
+    }
+}
+
+/// Each part as a pointer and a length.
+struct LentSpline {
+    counts: (*mut u32, usize),
+    starts: (*mut f32, usize),
+    deltas: (*mut i32, usize),
+    coefficients: (*mut i32, usize),
 }
 
 fn read(lender: &mut Lender) -> Told {
-    let Spline {
-        counts,
-        starts,
-        deltas,
-        coefficients,
-    } = Spline::new();
     let mut list = vec![0; 256];
-    let parts = port::Parts {
-        counts: &counts,
-        starts: &starts,
-        deltas: &deltas,
-        coefficients: &coefficients,
-        adjustment: 0,
-    };
-    let (_, written) = port::write(&parts, LIMIT, LIMIT, &mut list);
+    let (_, written) = port::write(&Spline::new().parts(), LIMIT, LIMIT, &mut list);
     list.truncate(written[1] as usize);
-    let (mut counts, mut starts) = (vec![7; 2], vec![7.0; 4]);
-    let (mut deltas, mut coefficients) = (vec![7; 6], vec![7; 256]);
-    let mut answer = UNFILLED;
     let (list_at, list_len) = lender.lend(&mut list);
-    let (counts_at, counts_len) = lender.lend(&mut counts);
-    let (starts_at, starts_len) = lender.lend(&mut starts);
-    let (deltas_at, deltas_len) = lender.lend(&mut deltas);
-    let (coefficients_at, coefficients_len) = lender.lend(&mut coefficients);
-    // SAFETY: each pointer comes with its vector's length, and where that is 0 may be NULL.
-    let code = unsafe {
-        symbols::aktyrbuz_read(
-            list_at,
-            list_len,
-            LIMIT,
-            LIMIT,
-            counts_at,
-            counts_len,
-            starts_at,
-            starts_len,
-            deltas_at,
-            deltas_len,
-            coefficients_at,
-            coefficients_len,
-            &mut answer,
-        )
-    };
-    let left = counts.iter().copied().chain(bits(&starts));
-    let left = left.chain(unsigned(&deltas)).chain(unsigned(&coefficients));
+    filled(lender, |lent, answer| {
+        // SAFETY: each pointer comes with its vector's length, and where that is 0 may be NULL.
+        unsafe {
+            symbols::aktyrbuz_read(
+                list_at,
+                list_len,
+                LIMIT,
+                LIMIT,
+                lent.counts.0,
+                lent.counts.1,
+                lent.starts.0,
+                lent.starts.1,
+                lent.deltas.0,
+                lent.deltas.1,
+                lent.coefficients.0,
+                lent.coefficients.1,
+                answer,
+            )
+        }
+    })
+}
+
+fn trace_read(lender: &mut Lender) -> Told {
+    let mut file = vec![0; 1024];
+    let (_, written) = port::trace_write(&Spline::new().parts(), &mut file);
+    file.truncate(written[1] as usize);
+    let (file_at, file_len) = lender.lend(&mut file);
+    filled(lender, |lent, answer| {
+        // SAFETY: as above.
+        unsafe {
+            symbols::aktyrbuz_trace_read(
+                file_at,
+                file_len,
+                lent.counts.0,
+                lent.counts.1,
+                lent.starts.0,
+                lent.starts.1,
+                lent.deltas.0,
+                lent.deltas.1,
+                lent.coefficients.0,
+                lent.coefficients.1,
+                answer,
+            )
+        }
+    })
+}
+
+/// What a call that fills the four parts of a description tells and leaves.
+fn filled(lender: &mut Lender, call: impl FnOnce(LentSpline, &mut Answer) -> u32) -> Told {
+    let mut rooms = Spline::rooms();
+    let mut answer = UNFILLED;
+    let code = call(rooms.lend(lender), &mut answer);
+    let left = rooms.counts.iter().copied().chain(bits(&rooms.starts));
+    let left = left.chain(unsigned(&rooms.deltas));
     Told {
         code,
         answer,
-        cells: left.collect(),
+        cells: left.chain(unsigned(&rooms.coefficients)).collect(),
     }
 }
 
 fn write(lender: &mut Lender) -> Told {
     let mut spline = Spline::new();
-    let (counts_at, counts_len) = lender.lend(&mut spline.counts);
-    let (starts_at, starts_len) = lender.lend(&mut spline.starts);
-    let (deltas_at, deltas_len) = lender.lend(&mut spline.deltas);
-    let (coefficients_at, coefficients_len) = lender.lend(&mut spline.coefficients);
+    let lent = spline.lend(lender);
     let mut list = vec![7; 256];
     let (list_at, list_len) = lender.lend(&mut list);
     let mut answer = UNFILLED;
     // SAFETY: as above.
     let code = unsafe {
         symbols::aktyrbuz_write(
-            counts_at,
-            counts_len,
-            starts_at,
-            starts_len,
-            deltas_at,
-            deltas_len,
-            coefficients_at,
-            coefficients_len,
+            lent.counts.0,
+            lent.counts.1,
+            lent.starts.0,
+            lent.starts.1,
+            lent.deltas.0,
+            lent.deltas.1,
+            lent.coefficients.0,
+            lent.coefficients.1,
             0,
             LIMIT,
             LIMIT,
@@ -206,6 +257,43 @@ fn write(lender: &mut Lender) -> Told {
         answer,
         cells: list,
     }
+}
+
+fn trace_write_of(lender: &mut Lender, mut spline: Spline) -> Told {
+    let lent = spline.lend(lender);
+    let mut file = vec![7u8; 1024];
+    let (file_at, file_len) = lender.lend(&mut file);
+    let mut answer = UNFILLED;
+    // SAFETY: as above.
+    let code = unsafe {
+        symbols::aktyrbuz_trace_write(
+            lent.counts.0,
+            lent.counts.1,
+            lent.starts.0,
+            lent.starts.1,
+            lent.deltas.0,
+            lent.deltas.1,
+            lent.coefficients.0,
+            lent.coefficients.1,
+            0,
+            file_at,
+            file_len,
+            &mut answer,
+        )
+    };
+    Told {
+        code,
+        answer,
+        cells: file.into_iter().map(u32::from).collect(),
+    }
+}
+
+fn trace_write(lender: &mut Lender) -> Told {
+    trace_write_of(lender, Spline::new())
+}
+
+fn trace_write_nothing(lender: &mut Lender) -> Told {
+    trace_write_of(lender, Spline::none())
 }
 
 /// The buffers of a build, with room for the spline above.
@@ -232,10 +320,7 @@ impl Rooms {
 }
 
 fn build_in(lender: &mut Lender, mut spline: Spline, rooms: &mut Rooms) -> (u32, Answer) {
-    let (counts_at, counts_len) = lender.lend(&mut spline.counts);
-    let (starts_at, starts_len) = lender.lend(&mut spline.starts);
-    let (deltas_at, deltas_len) = lender.lend(&mut spline.deltas);
-    let (coefficients_at, coefficients_len) = lender.lend(&mut spline.coefficients);
+    let lent = spline.lend(lender);
     let (path_at, path_len) = lender.lend(&mut rooms.path);
     let (walk_at, walk_len) = lender.lend(&mut rooms.walk);
     let (segments_at, segments_len) = lender.lend(&mut rooms.segments);
@@ -246,14 +331,14 @@ fn build_in(lender: &mut Lender, mut spline: Spline, rooms: &mut Rooms) -> (u32,
     // SAFETY: as above.
     let code = unsafe {
         symbols::aktyrbuz_build(
-            counts_at,
-            counts_len,
-            starts_at,
-            starts_len,
-            deltas_at,
-            deltas_len,
-            coefficients_at,
-            coefficients_len,
+            lent.counts.0,
+            lent.counts.1,
+            lent.starts.0,
+            lent.starts.1,
+            lent.deltas.0,
+            lent.deltas.1,
+            lent.coefficients.0,
+            lent.coefficients.1,
             0,
             SIDE,
             SIDE,

@@ -22,8 +22,10 @@ extern "C" {
 }
 
 const NO_ACCESS: i32 = 0;
+const READ: i32 = 1;
 const READ_AND_WRITE: i32 = 1 | 2;
 const PRIVATE_WITHOUT_A_FILE: i32 = 0x02 | 0x20;
+const WITHOUT_RESERVE: i32 = 0x4000;
 
 const PAGE: usize = 4096;
 
@@ -180,6 +182,27 @@ impl<T: Cell> Guarded<T> {
 impl<T: Cell> Drop for Guarded<T> {
     fn drop(&mut self) {
         FREE.with(|free| free.borrow_mut()[self.pages.k].push(self.pages));
+    }
+}
+
+/// So many zeros that take no memory: a mapping for reading alone. It stays for good.
+pub fn endless<T: Cell>(cells: u64) -> &'static [T] {
+    let bytes = cells as usize * size_of::<T>();
+    if bytes == 0 {
+        return &[];
+    }
+    // SAFETY: a new mapping at no address of our choice, whose pages are zeros, which every cell can be.
+    unsafe {
+        let first = mmap(
+            std::ptr::null_mut(),
+            bytes,
+            READ,
+            PRIVATE_WITHOUT_A_FILE | WITHOUT_RESERVE,
+            -1,
+            0,
+        );
+        assert!(first as isize != -1, "no addresses to lend");
+        std::slice::from_raw_parts(first.cast(), cells as usize)
     }
 }
 

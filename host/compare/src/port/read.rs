@@ -30,7 +30,7 @@ pub fn compare(tally: &mut Tally) {
 fn compare_case(tally: &mut Tally, kind: &str, seed: u64, case: &ListCase) {
     tally.cases += 1;
     let original = original(case);
-    for rooms in &rooms(case, &mut Random::new("rooms", seed)) {
+    for rooms in &rooms(exact_rooms(case), &mut Random::new("rooms", seed)) {
         let read = PortRead::of(case, rooms);
         let expected = model::read(&case.list, case.configured, case.pixels, rooms);
         tally.called(&expected);
@@ -64,9 +64,8 @@ fn compare_case(tally: &mut Tally, kind: &str, seed: u64, case: &ListCase) {
     }
 }
 
-/// The lengths that the list asks for, the same with one short each, larger ones, and none.
-fn rooms(case: &ListCase, r: &mut Random) -> Vec<ListRooms> {
-    let exact = exact_rooms(case);
+/// These lengths, the same with one short each, larger ones, and none.
+pub fn rooms(exact: ListRooms, r: &mut Random) -> Vec<ListRooms> {
     let more = |n: u64, r: &mut Random| n + r.within(1, 9) as u64;
     let larger = ListRooms {
         counts: more(exact.counts, r),
@@ -160,14 +159,35 @@ pub struct PortRead {
 
 impl PortRead {
     pub fn of(case: &ListCase, rooms: &ListRooms) -> PortRead {
+        PortRead::by(rooms, |counts, starts, deltas, coefficients| {
+            guarded::read(
+                &case.list,
+                case.configured,
+                case.pixels,
+                counts,
+                starts,
+                deltas,
+                coefficients,
+            )
+        })
+    }
+
+    pub fn of_trace(file: &[u8], rooms: &ListRooms) -> PortRead {
+        PortRead::by(rooms, |counts, starts, deltas, coefficients| {
+            guarded::trace_read(file, counts, starts, deltas, coefficients)
+        })
+    }
+
+    /// By a call that is lent the four parts of a description.
+    fn by(
+        rooms: &ListRooms,
+        call: impl FnOnce(&mut [u32], &mut [f32], &mut [i32], &mut [i32]) -> (u32, Answer),
+    ) -> PortRead {
         let mut counts = Lent::new(rooms.counts as usize);
         let mut starts = Lent::new(rooms.starts as usize);
         let mut deltas = Lent::new(rooms.deltas as usize);
         let mut coefficients = Lent::new(rooms.coefficients as usize);
-        let (code, answer) = guarded::read(
-            &case.list,
-            case.configured,
-            case.pixels,
+        let (code, answer) = call(
             counts.lend(),
             starts.lend(),
             deltas.lend(),
@@ -199,7 +219,7 @@ impl PortRead {
     }
 
     /// What was read, to be written; `None` if the counts pass the buffers.
-    fn parts(&self) -> Option<Parts<'_>> {
+    pub fn parts(&self) -> Option<Parts<'_>> {
         let [_, splines, points, adjustment, _] = self.answer;
         let (splines, points) = (splines as usize, points as usize);
         Some(Parts {
@@ -223,15 +243,19 @@ impl PortRead {
     }
 }
 
-/// In words, if the port does not read this list as the description, or spline.rs does not.
-pub fn not_read_back(case: &ListCase, description: &Description) -> Option<String> {
-    let rooms = ListRooms {
+/// The lengths that hold just this description.
+pub fn rooms_of(description: &Description) -> ListRooms {
+    ListRooms {
         counts: description.counts.len() as u64,
         starts: description.starts.len() as u64,
         deltas: description.deltas.len() as u64,
         coefficients: description.coefficients.len() as u64,
-    };
-    let read = PortRead::of(case, &rooms);
+    }
+}
+
+/// In words, if the port does not read this list as the description, or spline.rs does not.
+pub fn not_read_back(case: &ListCase, description: &Description) -> Option<String> {
+    let read = PortRead::of(case, &rooms_of(description));
     if !read.is(&Ok(description.clone())) {
         let told = read.told();
         return Some(format!("read back: {told:?}, or cells differ"));

@@ -28,7 +28,7 @@ const CALLS_A_LINE: u64 = 500_000;
 
 impl Tally {
     pub const HEAD: &'static str =
-        "call    cases    calls  by spline.rs  by its progress  accepted  round trips  differences";
+        "call       cases    calls  by spline.rs  by its progress  accepted  round trips  differences";
 
     /// With progress, how far a long run has come is said now and then.
     pub fn new(call: &'static str, progress: bool) -> Tally {
@@ -107,7 +107,7 @@ impl Display for Tally {
     fn fmt(&self, f: &mut Formatter) -> fmt::Result {
         write!(
             f,
-            "{:<6} {:>6} {:>8} {:>13} {:>16} {:>9} {:>12} {:>12}",
+            "{:<9} {:>6} {:>8} {:>13} {:>16} {:>9} {:>12} {:>12}",
             self.call,
             self.cases,
             self.calls,

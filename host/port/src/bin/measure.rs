@@ -1,6 +1,6 @@
 //! What a call costs: the stack that it takes and its time; reading and writing at 2^10 and at 2^20 points, building and drawing at 2^4 and at 2^12 splines.
 //!
-//! `measure` prints both. `measure read POINTS` and `measure write POINTS` make one call, for a counter of instructions.
+//! `measure` prints both. `measure CALL POINTS` makes one call of read, write, trace_read or trace_write, for a counter of instructions.
 
 use port::stack::stack_of;
 use std::process::ExitCode;
@@ -18,12 +18,14 @@ fn main() -> ExitCode {
     let words: Vec<String> = std::env::args().skip(1).collect();
     match words.iter().map(String::as_str).collect::<Vec<_>>()[..] {
         [] => table(),
-        [call @ ("read" | "write"), points] if points.parse::<usize>().is_ok_and(|n| n > 0) => {
+        [call @ ("read" | "write" | "trace_read" | "trace_write"), points]
+            if points.parse::<usize>().is_ok_and(|n| n > 0) =>
+        {
             let mut fibre = Fibre::of(points.parse().expect("a number"));
             fibre.call(call);
         }
         _ => {
-            eprintln!("usage: measure [read POINTS | write POINTS]");
+            eprintln!("usage: measure [read | write | trace_read | trace_write POINTS]");
             return ExitCode::from(2);
         }
     }
@@ -31,8 +33,8 @@ fn main() -> ExitCode {
 }
 
 fn table() {
-    println!("call       size  stack (bytes)  least time of {CALLS} (microseconds)");
-    for call in ["nothing", "read", "write"] {
+    println!("call           size  stack (bytes)  least time of {CALLS} (microseconds)");
+    for call in ["nothing", "read", "write", "trace_read", "trace_write"] {
         for points in SIZES {
             let mut fibre = Fibre::of(points);
             line(call, points, || fibre.call(call));
@@ -57,12 +59,13 @@ fn line<F: FnMut()>(call: &str, size: usize, mut make: F) {
         started.elapsed().as_nanos()
     });
     let least = least.min().expect("some calls") as f64 / 1000.0;
-    println!("{call:<8} {size:>6} {stack:>14} {least:>12.1}");
+    println!("{call:<11} {size:>7} {stack:>14} {least:>12.1}");
 }
 
-/// One spline as a list and as a description: each call writes one side again from the other.
+/// One spline as a list, as a trace file and as a description: each call writes one of them again from another.
 struct Fibre {
     list: Vec<u32>,
+    file: Vec<u8>,
     counts: Vec<u32>,
     starts: Vec<f32>,
     deltas: Vec<i32>,
@@ -80,13 +83,16 @@ impl Fibre {
                 .chain(&coefficients)
                 .map(|&value| 2 * value as u32),
         );
-        Fibre {
+        let mut fibre = Fibre {
             list,
+            file: vec![0; 32 + 524 + 8 * points],
             counts: vec![points as u32],
             starts: vec![5.0, 6.0],
             deltas,
             coefficients,
-        }
+        };
+        fibre.call("trace_write");
+        fibre
     }
 
     /// Panics if the call is refused.
@@ -95,6 +101,8 @@ impl Fibre {
         let code = match call {
             "read" => self.read(),
             "write" => self.write(),
+            "trace_read" => self.trace_read(),
+            "trace_write" => self.trace_write(),
             _ => 0,
         };
         assert_eq!(code, 0, "{call} is refused");
@@ -113,7 +121,8 @@ impl Fibre {
         code
     }
 
-    fn write(&mut self) -> u32 {
+    /// The call that writes the list or else the trace file.
+    fn written(&mut self, call: impl FnOnce(&port::Parts, &mut [u32], &mut [u8]) -> u32) -> u32 {
         let parts = port::Parts {
             counts: &self.counts,
             starts: &self.starts,
@@ -121,8 +130,26 @@ impl Fibre {
             coefficients: &self.coefficients,
             adjustment: 0,
         };
-        let (code, _) = port::write(&parts, u32::MAX, u32::MAX, &mut self.list);
+        call(&parts, &mut self.list, &mut self.file)
+    }
+
+    fn write(&mut self) -> u32 {
+        self.written(|parts, list, _| port::write(parts, u32::MAX, u32::MAX, list).0)
+    }
+
+    fn trace_read(&mut self) -> u32 {
+        let (code, _) = port::trace_read(
+            &self.file,
+            &mut self.counts,
+            &mut self.starts,
+            &mut self.deltas,
+            &mut self.coefficients,
+        );
         code
+    }
+
+    fn trace_write(&mut self) -> u32 {
+        self.written(|parts, _, file| port::trace_write(parts, file).0)
     }
 }
 

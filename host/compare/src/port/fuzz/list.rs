@@ -9,7 +9,7 @@ use cases::{Code, Description};
 use model::ListRooms;
 
 /// No lent buffer is longer.
-const MOST_ROOM: usize = 1 << 14;
+pub const MOST_ROOM: usize = 1 << 14;
 
 pub fn read(bytes: &mut Bytes) {
     let rooms = list_rooms(bytes);
@@ -42,7 +42,7 @@ pub fn read(bytes: &mut Bytes) {
     }
 }
 
-fn list_rooms(bytes: &mut Bytes) -> ListRooms {
+pub fn list_rooms(bytes: &mut Bytes) -> ListRooms {
     let mut room = || bytes.length(MOST_ROOM) as u64;
     ListRooms {
         counts: room(),

@@ -1,15 +1,19 @@
 //! Inputs to begin with: cases of the generator as bytes.
 
 use super::bytes::Put;
-use super::{BUILD, DRAW, LN, REACH, READ, WRITE};
+use super::{BUILD, DRAW, LN, REACH, READ, TRACE_READ, TRACE_WRITE, WRITE};
 use cases::descriptions::{self, build_case, BuildCase};
 use cases::lists::{list_case, write_case, KINDS, WRITE_KINDS};
 use cases::random::Random;
 use cases::tables::{edge_row, request, table, EDGE_KINDS, REQUEST_KINDS, TABLE_KINDS};
+use cases::traces::{trace_file, traced, FILE_KINDS, TRACED_KINDS};
 use cases::{each, Description, FlatTable};
 
 /// So many of each kind.
 const A_KIND: u64 = 3;
+
+/// Room for three splines and ten points.
+const ROOMS: [u32; 4] = [3, 6, 20, 384];
 
 /// Each with a name.
 pub fn seeds() -> Vec<(String, Vec<u8>)> {
@@ -33,6 +37,12 @@ pub fn seeds() -> Vec<(String, Vec<u8>)> {
         let (table, _) = edge_row(kind, seed);
         seeds.push((format!("reach-{kind}-{seed}"), reach(&table, seed)));
     }
+    for (kind, seed) in each(&FILE_KINDS, A_KIND) {
+        seeds.push((format!("trace-in-{kind}-{seed}"), trace_in(kind, seed)));
+    }
+    for (kind, seed) in each(&TRACED_KINDS, A_KIND) {
+        seeds.push((format!("trace-out-{kind}-{seed}"), trace_out(kind, seed)));
+    }
     seeds.push((String::from("ln"), ln()));
     seeds
 }
@@ -41,8 +51,7 @@ fn read(kind: &str, seed: u64) -> Vec<u8> {
     let case = list_case(kind, seed);
     let mut put = Put::default();
     put.byte(READ);
-    // Room for three splines and ten points.
-    put_all(&mut put, &[3, 6, 20, 384]);
+    put_all(&mut put, &ROOMS);
     put.number(case.configured);
     put.number(case.pixels);
     put.numbers(&case.list);
@@ -118,6 +127,22 @@ fn reach(table: &FlatTable, seed: u64) -> Vec<u8> {
     put.number(seed as u32);
     put.number(80);
     put_table(&mut put, table);
+    put.0
+}
+
+fn trace_in(kind: &str, seed: u64) -> Vec<u8> {
+    let mut put = Put::default();
+    put.byte(TRACE_READ);
+    put_all(&mut put, &ROOMS);
+    put.0.extend(trace_file(kind, seed));
+    put.0
+}
+
+fn trace_out(kind: &str, seed: u64) -> Vec<u8> {
+    let mut put = Put::default();
+    put.byte(TRACE_WRITE);
+    put.number(2000);
+    put_description(&mut put, &traced(kind, seed));
     put.0
 }
 

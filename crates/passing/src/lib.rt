@@ -1,0 +1,103 @@
+// A description passed on in an open file: as a trace file, or as a list of decimal numbers.
+mod lines;
+
+ghost use Prim.Native.Nat.{_≤_};
+use codes::Code;
+use writer::WriteAnswer;
+
+// As much as a trace file of 512 splines and 16384 points has.
+const BYTES: usize = 399392;
+
+const VALUES: usize = 65536;
+
+// The usual configured limit, and no limit by pixels.
+const CONFIGURED: u32 = 1048576;
+
+const PIXELS: u32 = 4294967295;
+
+// The status, after a line that says why the file could not be written.
+fn unwritten(what: &[u8]) -> u8
+    ensures { λ r. ⌜ r ≤ 3 ⌝ }
+{
+    os::fail(what);
+    1
+}
+
+// The first n bytes are the file.
+fn write_trace(fd: i32, bytes: &[u8], n: usize) -> u8
+    ensures { λ r. ⌜ r ≤ 3 ⌝ }
+{
+    if bytes.len() < n {
+        return 1;
+    }
+    if !io::write_all(fd, &bytes[0..n]) {
+        return unwritten(b"the trace file");
+    }
+    words::out(b"# bytes\n", &[n as u64])
+}
+
+// The first n values are the list of a description with these points.
+fn write_list(fd: i32, list: &[u32], n: usize, counts: &[u32]) -> u8
+    ensures { λ r. ⌜ r ≤ 3 ⌝ }
+{
+    if list.len() < n {
+        return 1;
+    }
+    if lines::write(fd, &list[0..n], counts) != 0 {
+        return unwritten(b"the list");
+    }
+    words::out(b"# values\n", &[n as u64])
+}
+
+fn refuse(code: Code, place: usize) -> u8
+    ensures { λ r. ⌜ r ≤ 3 ⌝ }
+{
+    words::of_trace(code, place, &[])
+}
+
+// `gauge trace out`; the status.
+pub fn as_trace(
+    counts: &[u32],
+    starts: &[f32],
+    deltas: &[i32],
+    coefficients: &[i32],
+    adjustment: i32,
+    fd: i32,
+) -> u8
+    ensures { λ r. ⌜ r ≤ 3 ⌝ }
+{
+    let mut bytes = [0u8; BYTES];
+    match trace_write::trace_write(counts, starts, deltas, coefficients, adjustment, &mut bytes) {
+        WriteAnswer::Refused(code, place) => refuse(code, place),
+        WriteAnswer::Done(n) => write_trace(fd, &bytes, n),
+    }
+}
+
+// `gauge trace in`; the status.
+pub fn as_list(
+    counts: &[u32],
+    starts: &[f32],
+    deltas: &[i32],
+    coefficients: &[i32],
+    adjustment: i32,
+    fd: i32,
+) -> u8
+    ensures { λ r. ⌜ r ≤ 3 ⌝ }
+{
+    let mut list = [0u32; VALUES];
+    match writer::write(
+        counts,
+        starts,
+        deltas,
+        coefficients,
+        adjustment,
+        CONFIGURED,
+        PIXELS,
+        &mut list,
+    ) {
+        WriteAnswer::Refused(code, place) => {
+            words::of_writing(code, place, counts.len(), CONFIGURED)
+        }
+        WriteAnswer::Done(n) => write_list(fd, &list, n, counts),
+    }
+}

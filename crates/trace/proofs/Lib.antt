@@ -1,0 +1,3 @@
+-- The laws of the crate `trace`.
+pub mod Checks
+pub mod Starts

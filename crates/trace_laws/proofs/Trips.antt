@@ -1,0 +1,160 @@
+-- Writing and reading undo each other: any outcome that the contract of one call allows, fed to any outcome that the contract of the other allows.
+-- A contract is an equation, so each theorem takes its outcomes by their equations.
+use mathlib.Core.Path.{_≡_, refl, sym, ap, _∙_}
+use mathlib.Core.List.{List, [], _∷_, _++_, map}
+use Prim.Native.Nat.{ℕ, _+_, _-_, _*_, _^_, _≤_, _<_}
+use native.Mathlib.Omega.{arith}
+use lib.Dec.{ltb}
+use lib.ListN.{length, take, getD, replicate}
+use lib.Seq.{take-at}
+use lib.IntN.{ℤ, pos}
+use lib.Signed.{mag}
+use lib.Ieee.{Float}
+use borrow.Author.Tests.{le-ltb}
+use Rattle.codes.specs.declared.Code.the-variants.{Room}
+use Rattle.shape.specs.Shape.{pointsOf}
+use Rattle.list.specs.List.{ListRooms, Got, got, stop, Described, described}
+use Rattle.list.specs.Steps.{f32Of, zeroF32}
+use Rattle.reader.specs.Read.{Outcome, padded}
+use Rattle.reader.specs.Read as reading
+use Rattle.reader.specs.declared.ReadAnswer.{ReadAnswer}
+use Rattle.writer.specs.Write.{Check, check, firstFault, wholeOf, WriteOutcome, leaves, outcome}
+use Rattle.writer.specs.declared.Verdict.{Verdict}
+use Rattle.writer.specs.declared.Verdict.the-variants.{Fine, Fault}
+use Rattle.writer.specs.declared.WriteAnswer.{WriteAnswer}
+use Rattle.writer.proofs.Checks.{passes, fine-before, both-fine}
+use Rattle.write_laws.specs.Floats.{Floats}
+use Rattle.roundtrip.specs.Enough.{Enough}
+use Rattle.little.specs.Little.{numbersIn, signedIn, Bytes, Numbers, Signeds}
+use Rattle.trace.specs.Trace.{version1, numbersOf, fileOf}
+use Rattle.trace.specs.Read.{wholeChecks, describedIn, readTrace, readTraceOf}
+use Rattle.trace.specs.Write.{writeChecks, writeTraceOf}
+use Rattle.trace_read.proofs.Loads.{judged-fine, judged-fault}
+use Rattle.trace_write.proofs.Puts.{judged, file-size}
+use Rattle.trace_laws.specs.Refusals.{S, P}
+use Rattle.trace_laws.proofs.Back.{starts-back, file-is-read, file-again, ns, zs, ds, cs, ns-long, ns-sum, zs-long, ds-long, cs-long, zs-back, again-fine}
+
+-- ---- what an accepted call of `trace_write` leaves
+
+pub record Written (ns : List ℕ) (ss : List Float) (ds cs : List ℤ) (a : ℤ) (room n : ℕ) (bytes : List ℕ) : Type 0 where
+  pub fine : firstFault (writeChecks 8 ns ss ds cs) ≡ Fine
+  pub size : n ≡ length (fileOf version1 [] (described a (map wholeOf ss) ns ds cs))
+  pub is : bytes ≡ fileOf version1 [] (described a (map wholeOf ss) ns ds cs) ++ replicate (room - n) 0
+
+module _ (ns : List ℕ) (ss : List Float) (ds cs : List ℤ) (a : ℤ) (room : ℕ) where
+  abbrev File : List ℕ
+  File = fileOf version1 [] (described a (map wholeOf ss) ns ds cs)
+
+  abbrev Due : ℕ
+  Due = 4 * numbersOf 8 (length ns) (pointsOf ns)
+
+  -- an answer of success tells all
+  pub done-written : (o : WriteOutcome) (n : ℕ) → o ≡ writeTraceOf ns ss ds cs a room → o .answer ≡ WriteAnswer.Done n → Written ns ss ds cs a room n (o .list)
+  unfolding writeTraceOf
+  done-written o n p e = go (firstFault (content ++ last ∷ [])) refl (sym (ap (λ (u : WriteOutcome). u .answer) p) ∙ e) (ap (λ (u : WriteOutcome). u .list) p)
+    where
+      content : List Check
+      content = writeChecks 8 ns ss ds cs
+
+      last : Check
+      last = check (ltb room Due) Room 0
+
+      go : (v : Verdict) → firstFault (content ++ last ∷ []) ≡ v → outcome room File v .answer ≡ WriteAnswer.Done n → o .list ≡ outcome room File v .list
+          → Written ns ss ds cs a room n (o .list)
+      go (Fault c q) f e l = let z : _≡_ {A = ℕ} 0 1 = cc in absurd (omega arith)
+      go Fine f e l =
+          let k : length File ≡ n = cc in
+          record { fine = both-fine content (last ∷ []) f .0; size = sym k; is = l ∙ ap (λ (m : ℕ). File ++ replicate (room - m) 0) k }
+
+  -- a description that is accepted, with room for its file
+  pub accepted : firstFault (writeChecks 8 ns ss ds cs) ≡ Fine → length File ≤ room
+      → writeTraceOf ns ss ds cs a room ≡ leaves (WriteAnswer.Done (length File)) (File ++ replicate (room - length File) 0)
+  unfolding writeTraceOf firstFault
+  accepted f h =
+      let j = judged ns ss ds cs f in
+      let size = file-size ns ss ds cs a (j .pairs) (j .points) (j .rows) in
+      let t = passes (ltb room Due) Room 0 [] (le-ltb room Due (omega arith)) in
+      rw (fine-before (writeChecks 8 ns ss ds cs) (check (ltb room Due) Room 0 ∷ []) f, t)
+
+-- ---- what is written is read
+
+-- the description that a file was written from is read from it, every number, with rooms exact or larger
+pub file-then-read : (ns : List ℕ) (ss : List Float) (ds cs : List ℤ) (a : ℤ) (room : ℕ) (o : WriteOutcome) (n : ℕ)
+    → Numbers ns → Floats ss → Signeds cs → mag a < 2 ^ 31 → o ≡ writeTraceOf ns ss ds cs a room → o .answer ≡ WriteAnswer.Done n
+    → (rooms : ListRooms) → Enough rooms ns ss ds cs → (q : Outcome) → q ≡ readTraceOf rooms (take n (o .list))
+    → q ≡ reading.leaves (ReadAnswer.Done (length ns) (pointsOf ns) a) (padded (rooms .counts) 0 ns) (padded (rooms .starts) zeroF32 ss)
+    (padded (rooms .deltas) (pos 0) ds) (padded (rooms .coefficients) (pos 0) cs)
+unfolding readTraceOf
+file-then-read ns ss ds cs a room o n nn f nc na p e rooms h q r =
+    let w = done-written ns ss ds cs a room o n p e in
+    let file = fileOf version1 [] (described a (map wholeOf ss) ns ds cs) in
+    let bytes : take n (o .list) ≡ file = ap (take n) (w .is) ∙ take-at file (replicate (room - n) 0) n (sym (w .size)) in
+    let got-it = file-is-read ns ss ds cs a (w .fine) nn nc na rooms h in
+    let back = starts-back _ ss f (judged ns ss ds cs (w .fine) .fit) in
+    r ∙ rw (bytes, got-it, back)
+
+-- ---- what is read is written
+
+pub record Taken (rooms : ListRooms) (bytes : List ℕ) (q : Outcome) (s p : ℕ) (a : ℤ) : Type 0 where
+  pub fine : firstFault (wholeChecks rooms bytes) ≡ Fine
+  pub is : q ≡ reading.outcome rooms (got (describedIn 8 (numbersIn bytes)) [])
+
+pub done-read : (rooms : ListRooms) (bytes : List ℕ) (q : Outcome) (s p : ℕ) (a : ℤ) → q ≡ readTraceOf rooms bytes → q .answer ≡ ReadAnswer.Done s p a → Taken rooms bytes q s p a
+unfolding readTraceOf
+done-read rooms bytes q s p a r e = go (firstFault (wholeChecks rooms bytes)) refl
+  where
+    go : (v : Verdict) → firstFault (wholeChecks rooms bytes) ≡ v → Taken rooms bytes q s p a
+    go Fine f = record { fine = f; is = r ∙ ap (reading.outcome rooms) (judged-fine rooms bytes f) }
+    go (Fault c k) f =
+        let x : q ≡ reading.outcome rooms (stop c k) = r ∙ ap (reading.outcome rooms) (judged-fault rooms bytes c k f) in
+        let y : ReadAnswer.Refused c k ≡ ReadAnswer.Done s p a = sym (ap (λ (u : Outcome). u .answer) x) ∙ e in
+        let z : _≡_ {A = ℕ} 0 1 = cc in absurd (omega arith)
+
+-- the file that a description was read from is written from it, every byte, and zeros after it
+pub read-then-file : (rooms : ListRooms) (bytes : List ℕ) (q : Outcome) (s p : ℕ) (a : ℤ) → Bytes bytes → q ≡ readTraceOf rooms bytes → q .answer ≡ ReadAnswer.Done s p a
+    → (room : ℕ) → length bytes ≤ room → (o : WriteOutcome)
+    → o ≡ writeTraceOf (take s (q .counts)) (take (2 * s) (q .starts)) (take (2 * p) (q .deltas)) (take (128 * s) (q .coefficients)) a room
+    → o ≡ leaves (WriteAnswer.Done (length bytes)) (bytes ++ replicate (room - length bytes) 0)
+unfolding describedIn
+read-then-file rooms bytes q s p a b r e room h o w =
+    let t = done-read rooms bytes q s p a r e in
+    let f = t .fine in
+    let ans : ReadAnswer.Done (length (ns rooms bytes f b)) (pointsOf (ns rooms bytes f b)) (signedIn (getD (numbersIn bytes) 3 0)) ≡ ReadAnswer.Done s p a
+    = sym (ap (λ (u : Outcome). u .answer) (t .is)) ∙ e in
+    let es : length (ns rooms bytes f b) ≡ s = cc in
+    let ep : pointsOf (ns rooms bytes f b) ≡ p = cc in
+    let ea : signedIn (getD (numbersIn bytes) 3 0) ≡ a = cc in
+    let is : s ≡ S bytes = sym es ∙ ns-long rooms bytes f b in
+    let ip : p ≡ P bytes = sym ep ∙ ns-sum rooms bytes f b in
+    let xs = ns rooms bytes f b in
+    let ss = map f32Of (zs rooms bytes f b) in
+    let ys = ds rooms bytes f b in
+    let ws = cs rooms bytes f b in
+    let n1 : take s (q .counts) ≡ xs = ap (take s) (ap (λ (u : Outcome). u .counts) (t .is)) ∙ take-at xs _ s es in
+    let n2 : take (2 * s) (q .starts) ≡ ss = ap (take (2 * s)) (ap (λ (u : Outcome). u .starts) (t .is)) ∙ take-at ss _ (2 * s) (zs-long rooms bytes f b ∙ omega arith) in
+    let n3 : take (2 * p) (q .deltas) ≡ ys = ap (take (2 * p)) (ap (λ (u : Outcome). u .deltas) (t .is)) ∙ take-at ys _ (2 * p) (ds-long rooms bytes f b ∙ omega arith) in
+    let n4 : take (128 * s) (q .coefficients) ≡ ws = ap (take (128 * s)) (ap (λ (u : Outcome). u .coefficients) (t .is)) ∙ take-at ws _ (128 * s) (cs-long rooms bytes f b ∙ omega arith) in
+    let file : fileOf version1 [] (described a (map wholeOf ss) xs ys ws) ≡ bytes
+    = rw (zs-back rooms bytes f b, ← ea) (file-again rooms bytes f b) in
+    let done = accepted xs ss ys ws a room (again-fine rooms bytes f b) (omega (arith, ap length file)) in
+    w ∙ rw (n1, n2, n3, n4) (done ∙ ap (λ (k : List ℕ). leaves (WriteAnswer.Done (length k)) (k ++ replicate (room - length k) 0)) file)
+
+-- ---- one file a description
+
+same-front : (xs ys : List ℕ) (us vs : List ℕ) → length xs ≡ length ys → xs ++ us ≡ ys ++ vs → xs ≡ ys
+same-front xs ys us vs h e = sym (take-at xs us (length xs) refl) ∙ ap (take (length xs)) e ∙ take-at ys vs (length xs) (sym h)
+
+-- two files that are read as one description are the same bytes
+pub same-file : (rooms : ListRooms) (bytes bytes′ : List ℕ) (q : Outcome) (s p : ℕ) (a : ℤ) → Bytes bytes → Bytes bytes′ → q ≡ readTraceOf rooms bytes → q ≡ readTraceOf rooms bytes′
+    → q .answer ≡ ReadAnswer.Done s p a → bytes ≡ bytes′
+same-file rooms bytes bytes′ q s p a b b′ r r′ e =
+    let room = length bytes + length bytes′ in
+    let o = writeTraceOf (take s (q .counts)) (take (2 * s) (q .starts)) (take (2 * p) (q .deltas)) (take (128 * s) (q .coefficients)) a room in
+    let x = read-then-file rooms bytes q s p a b r e room (omega arith) o refl in
+    let y = read-then-file rooms bytes′ q s p a b′ r′ e room (omega arith) o refl in
+    let z = sym x ∙ y in
+    let w : WriteAnswer.Done (length bytes) ≡ WriteAnswer.Done (length bytes′) = ap (λ (u : WriteOutcome). u .answer) z in
+    let k : length bytes ≡ length bytes′ = cc in
+    same-front bytes bytes′ _ _ k (ap (λ (u : WriteOutcome). u .list) z)
+
+-- Assumes nothing.

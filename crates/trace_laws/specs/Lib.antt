@@ -1,0 +1,3 @@
+-- The definitions of the crate `trace_laws`.
+pub mod Refusals
+pub mod Small

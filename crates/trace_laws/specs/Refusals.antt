@@ -1,0 +1,170 @@
+-- The codes of reading and of writing a trace file, and when each is given: the table of codes, in the order of the checks. Definitions only.
+-- That a call refuses exactly so is `read-exactly` and `write-exactly` of proofs/When.antt.
+use mathlib.Core.Path.{_≡_}
+use mathlib.Core.Bool.{Bool, true, false}
+use mathlib.Core.List.{List}
+use Prim.Native.Nat.{ℕ, suc, _+_, _*_, _%_, _^_, _≤_, _<_}
+use lib.ListN.{length, getD}
+use lib.IntN.{ℤ, pos, natAbs}
+use lib.Signed.{mag}
+use lib.Ieee.{Float, nan, inf, fin, up, down}
+use Rattle.codes.specs.declared.Code.{Code}
+use Rattle.codes.specs.declared.Code.the-variants.{Short, Coord, Delta, Trail, Room, Shape, Header}
+use Rattle.shape.specs.Shape.{pointsOf, Shaped}
+use Rattle.list.specs.List.{ListRooms}
+use Rattle.write_laws.specs.Refusals.{NoneOf}
+use Rattle.little.specs.Little.{numbersIn, signedIn}
+use Rattle.trace.specs.Trace.{part}
+
+-- ---- what a file says, by the numbers of it
+
+-- number k of a file, which stands at byte 4 * k
+abbrev pub number : List ℕ → ℕ → ℕ
+number bytes k = getD (numbersIn bytes) k 0
+
+-- the splines and the points that its header names
+abbrev pub S : List ℕ → ℕ
+S bytes = number bytes 1
+
+abbrev pub P : List ℕ → ℕ
+P bytes = number bytes 2
+
+-- how long a file of s splines and p points is
+abbrev pub fileSize : ℕ → ℕ → ℕ
+fileSize s p = 32 + 524 * s + 8 * p
+
+-- start number k is below -2^23, or 2^23 or more: `mag` is n both for n and for -(n + 1)
+abbrev pub OutsideAt : List ℕ → ℕ → Type 0
+OutsideAt bytes k = 2 ^ 23 ≤ mag (signedIn (number bytes (8 + S bytes + k)))
+
+-- double delta number k is of magnitude 2^30 or more
+abbrev pub WildAt : List ℕ → ℕ → Type 0
+WildAt bytes k = 2 ^ 30 ≤ natAbs (signedIn (number bytes (8 + 3 * S bytes + k)))
+
+-- ---- reading: what holds once so many checks have passed
+
+-- the first eight numbers are there, the version is 1, and the offsets of the four parts are as they should be
+pub record Opened (bytes : List ℕ) : Type 0 where
+  pub long : 32 ≤ length bytes
+  pub version : number bytes 0 ≡ 1
+
+pub record Laid (bytes : List ℕ) : Type 0 where
+  pub opened : Opened bytes
+  pub counts : number bytes 4 ≡ 32
+  pub starts : number bytes 5 ≡ 32 + 4 * S bytes
+  pub deltas : number bytes 6 ≡ 32 + 12 * S bytes
+  pub coefficients : number bytes 7 ≡ 32 + 12 * S bytes + 8 * P bytes
+
+-- it is as long as it should be, and its counts sum to its points
+pub record Summed (bytes : List ℕ) : Type 0 where
+  pub laid : Laid bytes
+  pub whole : length bytes ≡ fileSize (S bytes) (P bytes)
+  pub sums : pointsOf (part 8 (S bytes) (numbersIn bytes)) ≡ P bytes
+
+-- every start, and every double delta, is in range
+pub record Placed (bytes : List ℕ) : Type 0 where
+  pub summed : Summed bytes
+  pub inside : NoneOf (2 * S bytes) (OutsideAt bytes)
+
+pub record Tamed (bytes : List ℕ) : Type 0 where
+  pub placed : Placed bytes
+  pub tame : NoneOf (2 * P bytes) (WildAt bytes)
+
+-- a buffer is too short
+pub data Lacks (rooms : ListRooms) (s p : ℕ) : Type 0 where
+  counts : rooms .counts < s → Lacks rooms s p
+  starts : rooms .starts < 2 * s → Lacks rooms s p
+  coefficients : rooms .coefficients < 128 * s → Lacks rooms s p
+  deltas : rooms .deltas < 2 * p → Lacks rooms s p
+
+-- the table of reading: the code and the place, when
+pub data TraceReadRefusal (rooms : ListRooms) (bytes : List ℕ) : Code → ℕ → Type 0 where
+  -- 1: below 32 bytes
+  cut : length bytes < 32 → TraceReadRefusal rooms bytes Short (length bytes)
+  -- 17: another version; then the first wrong offset
+  version : 32 ≤ length bytes → (number bytes 0 ≡ 1 → ⊥) → TraceReadRefusal rooms bytes Header 0
+  counts : Opened bytes → (number bytes 4 ≡ 32 → ⊥) → TraceReadRefusal rooms bytes Header 16
+  starts : Opened bytes → number bytes 4 ≡ 32 → (number bytes 5 ≡ 32 + 4 * S bytes → ⊥) → TraceReadRefusal rooms bytes Header 20
+  deltas : Opened bytes → number bytes 4 ≡ 32 → number bytes 5 ≡ 32 + 4 * S bytes → (number bytes 6 ≡ 32 + 12 * S bytes → ⊥) → TraceReadRefusal rooms bytes Header 24
+  coefficients : Opened bytes → number bytes 4 ≡ 32 → number bytes 5 ≡ 32 + 4 * S bytes → number bytes 6 ≡ 32 + 12 * S bytes
+      → (number bytes 7 ≡ 32 + 12 * S bytes + 8 * P bytes → ⊥) → TraceReadRefusal rooms bytes Header 28
+  -- 1: shorter than it should be
+  short : Laid bytes → length bytes < fileSize (S bytes) (P bytes) → TraceReadRefusal rooms bytes Short (length bytes)
+  -- 6: bytes left over
+  trail : Laid bytes → fileSize (S bytes) (P bytes) < length bytes → TraceReadRefusal rooms bytes Trail (fileSize (S bytes) (P bytes))
+  -- 9: counts that do not sum to the points
+  shape : Laid bytes → length bytes ≡ fileSize (S bytes) (P bytes) → (pointsOf (part 8 (S bytes) (numbersIn bytes)) ≡ P bytes → ⊥) → TraceReadRefusal rooms bytes Shape 0
+  -- 3: start number k is the first out of range
+  coord : Summed bytes → (k : ℕ) → k < 2 * S bytes → NoneOf k (OutsideAt bytes) → OutsideAt bytes k → TraceReadRefusal rooms bytes Coord (32 + 4 * S bytes + 4 * k)
+  -- 5: double delta number k is the first out of range
+  delta : Placed bytes → (k : ℕ) → k < 2 * P bytes → NoneOf k (WildAt bytes) → WildAt bytes k → TraceReadRefusal rooms bytes Delta (32 + 12 * S bytes + 4 * k)
+  -- 7: nothing else is given, and a buffer is too short
+  room : Tamed bytes → Lacks rooms (S bytes) (P bytes) → TraceReadRefusal rooms bytes Room 0
+
+-- 0: nothing is given
+pub record TraceReadAccepted (rooms : ListRooms) (bytes : List ℕ) : Type 0 where
+  pub tamed : Tamed bytes
+  pub held : Lacks rooms (S bytes) (P bytes) → ⊥
+
+-- ---- writing
+
+-- a number that is no start of the file; `fin s m e` has the magnitude m * up e / down e, and is negative where s is true
+pub data Misfit : Float → Type 0 where
+  no-number : Misfit nan
+  infinite : {s : Bool} → Misfit (inf s)
+  -- below -2^23, or 2^23 or more
+  below : {m : ℕ} {e : ℤ} → 2 ^ 23 * down e < m * up e → Misfit (fin true m e)
+  above : {s : Bool} {m : ℕ} {e : ℤ} → s ≡ false → 2 ^ 23 * down e ≤ m * up e → Misfit (fin s m e)
+  not-whole : {s : Bool} {m : ℕ} {e : ℤ} → (m * up e % down e ≡ 0 → ⊥) → Misfit (fin s m e)
+  minus-zero : {e : ℤ} → Misfit (fin true 0 e)
+
+abbrev pub MisfitAt : List Float → ℕ → Type 0
+MisfitAt ss k = Misfit (getD ss k nan)
+
+abbrev pub WildIn : List ℤ → ℕ → Type 0
+WildIn ds k = 2 ^ 30 ≤ natAbs (getD ds k (pos 0))
+
+-- 32 bits hold the counts and the offsets of the header
+pub record Headed (s p : ℕ) : Type 0 where
+  pub splines : s < 2 ^ 32
+  pub points : p < 2 ^ 32
+  pub starts : 32 + 4 * s < 2 ^ 32
+  pub deltas : 32 + 12 * s < 2 ^ 32
+  pub coefficients : 32 + 12 * s + 8 * p < 2 ^ 32
+
+-- lengths agree, the header can be written, and so can every start, and every double delta
+pub record Headable (ns : List ℕ) (ss : List Float) (ds cs : List ℤ) : Type 0 where
+  pub shaped : Shaped ns ss ds cs
+  pub headed : Headed (length ns) (pointsOf ns)
+
+pub record Fitting (ns : List ℕ) (ss : List Float) (ds cs : List ℤ) : Type 0 where
+  pub headable : Headable ns ss ds cs
+  pub fit : NoneOf (length ss) (MisfitAt ss)
+
+pub record Writable (ns : List ℕ) (ss : List Float) (ds cs : List ℤ) : Type 0 where
+  pub fitting : Fitting ns ss ds cs
+  pub tame : NoneOf (length ds) (WildIn ds)
+
+-- the table of writing: the code and the place, when; the place is the byte at which the number would stand
+pub data TraceWriteRefusal (ns : List ℕ) (ss : List Float) (ds cs : List ℤ) (room : ℕ) : Code → ℕ → Type 0 where
+  -- 9: lengths disagree
+  shape : (Shaped ns ss ds cs → ⊥) → TraceWriteRefusal ns ss ds cs room Shape 0
+  -- 17: the first count or offset of 2^32 or more
+  splines : Shaped ns ss ds cs → 2 ^ 32 ≤ length ns → TraceWriteRefusal ns ss ds cs room Header 4
+  points : Shaped ns ss ds cs → length ns < 2 ^ 32 → 2 ^ 32 ≤ pointsOf ns → TraceWriteRefusal ns ss ds cs room Header 8
+  starts : Shaped ns ss ds cs → length ns < 2 ^ 32 → pointsOf ns < 2 ^ 32 → 2 ^ 32 ≤ 32 + 4 * length ns → TraceWriteRefusal ns ss ds cs room Header 20
+  deltas : Shaped ns ss ds cs → pointsOf ns < 2 ^ 32 → 32 + 4 * length ns < 2 ^ 32 → 2 ^ 32 ≤ 32 + 12 * length ns → TraceWriteRefusal ns ss ds cs room Header 24
+  coefficients : Shaped ns ss ds cs → pointsOf ns < 2 ^ 32 → 32 + 12 * length ns < 2 ^ 32 → 2 ^ 32 ≤ 32 + 12 * length ns + 8 * pointsOf ns
+      → TraceWriteRefusal ns ss ds cs room Header 28
+  -- 3: start number k is the first that can't be written
+  coord : Headable ns ss ds cs → (k : ℕ) → k < length ss → NoneOf k (MisfitAt ss) → MisfitAt ss k → TraceWriteRefusal ns ss ds cs room Coord (32 + 4 * length ns + 4 * k)
+  -- 5: double delta number k is the first of magnitude 2^30 or more
+  delta : Fitting ns ss ds cs → (k : ℕ) → k < length ds → NoneOf k (WildIn ds) → WildIn ds k → TraceWriteRefusal ns ss ds cs room Delta (32 + 12 * length ns + 4 * k)
+  -- 7: nothing else is given, and the bytes are too few
+  room : Writable ns ss ds cs → room < fileSize (length ns) (pointsOf ns) → TraceWriteRefusal ns ss ds cs room Room 0
+
+-- 0: nothing is given, and so many bytes are written
+pub record TraceAccepted (ns : List ℕ) (ss : List Float) (ds cs : List ℤ) (room bytes : ℕ) : Type 0 where
+  pub writable : Writable ns ss ds cs
+  pub held : fileSize (length ns) (pointsOf ns) ≤ room
+  pub all : bytes ≡ fileSize (length ns) (pointsOf ns)

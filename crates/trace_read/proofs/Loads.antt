@@ -1,0 +1,227 @@
+-- Laws of loading a file, and of the whole.
+use mathlib.Core.Path.{_≡_, refl, sym, ap, subst, _∙_}
+use mathlib.Core.Bool.{Bool, true, false, _||_}
+use mathlib.Core.List.{List, [], _∷_, _++_, map}
+use Prim.Native.Nat.{ℕ, zero, suc, _+_, _-_, _*_, _^_, _≤_, _<_}
+use native.Mathlib.Nat.{not-suc-le-zero, le-of-suc-le-suc}
+use native.Mathlib.Numerals.{add-one}
+use native.Mathlib.Omega.{arith}
+use lib.Dec.{eqb, ltb, leb}
+use lib.ListN.{length, take, drop, set, getD, replicate, length-set, length-map, length-replicate, List·getD-map}
+use lib.Seq.{take-all, take-length}
+use lib.IntN.{ℤ, pos}
+use lib.Signed.{mag}
+use lib.Ieee.{Float}
+use borrow.Author.Tests.{lt-ltb, le-ltb, ltb-false, leb-false, eqb-true, not-false}
+use Rattle.codes.specs.declared.Code.{Code}
+use Rattle.codes.specs.declared.Code.the-variants.{Short, Coord, Room, Shape, Header}
+use Rattle.shape.specs.Shape.{pointsOf}
+use Rattle.list.specs.List.{ListRooms, Got, got, stop, Described, described, lacking, posLimit}
+use Rattle.list.specs.Steps.{f32Of, zeroF32}
+use Rattle.read_steps.specs.Steps.{Front}
+use Rattle.reader.specs.Read.{leaves, roomsOf, outcome}
+use Rattle.reader.specs.Rest.{ListLeft, Wiped}
+use Rattle.reader.specs.declared.ReadAnswer.{ReadAnswer}
+use Rattle.reader.proofs.Whole.{done, refused}
+use Rattle.writer.specs.Write.{Check, check, firstFault}
+use Rattle.writer.specs.declared.Verdict.{Verdict}
+use Rattle.writer.specs.declared.Verdict.the-variants.{Fine, Fault}
+use Rattle.writer.proofs.Checks.{neither, fails, passes, passed, faults-before, fine-before, both-fine}
+use Rattle.little.specs.Little.{numbersIn, signedIn}
+use Rattle.little.proofs.Little.{numbers-length}
+use Rattle.trace.specs.Trace.{version1, startsFrom, deltasFrom, coefficientsFrom, numbersOf, part, numberChecks}
+use Rattle.trace.specs.Read.{splinesIn, pointsIn, versionChecks, offsetChecks, lengthChecks, misplaced, tooWild, partChecks, bodyChecks, readChecks, tight, wholeChecks, describedIn, readTrace, readTraceOf}
+use Rattle.trace.proofs.Checks.{fine-each, part-length, part-at}
+use Rattle.trace_judge.proofs.Faults.{held-length, length-due}
+use Rattle.trace_read.specs.Steps.{startIn, roomsFrom, Loadable, Loaded}
+
+-- ---- a buffer that is filled from the front
+
+module _ {A : Type 0} where
+  -- the first i values stand in front
+  fill-suc : (vs d : List A) (z : A) (i : ℕ) → i < length vs → i < length d → set (take i vs ++ drop i d) i (getD vs i z) ≡ take (suc i) vs ++ drop (suc i) d
+  fill-suc [] d z i h g = absurd (not-suc-le-zero h)
+  fill-suc (v ∷ vs) [] z i h g = absurd (not-suc-le-zero g)
+  fill-suc (v ∷ vs) (x ∷ d) z zero h g = refl
+  fill-suc (v ∷ vs) (x ∷ d) z (suc i) h g = ap (λ (t : List A). v ∷ t) (fill-suc vs d z i (le-of-suc-le-suc h) (le-of-suc-le-suc g))
+
+  -- one more
+  pub front-more : (vs old new : List A) (z v : A) (i : ℕ) → i < length vs → i < length old → v ≡ getD vs i z → new ≡ take i vs ++ drop i old
+      → set new i v ≡ take (i + 1) vs ++ drop (i + 1) old
+  front-more vs old new z v i h g e is = rw (is, e, add-one) (fill-suc vs old z i h g)
+
+  -- all of them
+  pub front-all : (vs old new : List A) (i : ℕ) → length vs ≡ i → new ≡ take i vs ++ drop i old → Front vs old new
+  front-all vs old new i e is = rw (← e, take-length) at is
+
+-- a turn of a loop that loads: each number of a part, as what it stands for
+module _ {A : Type 0} (f : ℕ → A) (bytes : List ℕ) (from n : ℕ) (held : 4 * (from + n) ≤ length bytes) where
+  abbrev Values : List A
+  Values = map f (part from n (numbersIn bytes))
+
+  pub load-more : (old new : List A) (i u : ℕ) (v : A) → i < n → n ≤ length old → u ≡ getD (numbersIn bytes) (from + i) 0 → v ≡ f u → new ≡ take i Values ++ drop i old
+      → set new i v ≡ take (i + 1) Values ++ drop (i + 1) old
+  load-more old new i u v h g e t is =
+      let k = held-length bytes from n held in
+      let at : getD Values i (f 0) ≡ f u = List·getD-map f (part from n (numbersIn bytes)) i 0 ∙ ap f (part-at from n (numbersIn bytes) i h ∙ sym e) in
+      front-more Values old new (f 0) v i (omega (arith, length-map (part from n (numbersIn bytes)) f)) (omega arith) (t ∙ sym at) is
+
+  pub load-all : (old new : List A) (i : ℕ) → i ≤ n → n ≤ i → new ≡ take i Values ++ drop i old → Front Values old new
+  load-all old new i h g is =
+      front-all Values old new i (omega (arith, length-map (part from n (numbersIn bytes)) f, held-length bytes from n held)) is
+
+-- a start that was judged is in range
+pub placed-small : (u : ℕ) → misplaced u ≡ false → mag (signedIn u) < 2 ^ 23
+unfolding misplaced
+placed-small u e = leb-false (2 ^ 23) (mag (signedIn u)) e
+
+pub placed-at : (bytes : List ℕ) (from n i u : ℕ) → 4 * (from + n) ≤ length bytes → i < n → u ≡ getD (numbersIn bytes) (from + i) 0
+    → firstFault (numberChecks misplaced Coord from (part from n (numbersIn bytes))) ≡ Fine → misplaced u ≡ false
+placed-at bytes from n i u held h e fine =
+    let k = held-length bytes from n held in
+    ap misplaced (e ∙ sym (part-at from n (numbersIn bytes) i h)) ∙ fine-each misplaced Coord (part from n (numbersIn bytes)) 0 from fine i (omega arith)
+
+-- ---- the room
+
+module _ (a b d e s p : ℕ) where
+  abbrev Rooms : ListRooms
+  Rooms = roomsFrom a b d e
+
+  pub tight-counts : a < s → true ≡ tight Rooms s p
+  unfolding tight
+  tight-counts h = rw (lt-ltb a s h)
+
+  module _ (x : s ≤ a) where
+    pub tight-starts : b < 2 * s → true ≡ tight Rooms s p
+    unfolding tight
+    tight-starts h = rw (le-ltb a s x, lt-ltb b (2 * s) h)
+
+    module _ (y : 2 * s ≤ b) where
+      pub tight-coefficients : e < 128 * s → true ≡ tight Rooms s p
+      unfolding tight
+      tight-coefficients h = rw (le-ltb a s x, le-ltb b (2 * s) y, lt-ltb e (128 * s) h)
+
+      pub tight-deltas : 128 * s ≤ e → ltb d (2 * p) ≡ tight Rooms s p
+      unfolding tight
+      tight-deltas h = rw (le-ltb a s x, le-ltb b (2 * s) y, le-ltb e (128 * s) h)
+
+  pub roomy : tight Rooms s p ≡ false → (s ≤ a) × (2 * s ≤ b) × (128 * s ≤ e) × (2 * p ≤ d)
+  unfolding tight
+  roomy h =
+      let u = neither (lacking Rooms s) (ltb d (2 * p)) h in
+      let v = neither (ltb a s) (ltb b (2 * s) || ltb e (128 * s)) (u .0) in
+      let w = neither (ltb b (2 * s)) (ltb e (128 * s)) (v .1) in
+      (ltb-false a s (v .0), ltb-false b (2 * s) (w .0), ltb-false e (128 * s) (w .1), ltb-false d (2 * p) (u .1))
+
+-- ---- the whole file
+
+-- no fault was found but for the room
+pub record Sound (bytes : List ℕ) : Type 0 where
+  pub long : 32 ≤ length bytes
+  pub whole : length bytes ≡ 4 * numbersOf 8 (splinesIn (numbersIn bytes)) (pointsIn (numbersIn bytes))
+  pub sums : pointsOf (part 8 (splinesIn (numbersIn bytes)) (numbersIn bytes)) ≡ pointsIn (numbersIn bytes)
+  pub placed : firstFault (numberChecks misplaced Coord (startsFrom 8 (splinesIn (numbersIn bytes))) (part (startsFrom 8 (splinesIn (numbersIn bytes))) (2 * splinesIn (numbersIn bytes)) (numbersIn bytes))) ≡ Fine
+
+pub sound : (bytes : List ℕ) → firstFault (readChecks version1 (length bytes) (numbersIn bytes)) ≡ Fine → Sound bytes
+unfolding readChecks versionChecks bodyChecks partChecks
+sound bytes e =
+    let ns = numbersIn bytes in
+    let n = length bytes in
+    let a = passed (ltb n 32) Short n _ e in
+    let b = passed _ Header 0 _ (a .1) in
+    let d = both-fine (offsetChecks 8 ns) (bodyChecks 8 n ns) (b .1) in
+    let g = both-fine (lengthChecks n (4 * numbersOf 8 (splinesIn ns) (pointsIn ns))) (partChecks 8 (splinesIn ns) (pointsIn ns) ns) (d .1) in
+    let h = passed _ Shape 0 _ (g .1) in
+    let i = both-fine (numberChecks misplaced Coord (startsFrom 8 (splinesIn ns)) (part (startsFrom 8 (splinesIn ns)) (2 * splinesIn ns) ns)) _ (h .1) in
+    record {
+      long = ltb-false n 32 (a .0);
+      whole = length-due n (4 * numbersOf 8 (splinesIn ns) (pointsIn ns)) (g .0);
+      sums = eqb-true (pointsOf (part 8 (splinesIn ns) ns)) (pointsIn ns) (not-false _ (h .0));
+      placed = i .0;
+    }
+
+module _ (rooms : ListRooms) (bytes : List ℕ) where
+  abbrev Content : List Check
+  Content = readChecks version1 (length bytes) (numbersIn bytes)
+
+  pub whole-fault : (c : Code) (q : ℕ) → firstFault Content ≡ Fault c q → Fault c q ≡ firstFault (wholeChecks rooms bytes)
+  unfolding wholeChecks
+  whole-fault c q e = sym (faults-before Content _ c q e)
+
+  module _ (fine : firstFault Content ≡ Fine) (s p : ℕ) (is : s ≡ splinesIn (numbersIn bytes)) (ip : p ≡ pointsIn (numbersIn bytes)) where
+    pub whole-room : tight rooms s p ≡ true → Fault Room 0 ≡ firstFault (wholeChecks rooms bytes)
+    unfolding wholeChecks
+    whole-room e = rw (← is, ← ip) (sym (fine-before Content _ fine ∙ fails (tight rooms s p) Room 0 [] e))
+
+    pub whole-fine : tight rooms s p ≡ false → Fine ≡ firstFault (wholeChecks rooms bytes)
+    unfolding wholeChecks firstFault
+    whole-fine e = rw (← is, ← ip) (sym (fine-before Content (check (tight rooms s p) Room 0 ∷ []) fine ∙ rw e))
+
+  -- nothing was found: it can be loaded
+  pub loadable : firstFault (wholeChecks rooms bytes) ≡ Fine → Loadable bytes 8 (splinesIn (numbersIn bytes)) (pointsIn (numbersIn bytes)) rooms
+  unfolding wholeChecks
+  loadable e =
+      let ns = numbersIn bytes in
+      let b = both-fine Content _ e in
+      let t = passed (tight rooms (splinesIn ns) (pointsIn ns)) Room 0 [] (b .1) in
+      let r = roomy (rooms .counts) (rooms .starts) (rooms .deltas) (rooms .coefficients) (splinesIn ns) (pointsIn ns) (t .0) in
+      let k = sound bytes (b .0) in
+      record { whole = k .whole; sums = k .sums; placed = k .placed; counts = r .0; starts = r .1; deltas = r .3; coefficients = r .2 }
+
+  pub judged-fine : firstFault (wholeChecks rooms bytes) ≡ Fine → readTrace rooms bytes ≡ got (describedIn 8 (numbersIn bytes)) []
+  unfolding readTrace
+  judged-fine e = rw e
+
+  pub judged-fault : (c : Code) (q : ℕ) → firstFault (wholeChecks rooms bytes) ≡ Fault c q → readTrace rooms bytes ≡ stop c q
+  unfolding readTrace
+  judged-fault c q e = rw e
+
+-- what was loaded is what the file says
+map-starts : (us : List ℕ) → map startIn us ≡ map f32Of (map signedIn us)
+unfolding startIn
+map-starts [] = refl
+map-starts (u ∷ us) = ap (λ (t : List Float). f32Of (signedIn u) ∷ t) (map-starts us)
+
+pub all-loaded : (bytes : List ℕ) (rooms : ListRooms) (s p : ℕ) (a : ℤ) (n n′ : List ℕ) (f f′ : List Float) (d d′ c c′ : List ℤ)
+    → Loadable bytes 8 (splinesIn (numbersIn bytes)) (pointsIn (numbersIn bytes)) rooms
+    → s ≡ splinesIn (numbersIn bytes) → p ≡ pointsIn (numbersIn bytes) → a ≡ signedIn (getD (numbersIn bytes) 3 0)
+    → Loaded (numbersIn bytes) 8 s p n n′ f f′ d d′ c c′
+    → ListLeft (got (describedIn 8 (numbersIn bytes)) []) (ReadAnswer.Done s p a) n n′ f f′ d d′ c c′
+unfolding describedIn
+all-loaded bytes rooms s p a n n′ f f′ d d′ c c′ g is ip ia l =
+    let ns = numbersIn bytes in
+    let k : length (part 8 (splinesIn ns) ns) ≡ splinesIn ns = held-length bytes 8 (splinesIn ns) (omega (arith, g .whole)) in
+    let m = rw (is, ip) at l in
+    (rw (is, ip, ia, k, g .sums), m .counts, rw (map-starts (part (startsFrom 8 (splinesIn ns)) (2 * splinesIn ns) ns)) at (m .starts), m .deltas, m .coefficients)
+
+left-done : (x : Described) (rooms : ListRooms) (r : ReadAnswer) (n′ : List ℕ) (s′ : List Float) (d′ c′ : List ℤ)
+    → ListLeft (got x []) r (replicate (rooms .counts) 0) n′ (replicate (rooms .starts) zeroF32) s′ (replicate (rooms .deltas) (pos 0)) d′ (replicate (rooms .coefficients) (pos 0)) c′
+    → leaves r n′ s′ d′ c′ ≡ outcome rooms (got x [])
+left-done x rooms (ReadAnswer.Done i m a) n′ s′ d′ c′ h = done (got x []) i m a n′ s′ d′ c′ rooms h
+left-done (described b zs ns ds cs) rooms (ReadAnswer.Refused k p) n′ s′ d′ c′ h = let z : _≡_ {A = ℕ} 0 1 = cc (h .0) in absurd (omega arith)
+
+module _ (bytes n wn : List ℕ) (s ws : List Float) (d wd c wc : List ℤ) (w : Wiped n wn s ws d wd c wc) where
+  same : roomsOf wn ws wd wc ≡ roomsOf n s d c
+  same =
+      rw (
+        ap length (w .counts) ∙ length-replicate {A = ℕ} (length n) 0,
+        ap length (w .starts) ∙ length-replicate (length s) zeroF32,
+        ap length (w .deltas) ∙ length-replicate (length d) (pos 0),
+        ap length (w .coefficients) ∙ length-replicate (length c) (pos 0),
+      )
+
+  pub read-refused : (k : Code) (q : ℕ) → firstFault (wholeChecks (roomsOf wn ws wd wc) bytes) ≡ Fault k q
+      → leaves (ReadAnswer.Refused k q) wn ws wd wc ≡ readTraceOf (roomsOf n s d c) bytes
+  unfolding readTraceOf
+  read-refused k q e =
+      rw (judged-fault (roomsOf n s d c) bytes k q (rw same at e), w .counts, w .starts, w .deltas, w .coefficients)
+
+  pub read-done : (r : ReadAnswer) (n′ : List ℕ) (s′ : List Float) (d′ c′ : List ℤ) → firstFault (wholeChecks (roomsOf wn ws wd wc) bytes) ≡ Fine
+      → ListLeft (got (describedIn 8 (numbersIn bytes)) []) r wn n′ ws s′ wd d′ wc c′
+      → leaves r n′ s′ d′ c′ ≡ readTraceOf (roomsOf n s d c) bytes
+  unfolding readTraceOf
+  read-done r n′ s′ d′ c′ e h =
+      rw (judged-fine (roomsOf n s d c) bytes (rw same at e))
+      (left-done (describedIn 8 (numbersIn bytes)) (roomsOf n s d c) r n′ s′ d′ c′ (rw (w .counts, w .starts, w .deltas, w .coefficients) at h))
+
+-- Assumes nothing.

@@ -1,0 +1,176 @@
+-- Laws of writing a file: what a loop has put, with what it has still to put, is what it puts in all; the parts one after the other; and the answers.
+use mathlib.Core.Path.{_≡_, refl, sym, ap, _∙_}
+use mathlib.Core.List.{List, [], _∷_, _++_, map}
+use Prim.Native.Nat.{ℕ, zero, suc, _+_, _-_, _*_, _/_, _^_, _≤_, _<_}
+use native.Mathlib.Numerals.{add-one}
+use native.Mathlib.Omega.{arith}
+use lib.Dec.{ltb}
+use lib.ListN.{length, drop, getD, replicate, length-append, length-map, length-replicate, drop-of-length-le, List·getD-map}
+use lib.Seq.{drop-cons, sets}
+use lib.IntN.{ℤ}
+use lib.Ieee.{Float}
+use borrow.Author.Tests.{lt-ltb, le-ltb}
+use Rattle.codes.specs.declared.Code.{Code}
+use Rattle.codes.specs.declared.Code.the-variants.{Coord, Room, Shape}
+use Rattle.shape.specs.Shape.{pointsOf}
+use Rattle.list.specs.List.{described}
+use Rattle.writer.specs.Write.{check, firstFault, misshapen, wholeOf, leaves}
+use Rattle.writer.specs.declared.Verdict.the-variants.{Fine, Fault}
+use Rattle.writer.specs.declared.WriteAnswer.the-variants.{Done, Refused}
+use Rattle.writer.proofs.Checks.{fails, passes, passed, faults-before, fine-before, both-fine, agreed}
+use Rattle.writer.proofs.Stores.{sets-append, zeros-after}
+use Rattle.little.specs.Little.{fourOf, bytesOf, unsignedOf}
+use Rattle.little.proofs.Little.{bytes-length, bytes-append}
+use Rattle.trace.specs.Trace.{version1, headerOf, fileOf, startsFrom, coefficientsFrom, numbersOf, numberChecks}
+use Rattle.trace.specs.Write.{misfit, headerChecks, valueChecks, writeChecks, writeTraceOf}
+use Rattle.trace_fit.proofs.Fits.{header-held}
+use Rattle.trace_write.specs.Steps.{startNumber, partNumbers, Puttable}
+
+-- ---- a turn of a loop that puts numbers
+
+module _ (vs l l′ : List ℕ) (from i : ℕ) where
+  pub put-more : (z v : ℕ) → i < length vs → v ≡ getD vs i z → l′ ≡ sets l (4 * (from + i)) (fourOf v)
+      → sets l′ (4 * (from + (i + 1))) (bytesOf (drop (i + 1) vs)) ≡ sets l (4 * (from + i)) (bytesOf (drop i vs))
+  unfolding bytesOf
+  put-more z v h e is =
+      let p : 4 * (from + (i + 1)) ≡ 4 * (from + i) + 4 = omega arith in
+      rw (is, p, add-one i, drop-cons vs i z h, ← e) (sym (sets-append l (4 * (from + i)) (fourOf v) (bytesOf (drop (suc i) vs))))
+
+pub put-end : (vs l : List ℕ) (k i : ℕ) → length vs ≤ i → sets l k (bytesOf (drop i vs)) ≡ l
+unfolding bytesOf
+put-end vs l k i h = rw (drop-of-length-le vs h)
+
+-- a number of a list of what others stand for
+pub map-at : {A : Type 0} (f : A → ℕ) (xs : List A) (d : A) (i v : ℕ) → v ≡ f (getD xs i d) → v ≡ getD (map f xs) i (f d)
+map-at f xs d i v e = e ∙ sym (List·getD-map f xs i d)
+
+-- ---- the parts, one after the other
+
+-- numbers put behind others
+pub put-behind : (l o q : List ℕ) (k j : ℕ) (ms ns : List ℕ) → o ≡ sets l (4 * k) (bytesOf ms) → q ≡ sets o (4 * j) (bytesOf ns) → j ≡ k + length ms
+    → q ≡ sets l (4 * k) (bytesOf (ms ++ ns))
+put-behind l o q k j ms ns a b e =
+    let p : 4 * j ≡ 4 * k + length (bytesOf ms) = omega (arith, bytes-length ms) in
+    b ∙ rw (p, a, bytes-append ms ns) (sym (sets-append l (4 * k) (bytesOf ms) (bytesOf ns)))
+
+append-four : (a b c d : List ℕ) → a ++ b ++ c ++ d ≡ a ++ (b ++ (c ++ d))
+append-four [] [] [] d = refl
+append-four [] [] (x ∷ c) d = ap (λ (t : List ℕ). x ∷ t) (append-four [] [] c d)
+append-four [] (x ∷ b) c d = ap (λ (t : List ℕ). x ∷ t) (append-four [] b c d)
+append-four (x ∷ a) b c d = ap (λ (t : List ℕ). x ∷ t) (append-four a b c d)
+
+pub parts-put : (ns : List ℕ) (ss : List Float) (ds cs : List ℤ) (l o1 o2 o3 o4 : List ℕ) → length ss ≡ 2 * length ns
+    → o1 ≡ sets l (4 * 8) (bytesOf ns) → o2 ≡ sets o1 (4 * (8 + length ns)) (bytesOf (map startNumber ss))
+    → o3 ≡ sets o2 (4 * (8 + 3 * length ns)) (bytesOf (map unsignedOf ds)) → o4 ≡ sets o3 (4 * (8 + (3 * length ns + length ds))) (bytesOf (map unsignedOf cs))
+    → o4 ≡ sets l 32 (bytesOf (partNumbers ns ss ds cs))
+unfolding partNumbers
+parts-put ns ss ds cs l o1 o2 o3 o4 h a b c d =
+    let zs = map startNumber ss in
+    let es = map unsignedOf ds in
+    let x = put-behind l o1 o2 8 (8 + length ns) ns zs a b refl in
+    let y = put-behind l o2 o3 8 (8 + 3 * length ns) (ns ++ zs) es x c (omega (arith, length-append ns zs, length-map ss startNumber)) in
+    let z = put-behind l o3 o4 8 (8 + (3 * length ns + length ds)) (ns ++ zs ++ es) (map unsignedOf cs) y d
+    (omega (arith, length-append ns zs, length-map ss startNumber, length-append (ns ++ zs) es, length-map ds unsignedOf)) in
+    z ∙ ap (λ (t : List ℕ). sets l 32 (bytesOf t)) (append-four ns zs es (map unsignedOf cs))
+
+starts-are : (ss : List Float) → map startNumber ss ≡ map unsignedOf (map wholeOf ss)
+unfolding startNumber
+starts-are [] = refl
+starts-are (x ∷ ss) = ap (λ (t : List ℕ). unsignedOf (wholeOf x) ∷ t) (starts-are ss)
+
+module _ (ns : List ℕ) (ss : List Float) (ds cs : List ℤ) (a : ℤ) where
+  abbrev File : List ℕ
+  File = fileOf version1 [] (described a (map wholeOf ss) ns ds cs)
+
+  abbrev Header : List ℕ
+  Header = headerOf version1 [] (length ns) (pointsOf ns) a
+
+  pub file-put : (l o q : List ℕ) → o ≡ sets l 0 (bytesOf Header) → q ≡ sets o 32 (bytesOf (partNumbers ns ss ds cs)) → q ≡ sets l 0 File
+  unfolding fileOf partNumbers
+  file-put l o q x y = put-behind l o q 0 8 Header (partNumbers ns ss ds cs) x y refl ∙ rw (starts-are ss)
+
+  module _ (hs : length ss ≡ 2 * length ns) (hd : length ds ≡ 2 * pointsOf ns) (hc : length cs ≡ 128 * length ns) where
+    pub file-size : length File ≡ 4 * numbersOf 8 (length ns) (pointsOf ns)
+    unfolding fileOf
+    file-size =
+        let zs = map unsignedOf (map wholeOf ss) in
+        let es = map unsignedOf ds in
+        let bs = map unsignedOf cs in
+        let k : length (Header ++ (ns ++ (zs ++ (es ++ bs)))) ≡ numbersOf 8 (length ns) (pointsOf ns)
+        = length-append Header (ns ++ (zs ++ (es ++ bs)))
+        ∙ omega (
+          arith,
+          length-append ns (zs ++ (es ++ bs)),
+          length-append zs (es ++ bs),
+          length-append es bs,
+          length-map (map wholeOf ss) unsignedOf,
+          length-map ss wholeOf,
+          length-map ds unsignedOf,
+          length-map cs unsignedOf,
+        ) in
+        bytes-length (Header ++ (ns ++ (zs ++ (es ++ bs)))) ∙ ap (λ (n : ℕ). 4 * n) k
+
+-- ---- the answers
+
+module _ (ns : List ℕ) (ss : List Float) (ds cs : List ℤ) where
+  -- what a judged description is known to be
+  pub record Judged : Type 0 where
+    pub pairs : length ss ≡ 2 * length ns
+    pub points : length ds ≡ 2 * pointsOf ns
+    pub rows : length cs ≡ 128 * length ns
+    pub few : length ns < 2 ^ 32
+    pub fewer : pointsOf ns < 2 ^ 32
+    pub offsets : 4 * coefficientsFrom 8 (length ns) (pointsOf ns) < 2 ^ 32
+    pub fit : firstFault (numberChecks misfit Coord (startsFrom 8 (length ns)) ss) ≡ Fine
+
+  pub judged : firstFault (writeChecks 8 ns ss ds cs) ≡ Fine → Judged
+  unfolding writeChecks valueChecks
+  judged e =
+      let a = passed (misshapen ns ss ds cs) Shape 0 _ e in
+      let s = agreed ns ss ds cs (a .0) in
+      let b = both-fine (headerChecks 8 (length ns) (pointsOf ns)) (valueChecks 8 (length ns) ss ds) (a .1) in
+      let h = header-held 8 (length ns) (pointsOf ns) (b .0) in
+      let d = both-fine (numberChecks misfit Coord (startsFrom 8 (length ns)) ss) _ (b .1) in
+      record { pairs = s .0; points = s .1; rows = s .2; few = h .0; fewer = h .1; offsets = h .2; fit = d .0 }
+
+  -- the size that is computed
+  pub size-is : Judged → 4 * (8 + (131 * length ns + 2 * (length ds / 2))) ≡ 4 * numbersOf 8 (length ns) (pointsOf ns)
+  size-is j = omega (arith, j .points)
+
+  pub half-is : Judged → length ds / 2 ≡ pointsOf ns
+  half-is j = omega (arith, j .points)
+
+  module _ (a : ℤ) (room : ℕ) where
+    abbrev Due : ℕ
+    Due = 4 * numbersOf 8 (length ns) (pointsOf ns)
+
+    abbrev Written : List ℕ
+    Written = fileOf version1 [] (described a (map wholeOf ss) ns ds cs)
+
+    pub answer-fault : (c : Code) (p : ℕ) (l : List ℕ) → l ≡ replicate room 0 → firstFault (writeChecks 8 ns ss ds cs) ≡ Fault c p
+        → leaves (Refused c p) l ≡ writeTraceOf ns ss ds cs a room
+    unfolding writeTraceOf
+    answer-fault c p l z e = rw (faults-before (writeChecks 8 ns ss ds cs) _ c p e, z)
+
+    module _ (fine : firstFault (writeChecks 8 ns ss ds cs) ≡ Fine) where
+      pub answer-room : (l : List ℕ) → l ≡ replicate room 0 → length l < 4 * (8 + (131 * length ns + 2 * (length ds / 2)))
+          → leaves (Refused Room 0) l ≡ writeTraceOf ns ss ds cs a room
+      unfolding writeTraceOf
+      answer-room l z h =
+          let k : length l ≡ room = ap length z ∙ length-replicate {A = ℕ} room 0 in
+          let t = fails (ltb room Due) Room 0 [] (lt-ltb room Due (omega (arith, size-is (judged fine)))) in
+          rw (fine-before (writeChecks 8 ns ss ds cs) (check (ltb room Due) Room 0 ∷ []) fine, t, z)
+
+      pub answer-done : (l l′ : List ℕ) (n : ℕ) → l ≡ replicate room 0 → n ≡ 4 * (8 + (131 * length ns + 2 * (length ds / 2))) → n ≤ length l → l′ ≡ sets l 0 Written
+          → leaves (Done n) l′ ≡ writeTraceOf ns ss ds cs a room
+      unfolding writeTraceOf firstFault
+      answer-done l l′ n z e h is =
+          let j = judged fine in
+          let k : length l ≡ room = ap length z ∙ length-replicate {A = ℕ} room 0 in
+          let size : length Written ≡ n = file-size ns ss ds cs a (j .pairs) (j .points) (j .rows) ∙ sym (size-is j) ∙ sym e in
+          let t = passes (ltb room Due) Room 0 [] (le-ltb room Due (omega (arith, size-is j))) in
+          let w : l′ ≡ Written ++ replicate (room - length Written) 0
+          = is ∙ ap (λ (o : List ℕ). sets o 0 Written) z ∙ zeros-after room Written (omega arith) in
+          rw (fine-before (writeChecks 8 ns ss ds cs) (check (ltb room Due) Room 0 ∷ []) fine, t, ← size, w)
+
+-- Assumes nothing.
