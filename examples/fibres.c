@@ -109,7 +109,7 @@ static struct table build_all(const struct description *d, uint32_t width, uint3
     check("build", code, answer);
     t.segment_count = (uint32_t)answer[1];
     t.entry_count = (uint32_t)answer[2];
-    printf("build: %" PRId64 " segments, %" PRId64 " entries, estimate %" PRId64 "\n", answer[1], answer[2], answer[3]);
+    printf("build: %" PRId64 " segments, %" PRId64 " of them faint, %" PRId64 " entries, estimate %" PRId64 "\n", answer[1], answer[4], answer[2], answer[3]);
     return t;
 }
 

@@ -25,8 +25,8 @@ fn run(path: &str, width: u32, height: u32) -> Result<(), Box<dyn Error>> {
     let table = Table::build(&description, &Image::new(width, height))?;
     let counts = table.counts();
     println!(
-        "build: {} segments, {} entries, estimate {}",
-        counts.segments, counts.entries, counts.estimate
+        "build: {} segments, {} of them faint, {} entries, estimate {}",
+        counts.segments, counts.faint, counts.entries, counts.estimate
     );
 
     let (mut updates, mut brightest, mut at) = (0, 0.0f32, (0, 0));

@@ -71,7 +71,8 @@ uint32_t aktyrbuz_write(const uint32_t *counts, size_t counts_len, const float *
  * 1/sigma, 0.25 sigma times multiplier, three colours); owners one cell a segment, the number of its spline, which never falls from one segment to the next;
  * height + 1 row_starts; entries. Row y lists entries[row_starts[y]] up to but not including entries[row_starts[y + 1]], ascending. As many segments fit as
  * both segments and owners have room for. Cells past the used part, and all cells after a refusal, are 0.
- * Place: the number of a spline; SIZE, SHAPE, and ROOM of row_starts and entries: 0. Counts: segments, entries, estimate. */
+ * Place: the number of a spline; SIZE, SHAPE, and ROOM of row_starts and entries: 0. Counts: segments, entries, estimate, and how many of the segments are faint: their distance is NaN,
+ * so that they sit at row 0 and column 0 wherever their centre is. */
 uint32_t aktyrbuz_build(const uint32_t *counts, size_t counts_len, const float *starts, size_t starts_len,
                         const int32_t *deltas, size_t deltas_len, const int32_t *coefficients, size_t coefficients_len,
                         int32_t adjustment, uint32_t width, uint32_t height, float y_to_x, float y_to_b,

@@ -62,7 +62,7 @@ reach-told-by t y W o (reaches κs _ _ _ _ _ _ _ _ _ _ _ _ _ _ _ _ _ p) = refl
 -- ---- builds and runs
 
 pub built-by : {d : Description} {i : Setting} {r : building.BuildRooms} {o : building.BuildOutcome} {s e estimate : ℕ} → BuildDone d i r o s e estimate → Built d i r o s e estimate
-built-by {d} {i} {r} {o} b = record { outcome = build-equation d i r o (b .called); done = b .done }
+built-by {d} {i} {r} {o} b = record { outcome = build-equation d i r o (b .called); faint = b .faint; done = b .done }
 
 -- the segments that the description makes are those of the build
 pub kept-are : {d : Description} {i : Setting} {segments : List Segment} {t : Table} (k : KeptTable d i segments t) → segments ≡ segmentsOf d i (k .rooms)

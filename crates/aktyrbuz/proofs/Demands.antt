@@ -66,13 +66,13 @@ read-is-written configured pixels rooms l q s p a r done room fits o w =
 pub builds-as-spline-rs : BuildsAsSplineRs
 builds-as-spline-rs = build-equation
 
-done-answer : {d : Description} {i : building.Setting} {r : building.BuildRooms} {o : building.BuildOutcome} {s e estimate : ℕ} → BuildDone d i r o s e estimate
-    → building.buildOf d i r .answer ≡ BuildAnswer.Done s e estimate
+done-answer : {d : Description} {i : building.Setting} {r : building.BuildRooms} {o : building.BuildOutcome} {s e estimate : ℕ} (b : BuildDone d i r o s e estimate)
+    → building.buildOf d i r .answer ≡ BuildAnswer.Done s e estimate (b .faint)
 done-answer {d} {i} {r} {o} b = sym (ap (λ (u : building.BuildOutcome). u .answer) (build-equation d i r o (b .called))) ∙ b .done
 
 pub builds-the-table : BuildsTheTable
 builds-the-table = record {
-  made = λ d i r o s e estimate b. making.build-makes d i r s e estimate (done-answer b);
+  made = λ d i r o s e estimate b. making.build-makes d i r s e estimate (b .faint) (done-answer b);
   one = making.one-list;
   table = λ d i r o s e estimate b segments m. rw (built-are (built-by b) segments m) (built-table (built-by b));
 }
@@ -81,7 +81,7 @@ pub enough-room-is-done : EnoughRoomIsDone
 enough-room-is-done = record {
   enough = λ d i r segments owners o n b. build-equation d i r o b ∙ making.enough-is-done d i r segments owners n;
   more = λ d i r r′ o o′ s e estimate l b c.
-      let same = making.more-room-never-refuses d i r r′ s e estimate l (done-answer b) in
+      let same = making.more-room-never-refuses d i r r′ s e estimate (b .faint) l (done-answer b) in
       rw (build-equation d i r o (b .called), build-equation d i r′ o′ c) same;
 }
 

@@ -5,4 +5,3 @@ pub mod Readings
 pub mod Demands
 pub mod Requests
 pub mod ListCodes
-pub mod Requests

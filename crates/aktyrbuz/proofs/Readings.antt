@@ -1,26 +1,28 @@
 -- The starred readings hold: each by computing, or by the cases of a float.
 use mathlib.Core.Path.{refl}
-use lib.Ieee.{Float, nan, inf, fin, add, sub}
+use lib.Ieee.{Float, nan, inf, fin, round, add, sub}
 use Rattle.numbers.specs.Readings.{round-two-and-a-half, round-minus-a-half, tie-down, tie-up, length-five}
 use Rattle.dequantize.proofs.Readings.{level5-none, level5-below, level5-at, adjustment-8, adjustment-minus-8}
-use Rattle.segments.specs.Ranges.{rounded, hasRow, hasColumn}
+use Rattle.numbers.specs.Whole.{wholeBy}
+use Rattle.numbers.specs.Kind.{kindBy}
+use Rattle.segments.specs.Ranges.{hasRow, hasColumn}
 use Rattle.segments.specs.Readings.{spot}
 use Rattle.aktyrbuz.specs.Demands.{Rows, Columns, Readings}
 
 nan-row : (x y : Float) → Rows (spot x y nan) 0 0
-unfolding hasRow rounded add sub
+unfolding hasRow wholeBy kindBy add sub
 nan-row x nan r = refl
 nan-row x (inf s) r = refl
 nan-row x (fin s m e) r = refl
 
 nan-column : (x y : Float) → Columns (spot x y nan) 0 0
-unfolding hasColumn rounded add sub
+unfolding hasColumn wholeBy kindBy add sub
 nan-column nan y r = refl
 nan-column (inf s) y r = refl
 nan-column (fin s m e) y r = refl
 
 pub starred-readings : Readings
-unfolding rounded hasRow hasColumn add sub
+unfolding hasRow hasColumn wholeBy kindBy round add sub
 starred-readings = record {
   unpack-3 = refl;
   unpack-4294967295 = refl;

@@ -127,13 +127,13 @@ trace-read-codes = record {
   exactly = λ bytes rooms o r c p. along (λ (u : Outcome). u .answer ≡ ReadAnswer.Refused c p) (trace-read-equation bytes rooms o r) (read-exactly rooms bytes c p);
   told = λ bytes rooms o r c p t. read-refused rooms bytes c p o (trace-read-equation bytes rooms o r) t;
   else-done = λ bytes rooms o r none.
-  done-of rooms (describedIn 8 (numbersIn bytes)) o (trace-read-equation bytes rooms o r ∙ ap (reading.outcome rooms) (judged-fine rooms bytes (read-else rooms bytes none)));
+      done-of rooms (describedIn 8 (numbersIn bytes)) o (trace-read-equation bytes rooms o r ∙ ap (reading.outcome rooms) (judged-fine rooms bytes (read-else rooms bytes none)));
 }
 
 pub trace-write-codes : TraceWriteCodes
 trace-write-codes = record {
   exactly = λ ns ss ds cs a room o w c p.
-  along (λ (u : WriteOutcome). u .answer ≡ WriteAnswer.Refused c p) (trace-write-equation ns ss ds cs a room o w) (write-exactly ns ss ds cs room a c p);
+      along (λ (u : WriteOutcome). u .answer ≡ WriteAnswer.Refused c p) (trace-write-equation ns ss ds cs a room o w) (write-exactly ns ss ds cs room a c p);
   told = λ ns ss ds cs a room o w c p t. write-refused ns ss ds cs room a c p o (trace-write-equation ns ss ds cs a room o w) t;
   done = λ ns ss ds cs a room o w n. along (λ (u : WriteOutcome). u .answer ≡ WriteAnswer.Done n) (trace-write-equation ns ss ds cs a room o w) (write-done ns ss ds cs room a n);
 }
@@ -283,7 +283,7 @@ left-edge-reached t y W first past r w j l cy e =
 
 module _ {d : Description} {i : Setting} {r : BuildRooms} {o : BuildOutcome} {s e estimate : ℕ} (b : BuildDone d i r o s e estimate) where
   -- what the build made
-  made : BuildMakes d i r s e estimate
+  made : BuildMakes d i r s e estimate (b .faint)
   made = builds-the-table .made d i r o s e estimate b
 
   is : o ≡ doneWith d i r (made .segs) (made .owners)

@@ -82,10 +82,11 @@ pub data ReachCall : Table → ℕ → ℕ → ReachOutcome → Type 0 where
 pub data LnCall : Float → Float → Type 0 where
   logs : (κs : Lfts 0) (x : _) (r : _) (x′ : _) → ln.Post κs (x, tt) r (x′, tt) → LnCall x r
 
--- a build that is done, with its three counts
+-- a build that is done, with its counts
 pub record BuildDone (d : Description) (i : Setting) (r : building.BuildRooms) (o : building.BuildOutcome) (s e estimate : ℕ) : Type 0 where
   pub called : BuildCall d i r o
-  pub done : o .answer ≡ BuildAnswer.Done s e estimate
+  pub faint : ℕ
+  pub done : o .answer ≡ BuildAnswer.Done s e estimate faint
 
 -- a table that a build left, in the cells that it filled or wherever it is kept, whatever stands behind its counts; and the segments that the description makes
 pub record KeptTable (d : Description) (i : Setting) (segments : List Segment) (t : Table) : Type 0 where

@@ -30,7 +30,8 @@ use Rattle.dequantize.specs.Coefficients.{invAdjustedQuant}
 use Rattle.dequantize.specs.Judge.{Description}
 use Rattle.segments.specs.declared.Segment.{Segment}
 use Rattle.segments.specs.Segment.{segmentAt}
-use Rattle.segments.specs.Ranges.{at, rounded, hasRow, hasColumn}
+use Rattle.numbers.specs.declared.KindI64.the-variants as I64
+use Rattle.segments.specs.Ranges.{rowEnd, hasRow, hasColumn}
 use Rattle.segments.specs.Readings.{spot}
 use Rattle.segments.specs.Expressions.{AsSplineRs}
 use Rattle.table.specs.Table.{Setting, buildOf, zeros}
@@ -88,7 +89,7 @@ BuildsAsSplineRs = (d : Description) (i : Setting) (r : building.BuildRooms) (o 
 
 -- where it is done, the description makes a list of segments, which is the only one whatever was lent; the cells hold them, and each row lists those that have it, once each, ascending
 pub record BuildsTheTable : Type 0 where
-  pub made : (d : Description) (i : Setting) (r : building.BuildRooms) (o : building.BuildOutcome) (s e estimate : ℕ) → BuildDone d i r o s e estimate → BuildMakes d i r s e estimate
+  pub made : (d : Description) (i : Setting) (r : building.BuildRooms) (o : building.BuildOutcome) (s e estimate : ℕ) (b : BuildDone d i r o s e estimate) → BuildMakes d i r s e estimate (b .faint)
   pub one : (d : Description) (i : Setting) (segments others : List Segment) → Makes d i segments → Makes d i others → segments ≡ others
   pub table : (d : Description) (i : Setting) (r : building.BuildRooms) (o : building.BuildOutcome) (s e estimate : ℕ) → BuildDone d i r o s e estimate
       → (segments : List Segment) → Makes d i segments → BuiltTable d i r segments o s e estimate
@@ -167,7 +168,7 @@ pub record BuildCodes : Type 0 where
   pub exactly : (d : Description) (i : Setting) (r : building.BuildRooms) (o : building.BuildOutcome) → BuildCall d i r o → (c : Code) (p : ℕ)
       → (o .answer ≡ BuildAnswer.Refused c p) ↔ BuildRefusal d i r c p
   pub told : (d : Description) (i : Setting) (r : building.BuildRooms) (o : building.BuildOutcome) → BuildCall d i r o → (c : Code) (p : ℕ)
-      → o .answer ≡ BuildAnswer.Refused c p → o .told ≡ record { number = numberOf c; place = p; segments = 0; entries = 0; estimate = 0 }
+      → o .answer ≡ BuildAnswer.Refused c p → o .told ≡ record { number = numberOf c; place = p; segments = 0; entries = 0; estimate = 0; faint = 0 }
 
 -- the codes of every call, each exactly when
 pub record CodesExactly : Type 0 where
@@ -266,8 +267,8 @@ pub record Readings : Type 0 where
   pub level5-area-130023424 : splineAreaLimit false 130023424 ≡ 1073741824
   pub adjustment-8 : invAdjustedQuant (pos 8) ≡ fin false 1 (negsuc 0)
   pub adjustment-minus-8 : invAdjustedQuant (negsuc 7) ≡ fin false 1 (pos 1)
-  pub round-2½ : rounded (fin false 5 (negsuc 0)) ≡ at (pos 3)
-  pub round-minus-½ : rounded (fin true 1 (negsuc 0)) ≡ at (negsuc 0)
+  pub round-2½ : rowEnd (fin false 5 (negsuc 0)) ≡ I64.Exact (pos 3)
+  pub round-minus-½ : rowEnd (fin true 1 (negsuc 0)) ≡ I64.Exact (negsuc 0)
   pub round-2½-f32 : roundOf binary32 (fin false 5 (negsuc 0)) ≡ fin false 3 (pos 0)
   pub round-minus-½-f32 : roundOf binary32 (fin true 1 (negsuc 0)) ≡ fin true 1 (pos 0)
   pub f32-16777217 : ofInt binary32 (pos 16777217) ≡ fin false 1 (pos 24)

@@ -24,31 +24,31 @@ signedOf n = pos (min n (2 ^ 63 - 1))
 
 -- a success is number 0 at place 0; a refusal has counts of 0
 abbrev pub toldRefusal : Code → ℕ → Told
-toldRefusal c p = record { number = numberOf c; place = signedOf p; first = pos 0; second = pos 0; third = pos 0 }
+toldRefusal c p = record { number = numberOf c; place = signedOf p; first = pos 0; second = pos 0; third = pos 0; fourth = pos 0 }
 
 abbrev pub toldRead : ReadAnswer → Told
-toldRead (ReadAnswer.Done s n a) = record { number = 0; place = pos 0; first = pos s; second = pos n; third = a }
+toldRead (ReadAnswer.Done s n a) = record { number = 0; place = pos 0; first = pos s; second = pos n; third = a; fourth = pos 0 }
 toldRead (ReadAnswer.Refused c p) = toldRefusal c p
 
 abbrev pub toldWrite : WriteAnswer → Told
-toldWrite (WriteAnswer.Done n) = record { number = 0; place = pos 0; first = signedOf n; second = pos 0; third = pos 0 }
+toldWrite (WriteAnswer.Done n) = record { number = 0; place = pos 0; first = signedOf n; second = pos 0; third = pos 0; fourth = pos 0 }
 toldWrite (WriteAnswer.Refused c p) = toldRefusal c p
 
 abbrev pub toldBuild : BuildAnswer → Told
-toldBuild (BuildAnswer.Done s n a) = record { number = 0; place = pos 0; first = pos s; second = pos n; third = signedOf a }
+toldBuild (BuildAnswer.Done s n a f) = record { number = 0; place = pos 0; first = pos s; second = pos n; third = signedOf a; fourth = pos f }
 toldBuild (BuildAnswer.Refused c p) = toldRefusal c p
 
 abbrev pub toldDraw : DrawAnswer → Told
-toldDraw (DrawAnswer.Done n) = record { number = 0; place = pos 0; first = signedOf n; second = pos 0; third = pos 0 }
+toldDraw (DrawAnswer.Done n) = record { number = 0; place = pos 0; first = signedOf n; second = pos 0; third = pos 0; fourth = pos 0 }
 toldDraw (DrawAnswer.Refused c p) = toldRefusal c p
 
 abbrev pub toldReach : ReachAnswer → Told
-toldReach (ReachAnswer.Done a e) = record { number = 0; place = pos 0; first = pos a; second = pos e; third = pos 0 }
+toldReach (ReachAnswer.Done a e) = record { number = 0; place = pos 0; first = pos a; second = pos e; third = pos 0; fourth = pos 0 }
 toldReach (ReachAnswer.Refused c p) = toldRefusal c p
 
 -- the five numbers
 abbrev pub toldIn : Told → List ℤ
-toldIn t = t .place ∷ t .first ∷ t .second ∷ t .third ∷ pos 0 ∷ []
+toldIn t = t .place ∷ t .first ∷ t .second ∷ t .third ∷ t .fourth ∷ []
 
 -- the number returned, the five numbers, and every lent cell
 pub record ReadExport : Type 0 where

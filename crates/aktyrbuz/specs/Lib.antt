@@ -4,5 +4,3 @@ pub mod Calls
 pub mod Demands
 pub mod Requests
 pub mod ListCodes
-pub mod TraceCalls
-pub mod Requests

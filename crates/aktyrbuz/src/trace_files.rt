@@ -21,13 +21,7 @@ pub extern "C" fn aktyrbuz_trace_read(
     ensures { λ r. ⌜ readLeaves r (now (answer .exit)) (now (counts .exit)) (now (starts .exit)) (now (deltas .exit)) (now (coefficients .exit))
         ≡ readExport (readTraceOf (roomsOf (now (counts .entry)) (now (starts .entry)) (now (deltas .entry)) (now (coefficients .entry))) (now (bytes .entry))) ⌝ }
 {
-    let told = told_read(trace_read::trace_read(
-        bytes,
-        counts,
-        starts,
-        deltas,
-        coefficients,
-    ));
+    let told = told_read(trace_read::trace_read(bytes, counts, starts, deltas, coefficients));
     tell(answer, told);
     told.number
 }

@@ -14,12 +14,13 @@ const BYTES: usize = 24576;
 // The bytes of the longest head, and more.
 const HEAD: usize = 64;
 
-// What is asked of a description: to be told, its rows, its picture, the traces that have the pixel in this column and row, its trace file, or its list.
+// What is asked of a description: to be told, its rows, its picture, the traces that have the pixel in this column and row, why the segment of this number sits where it does, its trace file, or its list.
 pub enum Asked {
     Told,
     Rows,
     Picture,
     Touch(u32, u32),
+    Why(u32),
     Trace,
     List,
 }

@@ -1,5 +1,6 @@
 -- The laws of the crate `dequantize`.
 pub mod Pairs
+pub mod ByKind
 pub mod Starts
 pub mod Near
 pub mod Steps

@@ -1,5 +1,5 @@
 -- Each test of a spline decides a statement on whole numbers: it passes where the one holds, and fails where the other does.
-use mathlib.Core.Path.{_≡_, refl, sym, subst}
+use mathlib.Core.Path.{_≡_, refl, sym, ap, _∙_, subst}
 use mathlib.Core.Bool.{Bool, true, false, cond, true≢false}
 use mathlib.Core.Logic.{_⊎_, inl, inr}
 use Prim.Native.Nat.{ℕ, suc, _^_, _≤_, _<_}
@@ -17,6 +17,7 @@ use Rattle.dequantize.specs.declared.control_points.Whole.{Whole}
 use Rattle.dequantize.specs.declared.control_points.Whole.the-variants as W
 use Rattle.dequantize.specs.declared.control_points.Start.{Start}
 use Rattle.dequantize.specs.declared.control_points.Start.the-variants as S
+use Rattle.dequantize.proofs.ByKind.{start-by-kind}
 
 -- ---- tests
 
@@ -97,14 +98,15 @@ module _ (c : Float) where
       record { number = e; is = sym q; inside = subst InRange q (range-decides (wholeOf c) .passed r) }
 
   pub rounds-to : (v : ℤ) → roundedOf c ≡ W.At v → RoundsTo c v
-  unfolding roundedOf
-  rounds-to v h = by-tests (isNan c) (inRange (wholeOf c)) refl refl v h
+  rounds-to v h = by-tests (isNan c) (inRange (wholeOf c)) refl refl v (sym (start-by-kind c) ∙ h)
 
   pub rounded-to : (v : ℤ) → RoundsTo c v → roundedOf c ≡ W.At v
-  unfolding roundedOf
   rounded-to v r =
       let e : inRange (wholeOf c) ≡ true = range-decides (wholeOf c) .passes (subst InRange (r .is) (r .inside)) in
-      rw (r .number, e, r .is)
+      start-by-kind c ∙ by (isNan c) (inRange (wholeOf c)) (r .number) e
+    where
+      by : (n t : Bool) → n ≡ false → t ≡ true → cond n W.Out (cond t (W.At (wholeOf c)) W.Out) ≡ W.At v
+      by n t p q = rw (p, q, r .is)
 
   out-by-tests : (n t : Bool) → isNan c ≡ n → inRange (wholeOf c) ≡ t → cond n W.Out (cond t (W.At (wholeOf c)) W.Out) ≡ W.Out → Strays c
   out-by-tests true t e r h = inl e
@@ -112,13 +114,11 @@ module _ (c : Float) where
   out-by-tests false true e r h = absurd (let z : _≡_ {A = ℕ} 0 1 = cc in omega arith)
 
   pub strays : roundedOf c ≡ W.Out → Strays c
-  unfolding roundedOf
-  strays h = out-by-tests (isNan c) (inRange (wholeOf c)) refl refl h
+  strays h = out-by-tests (isNan c) (inRange (wholeOf c)) refl refl (sym (start-by-kind c) ∙ h)
 
   pub strayed : Strays c → roundedOf c ≡ W.Out
-  unfolding roundedOf
-  strayed (inl e) = rw e
-  strayed (inr b) = go (isNan c) (range-decides (wholeOf c) .fails b)
+  strayed (inl e) = start-by-kind c ∙ ap (λ (n : Bool). cond n W.Out (cond (inRange (wholeOf c)) (W.At (wholeOf c)) W.Out)) e
+  strayed (inr b) = start-by-kind c ∙ go (isNan c) (range-decides (wholeOf c) .fails b)
     where
       go : (n : Bool) → inRange (wholeOf c) ≡ false → cond n W.Out (cond (inRange (wholeOf c)) (W.At (wholeOf c)) W.Out) ≡ W.Out
       go true e = refl

@@ -3,11 +3,12 @@ use mathlib.Core.Path.{_≡_, refl}
 use mathlib.Core.Bool.{true, false}
 use mathlib.Core.List.{[], _∷_}
 use lib.IntN.{pos, negsuc}
-use lib.Ieee.{fin, ofBits, ofInt, add, sub, mul, div, lt, isNan, round, toSigned}
+use lib.Ieee.{fin, ofBits, ofInt, add, sub, mul, div, lt, round}
 use Rattle.codes.specs.declared.Code.the-variants.{Delta, Position, Distance}
 use Rattle.numbers.specs.Saturating.{satAdd, satMul}
 use Rattle.numbers.specs.Magnitude.{absOf}
 use Rattle.numbers.specs.Whole.{wholeBy}
+use Rattle.numbers.specs.Kind.{kindBy}
 use Rattle.dequantize.specs.Limits.{splineAreaLimit}
 use Rattle.dequantize.specs.ControlPoints.{startingPoint, roundedOf, traceOf, traceFrom, stepOf, runAt, plusOf, validDoubleDelta, validPointPos, manhattanOf, samePoint, near}
 use Rattle.dequantize.specs.Coefficients.{invAdjustedQuant}
@@ -59,11 +60,11 @@ position-reading = refl
 
 -- a start of -8388608 is a place, and one of 8388608 is not
 pub lowest-reading : startingPoint (fin true 1 (pos 23)) (fin false 0 (pos 0)) ≡ At (record { x = negsuc 8388607; y = pos 0 })
-unfolding startingPoint roundedOf wholeBy isNan toSigned round
+unfolding startingPoint roundedOf wholeBy kindBy round
 lowest-reading = refl
 
 pub highest-reading : startingPoint (fin false 1 (pos 23)) (fin false 0 (pos 0)) ≡ Out
-unfolding startingPoint roundedOf wholeBy isNan toSigned round
+unfolding startingPoint roundedOf wholeBy kindBy round
 highest-reading = refl
 
 pub delta-reading : traceOf 1000000 origin (pos 1073741824 ∷ pos 0 ∷ []) ≡ Stop Delta

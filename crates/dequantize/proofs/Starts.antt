@@ -1,5 +1,5 @@
 -- A start that is taken passes the check of a point: each of its coordinates did.
-use mathlib.Core.Path.{_≡_, refl, ap, subst}
+use mathlib.Core.Path.{_≡_, refl, sym, ap, _∙_, subst}
 use mathlib.Core.Bool.{Bool, true, false, cond}
 use Prim.Native.Nat.{ℕ}
 use native.Mathlib.Omega.{arith}
@@ -11,6 +11,7 @@ use Rattle.dequantize.specs.declared.control_points.Pair.{Pair}
 use Rattle.dequantize.specs.declared.control_points.Whole.{Whole}
 use Rattle.dequantize.specs.declared.control_points.Whole.the-variants as W
 use Rattle.dequantize.specs.declared.control_points.Start.the-variants as S
+use Rattle.dequantize.proofs.ByKind.{start-by-kind}
 
 picked : (n i : Bool) (z w : ℤ) → cond n W.Out (cond i (W.At z) W.Out) ≡ W.At w → (i ≡ true) × (z ≡ w)
 picked true i z w h = absurd (let e : _≡_ {A = ℕ} 0 1 = cc in omega arith)
@@ -18,10 +19,9 @@ picked false true z w h = (refl, cc)
 picked false false z w h = absurd (let e : _≡_ {A = ℕ} 0 1 = cc in omega arith)
 
 taken : (x : Float) (w : ℤ) → roundedOf x ≡ W.At w → inRange w ≡ true
-unfolding roundedOf
 taken x w h =
     let z = toSigned 31 (roundOf binary32 x) in
-    let p = picked (isNan x) (inRange z) z w h in
+    let p = picked (isNan x) (inRange z) z w (sym (start-by-kind x) ∙ h) in
     subst (λ (v : ℤ). inRange v ≡ true) (p .1) (p .0)
 
 parts : (p q : Whole) (s : Pair) → joined p q ≡ S.At s → (p ≡ W.At (s .x)) × (q ≡ W.At (s .y))

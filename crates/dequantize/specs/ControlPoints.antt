@@ -7,9 +7,12 @@ use lib.Dec.{leb}
 use lib.ListN.{getD}
 use lib.IntN.{ℤ, pos, negsuc, natAbs, _+ℤ_}
 use lib.Signed.{leZ, ltZ}
-use lib.Ieee.{Float, binary32, isNan, lt, ofInt, toSigned}
+use lib.Ieee.{Float, binary32, lt, ofInt}
 use Rattle.numbers.specs.Arith.{f, _⊖_}
 use Rattle.numbers.specs.Whole.{roundOf}
+use Rattle.numbers.specs.Kind.{cutI32}
+use Rattle.numbers.specs.declared.KindI32.{KindI32}
+use Rattle.numbers.specs.declared.KindI32.the-variants as I32
 use Rattle.numbers.specs.Magnitude.{absOf}
 use Rattle.codes.specs.declared.Code.{Code}
 use Rattle.codes.specs.declared.Code.the-variants.{Delta, Position, Distance}
@@ -55,11 +58,16 @@ pairAt l k = record { x = getD l (2 * k) (pos 0); y = getD l (2 * k + 1) (pos 0)
 
 -- ---- the start
 
+-- a coordinate by its kind: an exact number in the range is one
+abbrev pub coordinateBy : KindI32 → Whole
+coordinateBy (I32.Exact z) = cond (inRange z) (W.At z) W.Out
+coordinateBy I32.NotNumber = W.Out
+coordinateBy I32.Below = W.Out
+coordinateBy I32.Above = W.Out
+
 -- `x.round()` as an i32, where it is in the range; a NaN is not
 unfoldable pub roundedOf : Float → Whole
-roundedOf x =
-    let z = toSigned 31 (roundOf binary32 x) in
-    cond (isNan x) W.Out (cond (inRange z) (W.At z) W.Out)
+roundedOf x = coordinateBy (cutI32 (roundOf binary32 x))
 
 abbrev pub joined : Whole → Whole → Start
 joined W.Out q = S.Out

@@ -3,6 +3,7 @@ pub mod Limits
 pub mod ControlPoints
 pub mod Coefficients
 pub mod Estimate
+pub mod ByKind
 pub mod Dequantize
 pub mod Asked
 pub mod Judge

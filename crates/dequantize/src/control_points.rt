@@ -7,6 +7,7 @@ ghost use lib.ListN.{length};
 ghost use Rattle.dequantize.specs.ControlPoints.{inRange, belowDeltaLimit, validPointPos, validDoubleDelta, plusOf, manhattanOf, pairAt, roundedOf, startingPoint, movedOf, placeAt, stepOf, traceOf};
 ghost use Rattle.dequantize.specs.Asked.{Fine, Held, Moves};
 use codes::Code;
+use numbers::KindI32;
 
 // A double delta, a delta or a point, of whole numbers.
 pub struct Pair {
@@ -72,14 +73,17 @@ pub fn unsigned_abs(v: i32) -> u64
 fn rounded(x: f32) -> Whole
     ensures { λ r. ⌜ r ≡ roundedOf x ⌝ }
 {
-    if x != x {
-        return Whole::Out;
-    }
-    let z = numbers::saturating_f32_to_i32(numbers::round(x));
-    if in_range(z) {
-        Whole::At(z)
-    } else {
-        Whole::Out
+    match numbers::rounded_to_i32(x) {
+        KindI32::Exact(z) => {
+            if in_range(z) {
+                Whole::At(z)
+            } else {
+                Whole::Out
+            }
+        }
+        KindI32::NotNumber => Whole::Out,
+        KindI32::Below => Whole::Out,
+        KindI32::Above => Whole::Out,
     }
 }
 

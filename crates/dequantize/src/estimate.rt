@@ -2,8 +2,21 @@
 ghost use mathlib.Core.Path.{_≡_};
 ghost use Prim.Native.Nat.{_+_, _≤_, _<_};
 ghost use lib.ListN.{length};
-ghost use Rattle.dequantize.specs.Estimate.{greater, shareAt, colorOf, tintedOf, logColor, weightLimit, weightAt, widthEstimate, estimateOf};
+ghost use Rattle.dequantize.specs.Estimate.{toU64, greater, shareAt, colorOf, tintedOf, logColor, weightLimit, weightAt, widthEstimate, estimateOf};
 use crate::control_points::unsigned_abs;
+use numbers::KindU64;
+
+// An f32 as a u64: no number and what is below the range count 0, and what is above it the largest u64.
+fn whole(x: f32) -> u64
+    ensures { λ r. ⌜ r ≡ toU64 x ⌝ }
+{
+    match numbers::cut_to_u64(x) {
+        KindU64::Exact(n) => n,
+        KindU64::NotNumber => 0,
+        KindU64::Below => 0,
+        KindU64::Above => 18446744073709551615,
+    }
+}
 
 fn greater(a: u64, b: u64) -> u64
     ensures { λ r. ⌜ r ≡ greater a b ⌝ }
@@ -26,10 +39,7 @@ fn color(c: &[i32], from: usize, quant: f32) -> u64
     let mut sum = 0;
     let mut i = 0;
     while i < 32 {
-        sum = numbers::saturating_add(
-            sum,
-            numbers::saturating_f32_to_u64(share(c, from + i, quant)),
-        );
+        sum = numbers::saturating_add(sum, whole(share(c, from + i, quant)));
         i += 1;
     }
     sum
@@ -40,10 +50,7 @@ fn tinted(color: u64, k: f32, y: u64) -> u64
 {
     numbers::saturating_add(
         color,
-        numbers::saturating_mul(
-            numbers::saturating_f32_to_u64(numbers::ceil(numbers::abs(k))),
-            y,
-        ),
+        numbers::saturating_mul(whole(numbers::ceil(numbers::abs(k))), y),
     )
 }
 
@@ -65,7 +72,7 @@ fn weight(c: &[i32], k: usize, quant: f32, most: f32) -> u64
     requires { ⌜ k < length (now c) ⌝ }
     ensures { λ r. ⌜ r ≡ weightAt (now (c .entry)) quant most k ⌝ }
 {
-    numbers::saturating_f32_to_u64(numbers::min(most, numbers::max(share(c, k, quant), 1.0)))
+    whole(numbers::min(most, numbers::max(share(c, k, quant), 1.0)))
 }
 
 fn width_estimate(c: &[i32], quant: f32, most: f32, log: u64) -> u64

@@ -1,5 +1,5 @@
-// What a list of decoded values or a trace file holds, what it draws, which rows, whose a pixel is, and either made from the other: `gauge read`, `gauge draw`,
-// `gauge rows`, `gauge touch`, `gauge trace`.
+// What a list of decoded values or a trace file holds, what it draws, which rows, whose a pixel is, why a segment sits where it does, and either made from the other:
+// `gauge read`, `gauge draw`, `gauge rows`, `gauge touch`, `gauge why`, `gauge trace`.
 // A program has no exit status: with `--status` it is written as a digit to descriptor 3 (0: done, 1: refused, 2: wrong use).
 mod arguments;
 mod files;
@@ -32,7 +32,7 @@ enum Kind {
 fn usage() -> u8 {
     words::wrong(
         2,
-        b"usage: gauge read VALUES, rows VALUES WIDTH HEIGHT, touch VALUES WIDTH HEIGHT X Y, draw VALUES WIDTH HEIGHT PICTURE.ppm or .pfm, trace out VALUES FILE.trace, or trace in FILE.trace VALUES\n",
+        b"usage: gauge read VALUES, rows VALUES WIDTH HEIGHT, touch VALUES WIDTH HEIGHT X Y, why VALUES WIDTH HEIGHT N, draw VALUES WIDTH HEIGHT PICTURE.ppm or .pfm, trace out VALUES FILE.trace, or trace in FILE.trace VALUES\n",
         &[],
     )
 }
@@ -207,6 +207,36 @@ fn touch(i: u8, high: bool) -> u8
     }
 }
 
+// Why the segment that the argument after the size says sits where it does.
+fn why_in(i: u8, width: u32, height: u32, high: bool) -> u8
+    requires { ⌜ i ≤ 5 ⌝ }
+{
+    match arguments::argument(i as usize + 3) {
+        Number::Is(n) => perform(
+            i as usize,
+            Task {
+                width: width,
+                height: height,
+                asked: Asked::Why(n),
+                fd: 1,
+                floats: false,
+                progress: false,
+                high: high,
+            },
+        ),
+        _ => words::wrong(2, b"the number of a segment is due\n", &[]),
+    }
+}
+
+fn why(i: u8, high: bool) -> u8
+    requires { ⌜ i ≤ 5 ⌝ }
+{
+    match size_at(i + 1) {
+        Two::Not => say_size(),
+        Two::Are(width, height) => why_in(i, width, height, high),
+    }
+}
+
 // Whether a name ends so.
 fn ends_in(path: &[u8], ending: &[u8]) -> bool {
     if path.len() < ending.len() {
@@ -364,6 +394,12 @@ fn run(at: u8, progress: bool, high: bool) -> u8
             return usage();
         }
         return touch(at + 1, high);
+    }
+    if arguments::is_argument(first, b"why") {
+        if words != first + 5 {
+            return usage();
+        }
+        return why(at + 1, high);
     }
     if arguments::is_argument(first, b"trace") {
         if words != first + 4 {

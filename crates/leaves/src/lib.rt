@@ -11,6 +11,11 @@ ghost use Rattle.numbers.specs.Magnitude.{absOf, signOf, topOf, minOf, maxOf, i
 ghost use Rattle.numbers.specs.Cos.{fastCos};
 ghost use Rattle.numbers.specs.Erf.{fastErff};
 ghost use Rattle.numbers.specs.Saturating.{satAdd, satMul, ceilLog2};
+ghost use Rattle.numbers.specs.Kind.{cutI64, cutI32, cutU64};
+ghost use Rattle.leaves.specs.Kinds.{numberI64, numberI32, numberU64};
+use numbers::KindI32;
+use numbers::KindI64;
+use numbers::KindU64;
 
 #[no_mangle]
 pub extern "C" fn leaves_floor(x: f32) -> f32
@@ -52,6 +57,43 @@ pub extern "C" fn leaves_saturating_f32_to_u64(x: f32) -> u64
     ensures { λ r. ⌜ r ≡ Ieee.toUnsigned 64 x ⌝ }
 {
     numbers::saturating_f32_to_u64(x)
+}
+
+// The kind of each conversion, by its number.
+#[no_mangle]
+pub extern "C" fn leaves_kind_i64(x: f32) -> u32
+    ensures { λ r. ⌜ r ≡ numberI64 (cutI64 x) ⌝ }
+{
+    match numbers::cut_to_i64(x) {
+        KindI64::Exact(_) => 0,
+        KindI64::NotNumber => 1,
+        KindI64::Below => 2,
+        KindI64::Above => 3,
+    }
+}
+
+#[no_mangle]
+pub extern "C" fn leaves_kind_i32(x: f32) -> u32
+    ensures { λ r. ⌜ r ≡ numberI32 (cutI32 x) ⌝ }
+{
+    match numbers::cut_to_i32(x) {
+        KindI32::Exact(_) => 0,
+        KindI32::NotNumber => 1,
+        KindI32::Below => 2,
+        KindI32::Above => 3,
+    }
+}
+
+#[no_mangle]
+pub extern "C" fn leaves_kind_u64(x: f32) -> u32
+    ensures { λ r. ⌜ r ≡ numberU64 (cutU64 x) ⌝ }
+{
+    match numbers::cut_to_u64(x) {
+        KindU64::Exact(_) => 0,
+        KindU64::NotNumber => 1,
+        KindU64::Below => 2,
+        KindU64::Above => 3,
+    }
 }
 
 #[no_mangle]

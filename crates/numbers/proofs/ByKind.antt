@@ -4,7 +4,7 @@ use mathlib.Core.Bool.{Bool, true, false, not, _||_, _&&_, cond}
 use Prim.Native.Nat.{ℕ, zero, suc, _+_, _-_, _*_, _/_, _^_, _≤_, _<_, min}
 use native.Mathlib.Nat.{le-of-lt, le-of-eq, lt-of-le-of-lt, mul-lt-mul-of-pos-right, le-of-suc-le-suc, le-trans, mul-one, one-mul, mul-pos, mul-le-mul-right, le-div-iff-mul-le, div-lt-iff-lt-mul, div-eq-of-lt, div-one}
 use native.Mathlib.Omega.{arith}
-use lib.IntN.{ℤ, pos, negsuc, negℤ}
+use lib.IntN.{ℤ, pos, negsuc, negℤ, natAbs}
 use lib.Dec.{T, leb, ltb, eqb, leb→le, ltb→lt, le→leb, lt→ltb, nltb→le, nleb→lt, eqb→eq, T-not, not-T}
 use lib.Arith.{lt→nleb, le→nltb, lt-of-le-ne}
 use lib.Pow.{pow-pos, pow-mono}
@@ -15,9 +15,10 @@ use Rattle.numbers.specs.declared.KindI64.the-variants as I64
 use Rattle.numbers.specs.declared.KindI32.{KindI32}
 use Rattle.numbers.specs.declared.KindI32.the-variants as I32
 use Rattle.numbers.specs.declared.KindU64.the-variants as U64
-use Rattle.numbers.specs.Kind.{signedKind, unsignedKind, cutI64, cutI32, cutU64, withinI32, saturatedI64, saturatedI32, saturatedU64}
+use Rattle.numbers.specs.Kind.{kindBy, cutI64, cutI32, cutU64, withinI32, saturatedI64, saturatedI32, saturatedU64}
 use Rattle.numbers.proofs.Zero.{null, two-to, minus-two-to, under, not-under}
 use Rattle.numbers.proofs.Wholes.{no-fraction}
+use Rattle.numbers.proofs.OneKind.{signedKind, unsignedKind, signed-one, unsigned-one}
 
 -- ---- a test that is known
 if-yes : {X : Type 0} (b : Bool) (x y : X) → T b → x ≡ cond b x y
@@ -76,123 +77,147 @@ uncapped n p l = omega arith
 
 -- ---- signed, from -2 ^ h to 2 ^ h - 1
 module _ {K : Type 0} (exact : ℤ → K) (notNumber below above : K) (h : ℕ) where
-  pub above-signed : (x : Float) → T (le (minus-two-to h) x) → T (not (lt x (two-to h))) → above ≡ signedKind exact notNumber below above h x
+  signed-above : (x : Float) → T (le (minus-two-to h) x) → T (not (lt x (two-to h))) → above ≡ signedKind exact notNumber below above h x
   unfolding le lt eq signedKind
-  above-signed nan a b = absurd a
-  above-signed (inf true) a b = absurd b
-  above-signed (inf false) a b = refl
-  above-signed (fin true m e) a b = absurd (nothing (m * up e) (2 ^ h) (down e) (pow-pos h) (down-pos e) (nltb→le 0 (m * up e * 1 + 1 * 2 ^ h * down e) b))
-  above-signed (fin false m e) a b =
+  signed-above nan a b = absurd a
+  signed-above (inf true) a b = absurd b
+  signed-above (inf false) a b = refl
+  signed-above (fin true m e) a b = absurd (nothing (m * up e) (2 ^ h) (down e) (pow-pos h) (down-pos e) (nltb→le 0 (m * up e * 1 + 1 * 2 ^ h * down e) b))
+  signed-above (fin false m e) a b =
       let n = m * up e / down e in
       if-no (ltb n (2 ^ h)) (exact (pos n)) above (le→nltb n (2 ^ h) (reach (m * up e) (2 ^ h) (down e) (down-pos e) (nltb→le (m * up e * 1) (1 * 2 ^ h * down e) b)))
 
-  pub none-signed : (x : Float) → T (not (le (minus-two-to h) x)) → T (not (lt x null)) → notNumber ≡ signedKind exact notNumber below above h x
+  signed-none : (x : Float) → T (not (le (minus-two-to h) x)) → T (not (lt x null)) → notNumber ≡ signedKind exact notNumber below above h x
   unfolding le lt eq signedKind
-  none-signed nan a b = refl
-  none-signed (inf true) a b = absurd b
-  none-signed (inf false) a b = absurd a
-  none-signed (fin false m e) a b = absurd (nothing (m * up e) (2 ^ h) (down e) (pow-pos h) (down-pos e) (go (m * up e * 1) (1 * 2 ^ h * down e) (nltb→le 0 (1 * 2 ^ h * down e + m * up e * 1) (nor-l (ltb 0 (1 * 2 ^ h * down e + m * up e * 1)) _ a))))
+  signed-none nan a b = refl
+  signed-none (inf true) a b = absurd b
+  signed-none (inf false) a b = absurd a
+  signed-none (fin false m e) a b = absurd (nothing (m * up e) (2 ^ h) (down e) (pow-pos h) (down-pos e) (go (m * up e * 1) (1 * 2 ^ h * down e) (nltb→le 0 (1 * 2 ^ h * down e + m * up e * 1) (nor-l (ltb 0 (1 * 2 ^ h * down e + m * up e * 1)) _ a))))
     where
       go : (n p : ℕ) → p + n ≤ 0 → n + p ≤ 0
       go n p l = omega arith
-  none-signed (fin true zero e) a b = absurd (nothing 0 (2 ^ h) (down e) (pow-pos h) (down-pos e) (go (up e) (1 * 2 ^ h * down e) (nltb→le (0 * up e * 1) (1 * 2 ^ h * down e) (nor-l (ltb (0 * up e * 1) (1 * 2 ^ h * down e)) _ a))))
+  signed-none (fin true zero e) a b = absurd (nothing 0 (2 ^ h) (down e) (pow-pos h) (down-pos e) (go (up e) (1 * 2 ^ h * down e) (nltb→le (0 * up e * 1) (1 * 2 ^ h * down e) (nor-l (ltb (0 * up e * 1) (1 * 2 ^ h * down e)) _ a))))
     where
       go : (u p : ℕ) → p ≤ 0 * u * 1 → 0 * 1 + p ≤ 0
       go u p l = omega arith
-  none-signed (fin true (suc m) e) a b = absurd (T-not (lt (fin true (suc m) e) null) b (under m e))
+  signed-none (fin true (suc m) e) a b = absurd (T-not (lt (fin true (suc m) e) null) b (under m e))
 
   -- below -2 ^ h: past 2 ^ 23 there is no fraction to cut
-  pub below-signed : (x : Float) → 23 ≤ h → T (fits binary32 x) → T (not (le (minus-two-to h) x)) → T (lt x null) → below ≡ signedKind exact notNumber below above h x
+  signed-below : (x : Float) → 23 ≤ h → T (fits binary32 x) → T (not (le (minus-two-to h) x)) → T (lt x null) → below ≡ signedKind exact notNumber below above h x
   unfolding le lt eq signedKind
-  below-signed nan H F a b = absurd b
-  below-signed (inf true) H F a b = refl
-  below-signed (inf false) H F a b = absurd b
-  below-signed (fin false m e) H F a b = absurd (not-under m e b)
-  below-signed (fin true m (pos k)) H F a b =
+  signed-below nan H F a b = absurd b
+  signed-below (inf true) H F a b = refl
+  signed-below (inf false) H F a b = absurd b
+  signed-below (fin false m e) H F a b = absurd (not-under m e b)
+  signed-below (fin true m (pos k)) H F a b =
       let n = m * 2 ^ k in
       if-no (leb (n / 1) (2 ^ h)) (exact (negℤ (pos (n / 1)))) below
       (lt→nleb (n / 1) (2 ^ h) (subst (λ (z : ℕ). 2 ^ h < z) (sym (div-one n)) (subst (λ (z : ℕ). z < n) (go (2 ^ h)) (subst (λ (z : ℕ). 1 * 2 ^ h * 1 < z) (mul-one n) (past (n * 1) (1 * 2 ^ h * 1) a)))))
     where
       go : (p : ℕ) → 1 * p * 1 ≡ p
       go p = omega arith
-  below-signed (fin true m (negsuc k)) H F a b =
+  signed-below (fin true m (negsuc k)) H F a b =
       absurd (no-fraction binary32 true m k F (le-trans (mul-le-mul-right (2 ^ suc k) (pow-mono H)) (go m (2 ^ h * 2 ^ suc k) (subst (λ (z : ℕ). z * 2 ^ suc k ≤ m * 1 * 1) (one-mul (2 ^ h)) (le-of-lt (past (m * 1 * 1) (1 * 2 ^ h * 2 ^ suc k) a))))))
     where
       go : (m p : ℕ) → p ≤ m * 1 * 1 → p ≤ m
       go m p l = omega arith
 
-  pub exact-signed : (x : Float) → T (le (minus-two-to h) x) → T (lt x (two-to h)) → exact (toSigned h x) ≡ signedKind exact notNumber below above h x
+  signed-exact : (x : Float) → T (le (minus-two-to h) x) → T (lt x (two-to h)) → exact (toSigned h x) ≡ signedKind exact notNumber below above h x
   unfolding le lt eq signedKind toSigned
-  exact-signed nan a b = absurd a
-  exact-signed (inf true) a b = absurd a
-  exact-signed (inf false) a b = absurd b
-  exact-signed (fin true m e) a b =
+  signed-exact nan a b = absurd a
+  signed-exact (inf true) a b = absurd a
+  signed-exact (inf false) a b = absurd b
+  signed-exact (fin true m e) a b =
       let n = m * up e / down e in
       let l : n ≤ 2 ^ h = within (m * up e) (2 ^ h) (down e) (down-pos e) (at-most (m * up e * 1) (1 * 2 ^ h * down e) _ a) in
       ap (λ (z : ℕ). exact (negℤ (pos z))) (least n (2 ^ h) l) ∙ if-yes (leb n (2 ^ h)) (exact (negℤ (pos n))) below (le→leb n (2 ^ h) l)
     where
       least : (n p : ℕ) → n ≤ p → min n p ≡ n
       least n p l = omega arith
-  exact-signed (fin false m e) a b =
+  signed-exact (fin false m e) a b =
       let n = m * up e / down e in
       let l : n < 2 ^ h = short (m * up e) (2 ^ h) (down e) (down-pos e) (ltb→lt (m * up e * 1) (1 * 2 ^ h * down e) b) in
       ap (λ (z : ℕ). exact (pos z)) (uncapped n (2 ^ h) l) ∙ if-yes (ltb n (2 ^ h)) (exact (pos n)) above (lt→ltb n (2 ^ h) l)
 
+  pub above-signed : (x : Float) → T (le (minus-two-to h) x) → T (not (lt x (two-to h))) → above ≡ kindBy exact notNumber below above (negℤ (pos (2 ^ h))) (pos (2 ^ h - 1)) x
+  above-signed x a b = signed-above x a b ∙ signed-one exact notNumber below above h x
+
+  pub none-signed : (x : Float) → T (not (le (minus-two-to h) x)) → T (not (lt x null)) → notNumber ≡ kindBy exact notNumber below above (negℤ (pos (2 ^ h))) (pos (2 ^ h - 1)) x
+  none-signed x a b = signed-none x a b ∙ signed-one exact notNumber below above h x
+
+  pub below-signed : (x : Float) → 23 ≤ h → T (fits binary32 x) → T (not (le (minus-two-to h) x)) → T (lt x null) → below ≡ kindBy exact notNumber below above (negℤ (pos (2 ^ h))) (pos (2 ^ h - 1)) x
+  below-signed x H F a b = signed-below x H F a b ∙ signed-one exact notNumber below above h x
+
+  pub exact-signed : (x : Float) → T (le (minus-two-to h) x) → T (lt x (two-to h)) → exact (toSigned h x) ≡ kindBy exact notNumber below above (negℤ (pos (2 ^ h))) (pos (2 ^ h - 1)) x
+  exact-signed x a b = signed-exact x a b ∙ signed-one exact notNumber below above h x
+
 -- ---- unsigned, from 0 to 2 ^ w - 1
 module _ {K : Type 0} (exact : ℕ → K) (notNumber below above : K) (w : ℕ) where
-  pub above-unsigned : (x : Float) → T (lt (minus-two-to 0) x) → T (not (lt x (two-to w))) → above ≡ unsignedKind exact notNumber below above w x
+  unsigned-above : (x : Float) → T (lt (minus-two-to 0) x) → T (not (lt x (two-to w))) → above ≡ unsignedKind exact notNumber below above w x
   unfolding lt unsignedKind
-  above-unsigned nan a b = absurd a
-  above-unsigned (inf true) a b = absurd b
-  above-unsigned (inf false) a b = refl
-  above-unsigned (fin true m e) a b = absurd (nothing (m * up e) (2 ^ w) (down e) (pow-pos w) (down-pos e) (nltb→le 0 (m * up e * 1 + 1 * 2 ^ w * down e) b))
-  above-unsigned (fin false m e) a b =
+  unsigned-above nan a b = absurd a
+  unsigned-above (inf true) a b = absurd b
+  unsigned-above (inf false) a b = refl
+  unsigned-above (fin true m e) a b = absurd (nothing (m * up e) (2 ^ w) (down e) (pow-pos w) (down-pos e) (nltb→le 0 (m * up e * 1 + 1 * 2 ^ w * down e) b))
+  unsigned-above (fin false m e) a b =
       let n = m * up e / down e in
       if-no (ltb n (2 ^ w)) (exact n) above (le→nltb n (2 ^ w) (reach (m * up e) (2 ^ w) (down e) (down-pos e) (nltb→le (m * up e * 1) (1 * 2 ^ w * down e) b)))
 
-  pub below-unsigned : (x : Float) → T (not (lt (minus-two-to 0) x)) → T (lt x null) → below ≡ unsignedKind exact notNumber below above w x
+  unsigned-below : (x : Float) → T (not (lt (minus-two-to 0) x)) → T (lt x null) → below ≡ unsignedKind exact notNumber below above w x
   unfolding lt unsignedKind
-  below-unsigned nan a b = absurd b
-  below-unsigned (inf true) a b = refl
-  below-unsigned (inf false) a b = absurd a
-  below-unsigned (fin false m e) a b = absurd (not-under m e b)
-  below-unsigned (fin true m e) a b =
+  unsigned-below nan a b = absurd b
+  unsigned-below (inf true) a b = refl
+  unsigned-below (inf false) a b = absurd a
+  unsigned-below (fin false m e) a b = absurd (not-under m e b)
+  unsigned-below (fin true m e) a b =
       let n = m * up e / down e in
       if-no (eqb n 0) (exact 0) below (not-T (eqb n 0) (λ t. go n (reach (m * up e) 1 (down e) (down-pos e) (nltb→le (m * up e * 1) (1 * 1 * down e) a)) (eqb→eq n 0 t)))
     where
       go : (n : ℕ) → 1 ≤ n → n ≡ 0 → ⊥
       go n l z = omega arith
 
-  pub none-unsigned : (x : Float) → T (not (lt (minus-two-to 0) x)) → T (not (lt x null)) → notNumber ≡ unsignedKind exact notNumber below above w x
+  unsigned-none : (x : Float) → T (not (lt (minus-two-to 0) x)) → T (not (lt x null)) → notNumber ≡ unsignedKind exact notNumber below above w x
   unfolding lt unsignedKind
-  none-unsigned nan a b = refl
-  none-unsigned (inf true) a b = absurd b
-  none-unsigned (inf false) a b = absurd a
-  none-unsigned (fin false m e) a b = absurd (go (m * up e) (down e) (down-pos e) (nltb→le 0 (1 * 1 * down e + m * up e * 1) a))
+  unsigned-none nan a b = refl
+  unsigned-none (inf true) a b = absurd b
+  unsigned-none (inf false) a b = absurd a
+  unsigned-none (fin false m e) a b = absurd (go (m * up e) (down e) (down-pos e) (nltb→le 0 (1 * 1 * down e + m * up e * 1) a))
     where
       go : (n d : ℕ) → 0 < d → 1 * 1 * d + n * 1 ≤ 0 → ⊥
       go n d k l = omega arith
-  none-unsigned (fin true zero e) a b = absurd (go (up e) (down e) (down-pos e) (nltb→le (0 * up e * 1) (1 * 1 * down e) a))
+  unsigned-none (fin true zero e) a b = absurd (go (up e) (down e) (down-pos e) (nltb→le (0 * up e * 1) (1 * 1 * down e) a))
     where
       go : (u d : ℕ) → 0 < d → 1 * 1 * d ≤ 0 * u * 1 → ⊥
       go u d k l = omega arith
-  none-unsigned (fin true (suc m) e) a b = absurd (T-not (lt (fin true (suc m) e) null) b (under m e))
+  unsigned-none (fin true (suc m) e) a b = absurd (T-not (lt (fin true (suc m) e) null) b (under m e))
 
-  pub exact-unsigned : (x : Float) → T (lt (minus-two-to 0) x) → T (lt x (two-to w)) → exact (toUnsigned w x) ≡ unsignedKind exact notNumber below above w x
+  unsigned-exact : (x : Float) → T (lt (minus-two-to 0) x) → T (lt x (two-to w)) → exact (toUnsigned w x) ≡ unsignedKind exact notNumber below above w x
   unfolding lt unsignedKind toUnsigned
-  exact-unsigned nan a b = absurd a
-  exact-unsigned (inf true) a b = absurd a
-  exact-unsigned (inf false) a b = absurd b
-  exact-unsigned (fin true m e) a b =
+  unsigned-exact nan a b = absurd a
+  unsigned-exact (inf true) a b = absurd a
+  unsigned-exact (inf false) a b = absurd b
+  unsigned-exact (fin true m e) a b =
       let n = m * up e / down e in
       if-yes (eqb n 0) (exact 0) below (eq→eqb (div-eq-of-lt (go (m * up e) (down e) (ltb→lt (m * up e * 1) (1 * 1 * down e) a))))
     where
       go : (n d : ℕ) → n * 1 < 1 * 1 * d → n < d
       go n d l = omega arith
-  exact-unsigned (fin false m e) a b =
+  unsigned-exact (fin false m e) a b =
       let n = m * up e / down e in
       let l : n < 2 ^ w = short (m * up e) (2 ^ w) (down e) (down-pos e) (ltb→lt (m * up e * 1) (1 * 2 ^ w * down e) b) in
       ap exact (uncapped n (2 ^ w) l) ∙ if-yes (ltb n (2 ^ w)) (exact n) above (lt→ltb n (2 ^ w) l)
+
+  pub above-unsigned : (x : Float) → T (lt (minus-two-to 0) x) → T (not (lt x (two-to w))) → above ≡ kindBy (λ z. exact (natAbs z)) notNumber below above (pos 0) (pos (2 ^ w - 1)) x
+  above-unsigned x a b = unsigned-above x a b ∙ unsigned-one exact notNumber below above w x
+
+  pub none-unsigned : (x : Float) → T (not (lt (minus-two-to 0) x)) → T (not (lt x null)) → notNumber ≡ kindBy (λ z. exact (natAbs z)) notNumber below above (pos 0) (pos (2 ^ w - 1)) x
+  none-unsigned x a b = unsigned-none x a b ∙ unsigned-one exact notNumber below above w x
+
+  pub below-unsigned : (x : Float) → T (not (lt (minus-two-to 0) x)) → T (lt x null) → below ≡ kindBy (λ z. exact (natAbs z)) notNumber below above (pos 0) (pos (2 ^ w - 1)) x
+  below-unsigned x a b = unsigned-below x a b ∙ unsigned-one exact notNumber below above w x
+
+  pub exact-unsigned : (x : Float) → T (lt (minus-two-to 0) x) → T (lt x (two-to w)) → exact (toUnsigned w x) ≡ kindBy (λ z. exact (natAbs z)) notNumber below above (pos 0) (pos (2 ^ w - 1)) x
+  exact-unsigned x a b = unsigned-exact x a b ∙ unsigned-one exact notNumber below above w x
 
 -- ---- a function of the kind goes into its cases
 module _ {K L : Type 0} (g : K → L) where
@@ -244,13 +269,13 @@ unsigned-is w (fin false m e) = go (m * up e / down e) (2 ^ w) (ltb (m * up e / 
     go n p false f g = let l = g tt in omega arith
 
 pub saturated-i64 : (x : Float) → saturatedI64 (cutI64 x) ≡ toSigned 63 x
-saturated-i64 x = signed-fold saturatedI64 I64.Exact I64.NotNumber I64.Below I64.Above 63 x ∙ signed-is 63 x
+saturated-i64 x = ap saturatedI64 (sym (signed-one I64.Exact I64.NotNumber I64.Below I64.Above 63 x)) ∙ signed-fold saturatedI64 I64.Exact I64.NotNumber I64.Below I64.Above 63 x ∙ signed-is 63 x
 
 pub saturated-i32 : (x : Float) → saturatedI32 (cutI32 x) ≡ toSigned 31 x
-saturated-i32 x = signed-fold saturatedI32 I32.Exact I32.NotNumber I32.Below I32.Above 31 x ∙ signed-is 31 x
+saturated-i32 x = ap saturatedI32 (sym (signed-one I32.Exact I32.NotNumber I32.Below I32.Above 31 x)) ∙ signed-fold saturatedI32 I32.Exact I32.NotNumber I32.Below I32.Above 31 x ∙ signed-is 31 x
 
 pub saturated-u64 : (x : Float) → saturatedU64 (cutU64 x) ≡ toUnsigned 64 x
-saturated-u64 x = unsigned-fold saturatedU64 U64.Exact U64.NotNumber U64.Below U64.Above 64 x ∙ unsigned-is 64 x
+saturated-u64 x = ap saturatedU64 (sym (unsigned-one U64.Exact U64.NotNumber U64.Below U64.Above 64 x)) ∙ unsigned-fold saturatedU64 U64.Exact U64.NotNumber U64.Below U64.Above 64 x ∙ unsigned-is 64 x
 
 -- ---- the kind for an i32 is that for an i64, held against the smaller range
 abbrev pub narrowed : KindI64 → KindI32
@@ -284,7 +309,7 @@ within-minus (suc n) = go (leb (suc n) (2 ^ 63)) (ltb 2147483647 n) (leb (suc n)
     go false b true p q r s u = let i = p tt in let j = s tt in absurd (omega arith)
     go false b false p q r s u = refl
 
-narrow-is : (x : Float) → signedKind withinI32 I32.NotNumber I32.Below I32.Above 63 x ≡ cutI32 x
+narrow-is : (x : Float) → signedKind (λ z. withinI32 z) I32.NotNumber I32.Below I32.Above 63 x ≡ signedKind I32.Exact I32.NotNumber I32.Below I32.Above 31 x
 unfolding signedKind
 narrow-is nan = refl
 narrow-is (inf s) = refl
@@ -292,6 +317,6 @@ narrow-is (fin true m e) = within-minus (m * up e / down e)
 narrow-is (fin false m e) = within-plus (m * up e / down e)
 
 pub narrowed-is : (x : Float) → narrowed (cutI64 x) ≡ cutI32 x
-narrowed-is x = signed-fold narrowed I64.Exact I64.NotNumber I64.Below I64.Above 63 x ∙ narrow-is x
+narrowed-is x = ap narrowed (sym (signed-one I64.Exact I64.NotNumber I64.Below I64.Above 63 x)) ∙ signed-fold narrowed I64.Exact I64.NotNumber I64.Below I64.Above 63 x ∙ narrow-is x ∙ signed-one I32.Exact I32.NotNumber I32.Below I32.Above 31 x
 
 -- Assumes nothing.

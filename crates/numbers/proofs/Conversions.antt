@@ -12,10 +12,14 @@ use lib.Ieee.{Float, nan, inf, fin, Format, binary32, binary64, up, down, round,
 use lib.Ieee.Bits.{is-false}
 use lib.Ieee.Fits.{down-pos}
 use Rattle.numbers.specs.Narrow.{narrow}
-use Rattle.numbers.specs.Kind.{signedKind, unsignedKind, cutI64, cutI32, cutU64, saturatedI64, saturatedI32, saturatedU64}
+use Rattle.numbers.specs.Kind.{cutI64, cutI32, cutU64, saturatedI64, saturatedI32, saturatedU64}
+use Rattle.numbers.specs.declared.KindI64.{KindI64}
 use Rattle.numbers.specs.declared.KindI64.the-variants as I64
+use Rattle.numbers.specs.declared.KindI32.{KindI32}
 use Rattle.numbers.specs.declared.KindI32.the-variants as I32
+use Rattle.numbers.specs.declared.KindU64.{KindU64}
 use Rattle.numbers.specs.declared.KindU64.the-variants as U64
+use Rattle.numbers.proofs.OneKind.{signedKind, unsignedKind, signed-one, unsigned-one}
 use Rattle.numbers.proofs.ByKind.{saturated-i64, saturated-i32, saturated-u64}
 use Rattle.numbers.specs.Ieee754.{Cut, ToSigned, ToUnsigned, Conversions, NearestFraction, tooLarge}
 use Rattle.numbers.proofs.NearestEven.{round-nearest, round-infinite}
@@ -92,13 +96,13 @@ module _ {K L : Type 0} (g : K → L) (t : Float → L) where
   }
 
 kind-i64 : ToSigned I64.Exact I64.NotNumber I64.Below I64.Above 63 cutI64
-kind-i64 = signed-kind I64.Exact I64.NotNumber I64.Below I64.Above 63
+kind-i64 = signed-told (λ (k : KindI64). k) cutI64 I64.Exact I64.NotNumber I64.Below I64.Above 63 (signedKind I64.Exact I64.NotNumber I64.Below I64.Above 63) (signed-one I64.Exact I64.NotNumber I64.Below I64.Above 63) (signed-kind I64.Exact I64.NotNumber I64.Below I64.Above 63)
 
 kind-i32 : ToSigned I32.Exact I32.NotNumber I32.Below I32.Above 31 cutI32
-kind-i32 = signed-kind I32.Exact I32.NotNumber I32.Below I32.Above 31
+kind-i32 = signed-told (λ (k : KindI32). k) cutI32 I32.Exact I32.NotNumber I32.Below I32.Above 31 (signedKind I32.Exact I32.NotNumber I32.Below I32.Above 31) (signed-one I32.Exact I32.NotNumber I32.Below I32.Above 31) (signed-kind I32.Exact I32.NotNumber I32.Below I32.Above 31)
 
 kind-u64 : ToUnsigned U64.Exact U64.NotNumber U64.Below U64.Above 64 cutU64
-kind-u64 = unsigned-kind U64.Exact U64.NotNumber U64.Below U64.Above 64
+kind-u64 = unsigned-told (λ (k : KindU64). k) cutU64 U64.Exact U64.NotNumber U64.Below U64.Above 64 (unsignedKind U64.Exact U64.NotNumber U64.Below U64.Above 64) (unsigned-one U64.Exact U64.NotNumber U64.Below U64.Above 64) (unsigned-kind U64.Exact U64.NotNumber U64.Below U64.Above 64)
 
 -- ---- to floats
 in-64 : (f : Format) (n : ℕ) → n ≤ 2 ^ 64 → n < tooLarge f * 1

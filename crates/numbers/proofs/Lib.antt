@@ -26,8 +26,11 @@ pub mod Nearness
 pub mod OneNearest
 pub mod Hypot
 pub mod Steps
+pub mod Rounds
+pub mod OneKind
 pub mod ByKind
 pub mod Logs
 pub mod WholeParts
+pub mod RoundedKind
 pub mod Conversions
 pub mod Ieee754

@@ -15,7 +15,7 @@
 //                   ceil_log2                                 specs/Saturating
 // specs/Ieee754 says what roots, lengths, whole parts and conversions mean; specs/Arith has the operators on f32; specs/Inner what the inner functions promise one another.
 ghost use mathlib.Core.Path.{_≡_};
-ghost use mathlib.Core.Bool.{false};
+ghost use mathlib.Core.Bool.{false, cond};
 ghost use Prim.Native.Nat.{_+_, _*_, _≤_, _<_, _^_};
 ghost use lib.Dec.{T};
 ghost use lib.IntN.{pos, natAbs};
@@ -47,33 +47,29 @@ const SQRT_2: f32 = 1.41421356237309504880168872420969808;
 
 // ---- whole parts
 
-// The whole part of a.
-fn cut_of(a: f32) -> u64
-    requires { ⌜ Small a ⌝ }
-    ensures { λ r. ⌜ Made cut a r ⌝ }
-{
-    std::num::truncating_f32_to_u64(a)
-}
-
-// The whole number nearest to a, a half up.
-fn half_of(a: f32) -> u64
-    requires { ⌜ Small a ⌝ }
-    ensures { λ r. ⌜ Made half a r ⌝ }
-{
-    let t = cut_of(a);
-    if a < ((t + t + 1) as f32) * 0.5 {
-        t
-    } else {
-        t + 1
-    }
-}
-
 // The whole number nearest to a, a tie to the even one: 2^23 and more leaves a float no fraction.
 fn nearest_to(a: f32) -> f32
     requires { ⌜ Small a ⌝ }
     ensures { λ r. ⌜ r ≡ Ieee.ofInt binary32 (pos (closest (num a) (den a))) ⌝ }
 {
     (a + 8388608.0) - 8388608.0
+}
+
+// 0 where the test passes, else 1: added, it leaves the machine no branch to foresee.
+fn unless(test: bool) -> u32
+    ensures { λ r. ⌜ r ≡ cond test 0 1 ⌝ }
+{
+    if test { 0 } else { 1 }
+}
+
+// The whole number nearest to a, a half up: the tie that went down to the even number goes up by one.
+fn half_of(a: f32) -> u64
+    requires { ⌜ Small a ⌝ }
+    ensures { λ r. ⌜ Made half a r ⌝ }
+{
+    let near = nearest_to(a);
+    let up = unless(a < near + 0.5);
+    (near as u32 + up) as u64
 }
 
 // The whole part of a, with no conversion to an integer.
@@ -219,10 +215,15 @@ pub fn cut_to_u64(x: f32) -> KindU64
     }
 }
 
-// After R, the rounding half away from zero.
+// After R, the rounding half away from zero. A number above 0 and below 2^23 needs no float in between.
 pub fn rounded_to_i64(x: f32) -> KindI64
     ensures { λ r. ⌜ r ≡ cutI64 (roundOf binary32 x) ⌝ }
 {
+    if x > 0.0 {
+        if x < 8388608.0 {
+            return KindI64::Exact(half_of(x) as i64);
+        }
+    }
     cut_to_i64(round(x))
 }
 
@@ -235,6 +236,11 @@ pub fn rounded_to_i32(x: f32) -> KindI32
 pub fn rounded_to_u64(x: f32) -> KindU64
     ensures { λ r. ⌜ r ≡ cutU64 (roundOf binary32 x) ⌝ }
 {
+    if x > 0.0 {
+        if x < 8388608.0 {
+            return KindU64::Exact(half_of(x));
+        }
+    }
     cut_to_u64(round(x))
 }
 

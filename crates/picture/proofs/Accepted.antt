@@ -24,6 +24,7 @@ use Rattle.rows.specs.declared.Listed.the-variants as Listed
 use Rattle.rows.specs.Rows.{inRow, Outcome, outcome, built}
 use Rattle.owners.specs.Owners.{ownedRoom, ownersOf}
 use Rattle.painting.specs.Painting.{strandOfSpline, Painted, All, NoRoomAt, afterStrand, paintFrom, paintOf}
+use Rattle.faint.specs.Faint.{faintIn}
 use Rattle.table.specs.Table.{BuildRooms, Setting, BuildOutcome, givenOf, refusedWith, zeros, padded, verdictOf, afterRows, afterJudge, buildOf}
 use Rattle.table.specs.Refusals.{painted}
 use Rattle.table.proofs.Checks.{ready}
@@ -57,7 +58,7 @@ all-fit d g high p w room segs owners e = paint-fits d g high p w room (length (
 
 -- ---- from the end of the checks to their beginning
 
-module _ (r : BuildRooms) (t : BuildOutcome) (s e est : ℕ) (done : t .answer ≡ Done s e est) where
+module _ (r : BuildRooms) (t : BuildOutcome) (s e est faint : ℕ) (done : t .answer ≡ Done s e est faint) where
   -- a refusal is not done
   refused-not : (c : Code) (k : ℕ) → t ≡ refusedWith r c k → ⊥
   unfolding refusedWith
@@ -78,7 +79,7 @@ module _ (r : BuildRooms) (t : BuildOutcome) (s e est : ℕ) (done : t .answer �
       → Listing estimate segs (outcome l ss es)
   rows-listed estimate segs owners Listed.Room ss es q = absurd (refused-not Code.Room 0 q)
   rows-listed estimate segs owners (Listed.Entries n) ss es q =
-      let a : Done (length segs) n estimate ≡ Done s e est = sym (ap (λ (b : BuildOutcome). b .answer) q) ∙ done in
+      let a : Done (length segs) n estimate (faintIn (eights segs) (length segs)) ≡ Done s e est faint = sym (ap (λ (b : BuildOutcome). b .answer) q) ∙ done in
       let m : n ≡ e = cc in
       record {
         same = cc;
@@ -124,10 +125,10 @@ pub record Accepted (d : Description) (i : Setting) (r : BuildRooms) (t : BuildO
   pub starts : t .starts ≡ built (inRow (eights segs)) (length segs) (i .height) (r .starts) (r .entries) .starts
   pub entries : t .entries ≡ built (inRow (eights segs)) (length segs) (i .height) (r .starts) (r .entries) .entries
 
-pub accepted : (d : Description) (i : Setting) (r : BuildRooms) (t : BuildOutcome) (s e est : ℕ) → t ≡ buildOf d i r → t .answer ≡ Done s e est → Accepted d i r t s e est
+pub accepted : (d : Description) (i : Setting) (r : BuildRooms) (t : BuildOutcome) (s e est faint : ℕ) → t ≡ buildOf d i r → t .answer ≡ Done s e est faint → Accepted d i r t s e est
 unfolding buildOf
-accepted d i r t s e est q done =
-    let g = ended r t s e est done (i .height) (verdictOf d (givenOf i) (i .width) (i .height) (r .starts)) (painted d i r) q in
+accepted d i r t s e est faint q done =
+    let g = ended r t s e est faint done (i .height) (verdictOf d (givenOf i) (i .width) (i .height) (r .starts)) (painted d i r) q in
     let f = ready d (givenOf i) (i .width) (i .height) (r .starts) (g .estimate) (g .judged) in
     record {
       segs = g .segs;

@@ -13,7 +13,7 @@ module _ {d : Description} {i : Setting} {r : BuildRooms} {o : BuildOutcome} {s 
   pub built-makes : Makes d i (segmentsOf d i r)
   unfolding segmentsOf
   built-makes =
-      let m = build-makes d i r s e n (sym (ap (λ (t : BuildOutcome). t .answer) (b .outcome)) ∙ b .done) in
+      let m = build-makes d i r s e n (b .faint) (sym (ap (λ (t : BuildOutcome). t .answer) (b .outcome)) ∙ b .done) in
       rw (drawn-are d i r (m .segs) (m .owners) (m .needs)) (record { owners = m .owners; made = m .makes })
 
   -- and there are no others

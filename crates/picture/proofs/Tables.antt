@@ -90,7 +90,7 @@ none = segmentAt [] 0
 
 module _ {d : Description} {i : Setting} {r : BuildRooms} {o : BuildOutcome} {s e estimate : ℕ} (b : Built d i r o s e estimate) where
   pub facts : Accepted d i r o s e estimate
-  facts = accepted d i r o s e estimate (b .outcome) (b .done)
+  facts = accepted d i r o s e estimate (b .faint) (b .outcome) (b .done)
 
   -- the segments that were drawn are those of the table, in their order
   pub segments-are : facts .segs ≡ segmentsOf d i r

@@ -45,10 +45,11 @@ imagePairs segments W y (suc H) = rowPairs segments W y + imagePairs segments W 
 
 -- ---- a built table
 
--- an outcome of a build, with its three counts where it is done
+-- an outcome of a build, with its counts where it is done
 pub record Built (d : Description) (i : Setting) (r : BuildRooms) (o : build.BuildOutcome) (s e estimate : ℕ) : Type 0 where
   pub outcome : o ≡ buildOf d i r
-  pub done : o .answer ≡ BuildAnswer.Done s e estimate
+  pub faint : ℕ
+  pub done : o .answer ≡ BuildAnswer.Done s e estimate faint
 
 -- the table as drawing takes it: s segments, e entries, and a row start for each row of the image and one more
 abbrev pub built : Setting → build.BuildOutcome → ℕ → ℕ → Table

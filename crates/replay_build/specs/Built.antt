@@ -46,7 +46,7 @@ pub record RefusalAgrees (code : Code) (place : ℕ) (output : List ℕ) : Type 
 
 abbrev pub AnswerAgrees : BuildAnswer → ℕ → List Float → List ℕ → List ℕ → List ℕ → List ℕ → Type 0
 AnswerAgrees (Refused code place) height segments owners starts entries output = RefusalAgrees code place output
-AnswerAgrees (Done count listed estimate) height segments owners starts entries output = TableAgrees count listed estimate height segments owners starts entries output
+AnswerAgrees (Done count listed estimate faint) height segments owners starts entries output = TableAgrees count listed estimate height segments owners starts entries output
 
 -- what a build answers, and leaves in the segments, their owners, the row starts and the entries
 abbrev pub BuildAgrees : BuildOutcome → ℕ → List ℕ → Type 0

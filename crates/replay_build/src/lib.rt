@@ -118,7 +118,7 @@ fn is_answer(
 {
     match answer {
         BuildAnswer::Refused(code, place) => is_refusal(code, place, output),
-        BuildAnswer::Done(count, listed, estimate) => is_table(
+        BuildAnswer::Done(count, listed, estimate, _) => is_table(
             count,
             listed,
             estimate,

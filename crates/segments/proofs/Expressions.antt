@@ -15,24 +15,10 @@ use lib.Ieee.Exact.{HasValue}
 use Rattle.numbers.specs.Arith.{_⊕_, _⊖_}
 use Rattle.numbers.specs.Whole.{half, wholeBy, roundOf}
 use Rattle.numbers.proofs.Wholes.{half-id, digits}
-use Rattle.segments.specs.Ranges.{Bound, under, at, over, rounded, orZero, beginsBy, lastsTo, hasRow, hasColumn}
+use Rattle.segments.specs.Bounds.{Bound, under, at, over, rounded, orZero, beginsBy, lastsTo}
 use Rattle.segments.specs.Expressions.{boundOf, oneMoreI64, oneMoreUsize, asI64, asUsize, AsSplineRs}
-use Rattle.numbers.proofs.WholeParts.{round-value, half-le}
-
--- ---- one R
-bound-is : (r : Float) (s : Bool) (n : ℕ) → HasValue r s n 1 → at (cond s (negℤ (pos n)) (pos n)) ≡ boundOf r
-unfolding boundOf
-bound-is nan s n v = absurd v
-bound-is (inf t) s n v = absurd v
-bound-is (fin t m e) s n v =
-    ap (λ (z : Bool). at (cond z (negℤ (pos n)) (pos n))) (sym (v .0))
-    ∙ ap (λ (z : ℕ). at (cond t (negℤ (pos z)) (pos z))) (sym (ap (λ (z : ℕ). z / down e) (sym (mul-one (m * up e)) ∙ v .1) ∙ mul-div-cancel n (down-pos e)))
-
-one-r : (x : Float) → T (fits binary32 x) → rounded x ≡ boundOf (roundOf binary32 x)
-unfolding rounded boundOf wholeBy
-one-r nan F = refl
-one-r (inf s) F = refl
-one-r (fin s m e) F = bound-is (roundOf binary32 (fin s m e)) s (half (m * up e) (down e)) (round-value binary32 s m e F)
+use Rattle.numbers.proofs.WholeParts.{half-le}
+use Rattle.segments.proofs.ByBound.{one-r, joined, rows-by-kind, columns-by-kind}
 
 -- ---- a bound held to the range
 abbrev heldI64 : Bound → ℤ
@@ -122,17 +108,6 @@ same true true f g = refl
 same true false f g = absurd (f tt)
 same false true f g = absurd (g tt)
 same false false f g = refl
-
--- two tests are one where the second part, passed, tells that the first parts are
-joined : (a b c d : Bool) → b ≡ d → (T b → a ≡ c) → (a && b) ≡ (c && d)
-joined a true c d e f = rw (← e, f tt)
-joined a false c d e f = rw (← e) (go a c)
-  where
-    go : (a c : Bool) → (a && false) ≡ (c && false)
-    go true true = refl
-    go true false = refl
-    go false true = refl
-    go false false = refl
 
 -- y ≤ n is y < n + 1
 leb-next : (y n : ℕ) → leb y n ≡ ltb y (n + 1)
@@ -271,11 +246,10 @@ module _ (lo hi : Float) (F : T (fits binary32 lo)) (G : T (fits binary32 hi)) w
       (λ t. column-begins (rounded lo) x (lasts-past 18446744073709551615 (orZero (rounded hi)) x (not-positive 18446744073709551615 (rounded hi) (lit≤ tt) not-end) t) ∙ ap (λ (z : ℕ). leb z x) (sym (usize-is lo F)))
 
 pub as-spline-rs : AsSplineRs
-unfolding hasRow hasColumn
 as-spline-rs = record {
   one-r = one-r;
-  rows = λ s y. row-range (s .«center_y» ⊖ s .«maximum_distance») (s .«center_y» ⊕ s .«maximum_distance») (sub-fits binary32 (s .«center_y») (s .«maximum_distance»)) (add-fits binary32 (s .«center_y») (s .«maximum_distance»)) y;
-  columns = λ s x. column-range (s .«center_x» ⊖ s .«maximum_distance») (s .«center_x» ⊕ s .«maximum_distance») (sub-fits binary32 (s .«center_x») (s .«maximum_distance»)) (add-fits binary32 (s .«center_x») (s .«maximum_distance»)) x;
+  rows = λ s y. rows-by-kind s y ∙ row-range (s .«center_y» ⊖ s .«maximum_distance») (s .«center_y» ⊕ s .«maximum_distance») (sub-fits binary32 (s .«center_y») (s .«maximum_distance»)) (add-fits binary32 (s .«center_y») (s .«maximum_distance»)) y;
+  columns = λ s x. columns-by-kind s x ∙ column-range (s .«center_x» ⊖ s .«maximum_distance») (s .«center_x» ⊕ s .«maximum_distance») (sub-fits binary32 (s .«center_x») (s .«maximum_distance»)) (add-fits binary32 (s .«center_x») (s .«maximum_distance»)) x;
 }
 
 -- Assumes nothing.

@@ -1,5 +1,6 @@
 -- The definitions of the crate `segments`.
 pub mod Segment
 pub mod Ranges
+pub mod Bounds
 pub mod Expressions
 pub mod Readings

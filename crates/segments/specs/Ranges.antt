@@ -1,84 +1,118 @@
 -- The rows and columns of a segment: from R(c - d) through R(c + d), by the centre c and the distance d. Definitions only.
--- R rounds half away from zero, a NaN to 0; an infinity lies beyond every whole number.
-use mathlib.Core.Bool.{Bool, true, false, cond, _&&_}
-use Prim.Native.Nat.{ℕ, suc, _*_, _^_, min}
-use lib.Dec.{leb, ltb}
-use lib.IntN.{ℤ, pos, negsuc, negℤ}
-use lib.Ieee.{Float, nan, inf, fin, up, down}
+-- R rounds half away from zero. Each of the four ends is told by its kind: an exact number, no number, or below or above the range of the conversion, which is an i64's for rows and a u64's for columns.
+use mathlib.Core.Bool.{Bool, true, false, _&&_}
+use Prim.Native.Nat.{ℕ, suc, _^_, min}
+use lib.Dec.{leb}
+use lib.IntN.{ℤ, pos, negsuc}
+use lib.Ieee.{Float, binary32}
 use Rattle.numbers.specs.Arith.{_⊕_, _⊖_}
-use Rattle.numbers.specs.Whole.{half}
+use Rattle.numbers.specs.Whole.{roundOf}
+use Rattle.numbers.specs.Kind.{cutI64, cutU64}
+use Rattle.numbers.specs.declared.KindI64.{KindI64}
+use Rattle.numbers.specs.declared.KindI64.the-variants as I64
+use Rattle.numbers.specs.declared.KindU64.{KindU64}
+use Rattle.numbers.specs.declared.KindU64.the-variants as U64
 use Rattle.segments.specs.declared.Segment.{Segment}
 use Rattle.segments.specs.declared.Range.{Range}
 
--- a whole number, or beyond them on either side
-pub data Bound : Type 0 where
-  under : Bound
-  at : ℤ → Bound
-  over : Bound
+-- ---- the ends, by the float that is one
 
--- R
-unfoldable pub rounded : Float → Bound
-rounded nan = at (pos 0)
-rounded (inf s) = cond s under over
-rounded (fin s m e) = at (cond s (negℤ (pos (half (m * up e) (down e)))) (pos (half (m * up e) (down e))))
+abbrev pub rowEnd : Float → KindI64
+rowEnd x = cutI64 (roundOf binary32 x)
 
--- R0: negatives made 0
-abbrev pub orZero : Bound → Bound
-orZero under = at (pos 0)
-orZero (at (pos n)) = at (pos n)
-orZero (at (negsuc n)) = at (pos 0)
-orZero over = over
+abbrev pub columnEnd : Float → KindU64
+columnEnd x = cutU64 (roundOf binary32 x)
 
-abbrev pub beginsBy : Bound → ℕ → Bool
-beginsBy under y = true
-beginsBy (at (pos n)) y = leb n y
-beginsBy (at (negsuc n)) y = true
-beginsBy over y = false
+-- ---- rows: no number counts 0, and a last row that is negative or above the range leaves none
 
--- a last number at the limit or beyond leaves nothing
-abbrev pub lastsTo : ℕ → Bound → ℕ → Bool
-lastsTo limit under y = false
-lastsTo limit (at (pos n)) y = ltb n limit && leb y n
-lastsTo limit (at (negsuc n)) y = false
-lastsTo limit over y = false
+abbrev pub rowBegins : KindI64 → ℕ → Bool
+rowBegins (I64.Exact (pos n)) y = leb n y
+rowBegins (I64.Exact (negsuc n)) y = true
+rowBegins I64.NotNumber y = leb 0 y
+rowBegins I64.Below y = true
+rowBegins I64.Above y = false
+
+abbrev pub rowLasts : KindI64 → ℕ → Bool
+rowLasts (I64.Exact (pos n)) y = leb y n
+rowLasts (I64.Exact (negsuc n)) y = false
+rowLasts I64.NotNumber y = leb y 0
+rowLasts I64.Below y = false
+rowLasts I64.Above y = false
 
 unfoldable pub hasRow : Segment → ℕ → Bool
-hasRow s y =
-    beginsBy (rounded (s .«center_y» ⊖ s .«maximum_distance»)) y && lastsTo (2 ^ 63) (rounded (s .«center_y» ⊕ s .«maximum_distance»)) y
+hasRow s y = rowBegins (rowEnd (s .«center_y» ⊖ s .«maximum_distance»)) y && rowLasts (rowEnd (s .«center_y» ⊕ s .«maximum_distance»)) y
+
+-- ---- columns: no number, and what is below the range, counts 0 at either end; a last column above the range leaves none
+
+abbrev pub columnBegins : KindU64 → ℕ → Bool
+columnBegins (U64.Exact n) x = leb n x
+columnBegins U64.NotNumber x = leb 0 x
+columnBegins U64.Below x = leb 0 x
+columnBegins U64.Above x = false
+
+abbrev pub columnLasts : KindU64 → ℕ → Bool
+columnLasts (U64.Exact n) x = leb x n
+columnLasts U64.NotNumber x = leb x 0
+columnLasts U64.Below x = leb x 0
+columnLasts U64.Above x = false
 
 unfoldable pub hasColumn : Segment → ℕ → Bool
-hasColumn s x =
-    beginsBy (orZero (rounded (s .«center_x» ⊖ s .«maximum_distance»))) x
-    && lastsTo (2 ^ 64) (orZero (rounded (s .«center_x» ⊕ s .«maximum_distance»))) x
+hasColumn s x = columnBegins (columnEnd (s .«center_x» ⊖ s .«maximum_distance»)) x && columnLasts (columnEnd (s .«center_x» ⊕ s .«maximum_distance»)) x
 
 -- ---- the same as half-open ranges of whole numbers, cut at 2^24, which no image reaches
 
-abbrev pub clip : Bound → ℕ
-clip under = 0
-clip (at (pos n)) = min n (2 ^ 24)
-clip (at (negsuc n)) = 0
-clip over = 2 ^ 24
+abbrev pub clip : ℤ → ℕ
+clip (pos n) = min n (2 ^ 24)
+clip (negsuc n) = 0
 
-abbrev pub past : ℕ → Bound → ℕ
-past limit under = 0
-past limit (at (pos n)) = cond (ltb n limit) (suc (min n (2 ^ 24))) 0
-past limit (at (negsuc n)) = 0
-past limit over = 0
+abbrev pub clipPast : ℤ → ℕ
+clipPast (pos n) = suc (min n (2 ^ 24))
+clipPast (negsuc n) = 0
+
+abbrev pub rowFirstBy : KindI64 → ℕ
+rowFirstBy (I64.Exact z) = clip z
+rowFirstBy I64.NotNumber = 0
+rowFirstBy I64.Below = 0
+rowFirstBy I64.Above = 2 ^ 24
+
+abbrev pub rowPastBy : KindI64 → ℕ
+rowPastBy (I64.Exact z) = clipPast z
+rowPastBy I64.NotNumber = 1
+rowPastBy I64.Below = 0
+rowPastBy I64.Above = 0
+
+abbrev pub columnFirstBy : KindU64 → ℕ
+columnFirstBy (U64.Exact n) = min n (2 ^ 24)
+columnFirstBy U64.NotNumber = 0
+columnFirstBy U64.Below = 0
+columnFirstBy U64.Above = 2 ^ 24
+
+abbrev pub columnPastBy : KindU64 → ℕ
+columnPastBy (U64.Exact n) = suc (min n (2 ^ 24))
+columnPastBy U64.NotNumber = 1
+columnPastBy U64.Below = 1
+columnPastBy U64.Above = 0
+
+unfoldable pub rowFirstOf : Float → ℕ
+rowFirstOf x = rowFirstBy (rowEnd x)
 
 unfoldable pub rowPastOf : Float → ℕ
-rowPastOf x = past (2 ^ 63) (rounded x)
+rowPastOf x = rowPastBy (rowEnd x)
+
+unfoldable pub columnFirstOf : Float → ℕ
+columnFirstOf x = columnFirstBy (columnEnd x)
 
 unfoldable pub columnPastOf : Float → ℕ
-columnPastOf x = past (2 ^ 64) (orZero (rounded x))
+columnPastOf x = columnPastBy (columnEnd x)
 
 abbrev pub rowFirst : Segment → ℕ
-rowFirst s = clip (rounded (s .«center_y» ⊖ s .«maximum_distance»))
+rowFirst s = rowFirstOf (s .«center_y» ⊖ s .«maximum_distance»)
 
 abbrev pub rowPast : Segment → ℕ
 rowPast s = rowPastOf (s .«center_y» ⊕ s .«maximum_distance»)
 
 abbrev pub columnFirst : Segment → ℕ
-columnFirst s = clip (rounded (s .«center_x» ⊖ s .«maximum_distance»))
+columnFirst s = columnFirstOf (s .«center_x» ⊖ s .«maximum_distance»)
 
 abbrev pub columnPast : Segment → ℕ
 columnPast s = columnPastOf (s .«center_x» ⊕ s .«maximum_distance»)

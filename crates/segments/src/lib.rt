@@ -1,11 +1,12 @@
 // A segment of a spline: which points make one, its eight floats, and the rows and columns that it touches.
 ghost use mathlib.Core.Path.{_≡_};
-ghost use mathlib.Core.Bool.{cond};
-ghost use Prim.Native.Nat.{_+_, _*_, _≤_};
+ghost use Prim.Native.Nat.{_+_, _*_, _^_, _≤_, min};
 ghost use lib.ListN.{length};
 ghost use lib.Seq.{sets};
 ghost use Rattle.segments.specs.Segment.{skipped, maxColor, distanceExp, maxDistance, addSegment, segmentAt, eightOf};
-ghost use Rattle.segments.specs.Ranges.{clip, rounded, past, rowPastOf, columnPastOf, rowsOf, columnsOf};
+ghost use Rattle.segments.specs.Ranges.{clip, clipPast, rowFirstOf, rowPastOf, columnFirstOf, columnPastOf, rowsOf, columnsOf};
+use numbers::KindI64;
+use numbers::KindU64;
 
 pub struct Segment {
     pub center_x: f32,
@@ -98,42 +99,60 @@ pub fn add_segment(
     })
 }
 
-// 0 where the test passes, else 1: added, it leaves the machine no branch to foresee.
-fn unless(test: bool) -> u32
-    ensures { λ r. ⌜ r ≡ cond test 0 1 ⌝ }
+// n, and no more than 2^24, which no image reaches.
+fn cut(n: u64) -> u32
+    ensures { λ r. ⌜ r ≡ min n (2 ^ 24) ⌝ }
 {
-    if test { 0 } else { 1 }
+    if n < 16777216 { n as u32 } else { 16777216 }
 }
 
-// The number that x rounds to, half away from zero, brought between 0 and 2^24. A NaN gives 0.
-fn clip(x: f32) -> u32
-    ensures { λ r. ⌜ r ≡ clip (rounded x) ⌝ }
+// z brought between 0 and 2^24.
+fn clip(z: i64) -> u32
+    ensures { λ r. ⌜ r ≡ clip z ⌝ }
 {
-    if x > 0.0 {
-        if x < 8388608.0 {
-            // 2^23 and more leaves a float no fraction: the sum is rounded, and a half may have gone down to the even number
-            let near = (x + 8388608.0) - 8388608.0;
-            let up = unless(x < near + 0.5);
-            return near as u32 + up;
-        }
-        if x < 16777216.0 {
-            return std::num::truncating_f32_to_u64(x) as u32;
-        }
-        return 16777216;
+    if z < 0 { 0 } else { cut(z as u64) }
+}
+
+// One past z, brought so; none where z is negative.
+fn clip_past(z: i64) -> u32
+    ensures { λ r. ⌜ r ≡ clipPast z ⌝ }
+{
+    if z < 0 { 0 } else { cut(z as u64) + 1 }
+}
+
+// The first row, by the float that it is.
+fn row_first(x: f32) -> u32
+    ensures { λ r. ⌜ r ≡ rowFirstOf x ⌝ }
+{
+    match numbers::rounded_to_i64(x) {
+        KindI64::Exact(z) => clip(z),
+        KindI64::NotNumber => 0,
+        KindI64::Below => 0,
+        KindI64::Above => 16777216,
     }
-    0
 }
 
 // One past the last row, by the float that is the last: none where it lies above the image, and none from 2^63 on.
 fn row_past(x: f32) -> u32
     ensures { λ r. ⌜ r ≡ rowPastOf x ⌝ }
 {
-    if x < 9223372036854775808.0 {
-        if x > -0.5 { clip(x) + 1 } else { 0 }
-    } else if x != x {
-        1
-    } else {
-        0
+    match numbers::rounded_to_i64(x) {
+        KindI64::Exact(z) => clip_past(z),
+        KindI64::NotNumber => 1,
+        KindI64::Below => 0,
+        KindI64::Above => 0,
+    }
+}
+
+// The first column, by the float that it is.
+fn column_first(x: f32) -> u32
+    ensures { λ r. ⌜ r ≡ columnFirstOf x ⌝ }
+{
+    match numbers::rounded_to_u64(x) {
+        KindU64::Exact(n) => cut(n),
+        KindU64::NotNumber => 0,
+        KindU64::Below => 0,
+        KindU64::Above => 16777216,
     }
 }
 
@@ -141,12 +160,11 @@ fn row_past(x: f32) -> u32
 fn column_past(x: f32) -> u32
     ensures { λ r. ⌜ r ≡ columnPastOf x ⌝ }
 {
-    if x < 18446744073709551616.0 {
-        clip(x) + 1
-    } else if x != x {
-        1
-    } else {
-        0
+    match numbers::rounded_to_u64(x) {
+        KindU64::Exact(n) => cut(n) + 1,
+        KindU64::NotNumber => 1,
+        KindU64::Below => 1,
+        KindU64::Above => 0,
     }
 }
 
@@ -154,7 +172,7 @@ impl Segment {
     pub fn rows(self) -> Range
         ensures { λ r. ⌜ r ≡ rowsOf self ⌝ }
     {
-        let first = clip(self.center_y - self.maximum_distance);
+        let first = row_first(self.center_y - self.maximum_distance);
         let past = row_past(self.center_y + self.maximum_distance);
         Range { first, past }
     }
@@ -162,7 +180,7 @@ impl Segment {
     pub fn columns(self) -> Range
         ensures { λ r. ⌜ r ≡ columnsOf self ⌝ }
     {
-        let first = clip(self.center_x - self.maximum_distance);
+        let first = column_first(self.center_x - self.maximum_distance);
         let past = column_past(self.center_x + self.maximum_distance);
         Range { first, past }
     }

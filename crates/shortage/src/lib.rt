@@ -47,7 +47,7 @@ fn draw_all(
         &mut entries,
     ) {
         BuildAnswer::Refused(_, k) => Drawn::Short(k),
-        BuildAnswer::Done(count, _, _) => Drawn::Count(count),
+        BuildAnswer::Done(count, _, _, _) => Drawn::Count(count),
     }
 }
 

@@ -28,6 +28,7 @@ use Rattle.rows.specs.declared.Listed.the-variants as Listed
 use Rattle.rows.specs.Rows.{Outcome, outcome, inRow, built}
 use Rattle.rows.specs.Rows as listing
 use Rattle.rows.proofs.Table.{rest-same}
+use Rattle.faint.specs.Faint.{faintIn}
 use Rattle.table.specs.declared.BuildAnswer.the-variants.{Done, Refused}
 use Rattle.table.specs.Table.{BuildRooms, Setting, givenOf, leaves, zeros, padded, refusedWith, verdictOf, afterRows, afterPaint, buildOf}
 
@@ -42,9 +43,9 @@ module _ (r : BuildRooms) (estimate count : ℕ) (numbers : List Float) (owned :
   pub rows-room : a ≡ Listed.Room → refusedWith r Code.Room 0 ≡ afterRows r estimate count numbers owned o
   rows-room q = rw (← e, q)
 
-  pub rows-done : {path walk segments : List Float} {owners : List ℕ} (n : ℕ) → a ≡ Listed.Entries n → path ≡ zeros (r .path) → walk ≡ zeros (r .walk) → segments ≡ padded (r .segments) numbers
-      → owners ≡ listing.padded (r .owners) owned → leaves (Done count n estimate) path walk segments owners starts entries ≡ afterRows r estimate count numbers owned o
-  rows-done n q p w s h = rw (← e, q, p, w, s, h)
+  pub rows-done : {path walk segments : List Float} {owners : List ℕ} (n : ℕ) {faint : ℕ} → faint ≡ faintIn numbers count → a ≡ Listed.Entries n → path ≡ zeros (r .path) → walk ≡ zeros (r .walk) → segments ≡ padded (r .segments) numbers
+      → owners ≡ listing.padded (r .owners) owned → leaves (Done count n estimate faint) path walk segments owners starts entries ≡ afterRows r estimate count numbers owned o
+  rows-done n f q p w s h = rw (← e, q, p, w, s, h, f)
 
 -- ---- the drawn segments
 

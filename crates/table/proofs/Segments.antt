@@ -14,6 +14,7 @@ use Rattle.painting.specs.Painting.{All}
 use Rattle.painting.proofs.Segments.{makes-one, makes-owned, drawn-makes, drawn-more}
 use Rattle.rows.specs.Rows.{inRow, startOf, rows, upTo}
 use Rattle.rows.proofs.Users.{length-up-to}
+use Rattle.faint.specs.Faint.{faintIn}
 use Rattle.table.specs.declared.BuildAnswer.the-variants.{Done}
 use Rattle.table.specs.Table.{BuildRooms, Setting, BuildOutcome, givenOf, refusedWith, buildOf}
 use Rattle.table.specs.Segments.{Makes, entriesOf, NeedsMet, doneWith, BuildMakes, NoLess, SameTable, MakesOne, OwnsOne, EnoughIsDone, DoneMakes, MoreRoomNeverRefuses}
@@ -35,13 +36,13 @@ drawn-are d i r segs owners n = is-drawn d i r (n .fits) (n .passes) segs owners
 
 pub build-makes : DoneMakes
 unfolding refusedWith doneWith
-build-makes d i r s e estimate h = go (either-way d i r)
+build-makes d i r s e estimate faint h = go (either-way d i r)
   where
-    go : Accepts d i r ⊎ Refuses d i r → BuildMakes d i r s e estimate
+    go : Accepts d i r ⊎ Refuses d i r → BuildMakes d i r s e estimate faint
     go (inr w) = absurd (let z : _≡_ {A = ℕ} 0 1 = cc (sym (ap (λ (t : BuildOutcome). t .answer) (refused d i r (w .why))) ∙ h) in omega arith)
     go (inl a) =
         let m = met d i r (a .segs) (a .owners) (a .needs) in
-        let q : Done (length (a .segs)) (entriesOf i (a .segs)) (totalOf d (givenOf i) (length (d .counts))) ≡ Done s e estimate = sym (ap (λ (t : BuildOutcome). t .answer) m) ∙ h in
+        let q : Done (length (a .segs)) (entriesOf i (a .segs)) (totalOf d (givenOf i) (length (d .counts))) (faintIn (eights (a .segs)) (length (a .segs))) ≡ Done s e estimate faint = sym (ap (λ (t : BuildOutcome). t .answer) m) ∙ h in
         record {
           segs = a .segs;
           owners = a .owners;
@@ -50,6 +51,7 @@ build-makes d i r s e estimate h = go (either-way d i r)
           count = cc;
           entry-count = cc;
           estimated = cc;
+          faint-count = cc;
           numbers = ap (λ (t : BuildOutcome). t .segments) m;
           leaves-them = m;
         }
@@ -70,8 +72,8 @@ front xs ys zs n e = take-at xs ys n e ∙ sym (take-at xs zs n e)
 
 pub more-room-never-refuses : MoreRoomNeverRefuses
 unfolding doneWith
-more-room-never-refuses d i r r′ s e estimate l h =
-    let b = build-makes d i r s e estimate h in
+more-room-never-refuses d i r r′ s e estimate faint l h =
+    let b = build-makes d i r s e estimate faint h in
     let xs = b .segs in
     let us = b .owners in
     let p : buildOf d i r ≡ doneWith d i r xs us = b .leaves-them in

@@ -10,6 +10,7 @@ use Rattle.segments.specs.declared.Segment.{Segment}
 use Rattle.points.specs.Points.{eights}
 use Rattle.painting.specs.Segments.{MakesUpTo, DrawnUpTo, Suffices}
 use Rattle.rows.specs.Rows.{inRow, startOf, rows, upTo}
+use Rattle.faint.specs.Faint.{faintIn}
 use Rattle.rows.specs.Rows as listing
 use Rattle.table.specs.declared.BuildAnswer.the-variants.{Done}
 use Rattle.table.specs.Table.{Setting, BuildRooms, BuildOutcome, givenOf, leaves, zeros, padded, buildOf}
@@ -47,11 +48,11 @@ module _ (d : Description) (i : Setting) (r : BuildRooms) where
   -- the counts and the table of these segments and owners, zeros behind it and in the working cells
   unfoldable pub doneWith : List Segment → List ℕ → BuildOutcome
   doneWith segs owners =
-      leaves (Done (length segs) (entriesOf i segs) (totalOf d (givenOf i) (length (d .counts)))) (zeros (r .path)) (zeros (r .walk)) (padded (r .segments) (eights segs)) (listing.padded (r .owners) owners)
+      leaves (Done (length segs) (entriesOf i segs) (totalOf d (givenOf i) (length (d .counts))) (faintIn (eights segs) (length segs))) (zeros (r .path)) (zeros (r .walk)) (padded (r .segments) (eights segs)) (listing.padded (r .owners) owners)
       (listing.padded (r .starts) (upTo (startOf (inRow (eights segs)) (length segs)) (suc (i .height)))) (listing.padded (r .entries) (rows (inRow (eights segs)) (length segs) (i .height)))
 
   -- a done build has met its needs, made the segments of the description, and left their table
-  pub record BuildMakes (s e estimate : ℕ) : Type 0 where
+  pub record BuildMakes (s e estimate faint : ℕ) : Type 0 where
     pub segs : List Segment
     pub owners : List ℕ
     pub makes : MakesOwned d i segs owners
@@ -59,6 +60,7 @@ module _ (d : Description) (i : Setting) (r : BuildRooms) where
     pub count : length segs ≡ s
     pub entry-count : entriesOf i segs ≡ e
     pub estimated : totalOf d (givenOf i) (length (d .counts)) ≡ estimate
+    pub faint-count : faintIn (eights segs) (length segs) ≡ faint
     pub numbers : buildOf d i r .segments ≡ padded (r .segments) (eights segs)
     pub leaves-them : buildOf d i r ≡ doneWith segs owners
 
@@ -94,10 +96,10 @@ EnoughIsDone = (d : Description) (i : Setting) (r : BuildRooms) (segs : List Seg
 
 -- a build that is done made the segments of the description
 abbrev pub DoneMakes : Type 0
-DoneMakes = (d : Description) (i : Setting) (r : BuildRooms) (s e estimate : ℕ) → buildOf d i r .answer ≡ Done s e estimate → BuildMakes d i r s e estimate
+DoneMakes = (d : Description) (i : Setting) (r : BuildRooms) (s e estimate faint : ℕ) → buildOf d i r .answer ≡ Done s e estimate faint → BuildMakes d i r s e estimate faint
 
 -- and it is done with any rooms at least as large, with the same counts and the same table
 abbrev pub MoreRoomNeverRefuses : Type 0
 MoreRoomNeverRefuses =
-    (d : Description) (i : Setting) (r r′ : BuildRooms) (s e estimate : ℕ) → NoLess r r′ → buildOf d i r .answer ≡ Done s e estimate
+    (d : Description) (i : Setting) (r r′ : BuildRooms) (s e estimate faint : ℕ) → NoLess r r′ → buildOf d i r .answer ≡ Done s e estimate faint
     → SameTable (i .height) s e (buildOf d i r) (buildOf d i r′)

@@ -23,6 +23,7 @@ use Rattle.painting.specs.Painting.{Painted, All, NoRoomAt, paintOf}
 use Rattle.rows.specs.declared.Listed.{Listed}
 use Rattle.rows.specs.declared.Listed.the-variants as Listed
 use Rattle.rows.specs.Rows.{inRow, built, Outcome}
+use Rattle.faint.specs.Faint.{faintIn}
 use Rattle.rows.specs.Rows as listing
 use Rattle.table.specs.declared.BuildAnswer.{BuildAnswer}
 use Rattle.table.specs.declared.BuildAnswer.the-variants.{Done, Refused}
@@ -81,11 +82,12 @@ pub record Told : Type 0 where
   pub segments : ℕ
   pub entries : ℕ
   pub estimate : ℕ
+  pub faint : ℕ
 
 -- a success is number 0 at place 0; a refusal has counts of 0
 abbrev pub toldOf : BuildAnswer → Told
-toldOf (Done s n a) = record { number = 0; place = 0; segments = s; entries = n; estimate = a }
-toldOf (Refused c p) = record { number = numberOf c; place = p; segments = 0; entries = 0; estimate = 0 }
+toldOf (Done s n a f) = record { number = 0; place = 0; segments = s; entries = n; estimate = a; faint = f }
+toldOf (Refused c p) = record { number = numberOf c; place = p; segments = 0; entries = 0; estimate = 0; faint = 0 }
 
 -- the answer, what it tells, and the six lent buffers
 pub record BuildOutcome : Type 0 where
@@ -145,13 +147,13 @@ verdictOf d g width height rows =
 
 -- ---- the build
 
--- ROOM for the entries, or the table of so many segments, whose numbers and owners are given
+-- ROOM for the entries, or the table of so many segments, whose numbers and owners are given, and how many of them are faint
 abbrev pub afterRows : BuildRooms → ℕ → ℕ → List Float → List ℕ → Outcome → BuildOutcome
 afterRows r estimate count numbers owners o = go (o .answer)
   where
     go : Listed → BuildOutcome
     go Listed.Room = refusedWith r Code.Room 0
-    go (Listed.Entries n) = leaves (Done count n estimate) (zeros (r .path)) (zeros (r .walk)) (padded (r .segments) numbers) (listing.padded (r .owners) owners) (o .starts) (o .entries)
+    go (Listed.Entries n) = leaves (Done count n estimate (faintIn numbers count)) (zeros (r .path)) (zeros (r .walk)) (padded (r .segments) numbers) (listing.padded (r .owners) owners) (o .starts) (o .entries)
 
 abbrev pub afterPaint : BuildRooms → ℕ → ℕ → Painted → BuildOutcome
 afterPaint r height estimate (NoRoomAt k) = refusedWith r Code.Room k

@@ -16,9 +16,9 @@ use dequantize::judge::Judged;
 use painting::Drawn;
 use rows::Listed;
 
-// The segments, the entries and the estimate; or a code and its place.
+// The segments, the entries, the estimate, and how many of the segments are faint; or a code and its place.
 pub enum BuildAnswer {
-    Done(u32, u32, u64),
+    Done(u32, u32, u64, u32),
     Refused(Code, usize),
 }
 
@@ -125,8 +125,9 @@ fn list_segments(
             entries,
         ),
         Listed::Entries(n) => {
+            let faint = faint::faint_in(segments, count);
             wipe::wipe_unused(count, path, walk, segments, owners);
-            BuildAnswer::Done(count as u32, n, estimate)
+            BuildAnswer::Done(count as u32, n, estimate, faint)
         }
     }
 }

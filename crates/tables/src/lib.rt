@@ -1,4 +1,5 @@
-// The table of a description, built in fixed rooms, and what is asked of it: its rows, a picture, or the traces that have a pixel.
+// The table of a description, built in fixed rooms, and what is asked of it: its rows, a picture, the traces that have a pixel, or why a segment sits where it does.
+mod explaining;
 mod touching;
 
 ghost use Prim.Native.Nat.{_≤_};
@@ -20,12 +21,12 @@ const ROW_STARTS: usize = 16385;
 
 const ENTRIES: usize = 524288;
 
-fn say_built(segments: u32, entries: u32, estimate: u64) -> u8
+fn say_built(segments: u32, faint: u32, entries: u32, estimate: u64) -> u8
     ensures { λ r. ⌜ r ≤ 3 ⌝ }
 {
     words::out(
-        b"# segments, # entries, estimate #\n",
-        &[segments as u64, entries as u64, estimate],
+        b"# segments, # of them faint, # entries, estimate #\n",
+        &[segments as u64, faint as u64, entries as u64, estimate],
     )
 }
 
@@ -38,6 +39,7 @@ fn perform(
     entry_count: u32,
     row_starts: &[u32],
     estimate: u64,
+    faint: u32,
     task: Task,
 ) -> u8
     ensures { λ r. ⌜ r ≤ 3 ⌝ }
@@ -46,7 +48,10 @@ fn perform(
     if let Asked::Touch(x, y) = asked {
         return touching::say(segments, owners, segment_count, x, y);
     }
-    let status = say_built(segment_count, entry_count, estimate);
+    if let Asked::Why(n) = asked {
+        return explaining::say(segments, owners, segment_count, n);
+    }
+    let status = say_built(segment_count, faint, entry_count, estimate);
     if status != 0 {
         return status;
     }
@@ -134,7 +139,7 @@ fn build_in(
                 refuse(code, place)
             }
         }
-        BuildAnswer::Done(made, listed, estimate) => perform(
+        BuildAnswer::Done(made, listed, estimate, faint) => perform(
             segments,
             owners,
             made,
@@ -142,6 +147,7 @@ fn build_in(
             listed,
             row_starts,
             estimate,
+            faint,
             task,
         ),
     }

@@ -85,7 +85,7 @@ parts-make N h s p e =
     = rw (c, k2) (ap (λ (t : List ℕ). take (2 * p) (drop (deltasFrom h s) N) ++ t) (sym (drop-drop (2 * p) (deltasFrom h s) N)) ∙ take-append-drop (2 * p) (drop (deltasFrom h s) N)) in
     let f : part (startsFrom h s) (2 * s) N ++ (part (deltasFrom h s) (2 * p) N ++ part (coefficientsFrom h s p) (128 * s) N) ≡ drop (startsFrom h s) N
     = ap (λ (t : List ℕ). part (startsFrom h s) (2 * s) N ++ t) d
-        ∙ rw k1 (ap (λ (t : List ℕ). take (2 * s) (drop (startsFrom h s) N) ++ t) (sym (drop-drop (2 * s) (startsFrom h s) N)) ∙ take-append-drop (2 * s) (drop (startsFrom h s) N)) in
+    ∙ rw k1 (ap (λ (t : List ℕ). take (2 * s) (drop (startsFrom h s) N) ++ t) (sym (drop-drop (2 * s) (startsFrom h s) N)) ∙ take-append-drop (2 * s) (drop (startsFrom h s) N)) in
     ap (λ (t : List ℕ). part h s N ++ t) f
     ∙ ap (λ (t : List ℕ). take s (drop h N) ++ t) (sym (drop-drop s h N)) ∙ take-append-drop s (drop h N)
 
@@ -200,7 +200,7 @@ module _ (ns : List ℕ) (ss : List Float) (ds cs : List ℤ) (a : ℤ) (fine : 
       let j = judged ns ss ds cs fine in
       let o = j .offsets in
       let rest = numbers-append ns _ nn (numbers-append (map unsignedOf (map wholeOf ss)) _ (signeds-numbers (map wholeOf ss) (starts-signeds (startsFrom 8 (length ns)) ss (j .fit)))
-          (numbers-append (map unsignedOf ds) _ (signeds-numbers ds (deltas-signeds (deltasFrom 8 (length ns)) ds written-tame)) (signeds-numbers cs nc))) in
+      (numbers-append (map unsignedOf ds) _ (signeds-numbers ds (deltas-signeds (deltasFrom 8 (length ns)) ds written-tame)) (signeds-numbers cs nc))) in
       numbers-back Nums (omega arith, (j .few, (j .fewer, (unsigned-small a na, (omega arith, (omega arith, (omega arith, (o, rest))))))))
 
   size-is : length File ≡ 4 * numbersOf 8 (length ns) (pointsOf ns)
@@ -238,7 +238,7 @@ module _ (ns : List ℕ) (ss : List Float) (ds cs : List ℤ) (a : ℤ) (fine : 
       let due = 4 * numbersOf 8 s p in
       let z = size-is in
       let offsets = offsets-fine 8 Nums s p refl refl (right (4 * 8) (4 * 8) refl) (right (4 * startsFrom 8 s) (4 * startsFrom 8 s) refl)
-          (right (4 * deltasFrom 8 s) (4 * deltasFrom 8 s) refl) (right (4 * coefficientsFrom 8 s p) (4 * coefficientsFrom 8 s p) refl) in
+      (right (4 * deltasFrom 8 s) (4 * deltasFrom 8 s) refl) (right (4 * coefficientsFrom 8 s p) (4 * coefficientsFrom 8 s p) refl) in
       let lengths = length-fine (length File) due (omega arith) (omega arith) in
       let starts : firstFault (numberChecks misplaced Coord (startsFrom 8 s) (part (startsFrom 8 s) (2 * s) Nums)) ≡ Fine = rw starts-are (starts-placed _ (startsFrom 8 s) ss (j .fit)) in
       let deltas : firstFault (numberChecks tooWild Delta (deltasFrom 8 s) (part (deltasFrom 8 s) (2 * p) Nums)) ≡ Fine = rw deltas-are (deltas-tame _ (deltasFrom 8 s) ds written-tame) in

@@ -189,7 +189,7 @@ module _ (rooms : ListRooms) (bytes : List ℕ) where
       let s = S bytes in
       let at : 4 * (startsFrom 8 s + k) ≡ 32 + 4 * s + 4 * k = omega arith in
       let e = numbers-at misplaced Coord 0 (part (startsFrom 8 s) (2 * s) N) (startsFrom 8 s) k (omega (arith, starts-length bytes w))
-          (λ j g. none-outside bytes w j (omega arith) (f j g)) (start-is bytes w k h ∙ le-leb (2 ^ 23) _ o) in
+      (λ j g. none-outside bytes w j (omega arith) (f j g)) (start-is bytes w k h ∙ le-leb (2 ^ 23) _ o) in
       content-from c q
       (sym (laid-body (m .laid)) ∙ sym (sized-parts w) ∙ sym (parts-start 8 s (P bytes) N (eq-eqb _ _ (m .sums)) Coord (4 * (startsFrom 8 s + k)) e) ∙ ap (Fault Coord) at)
   told-fault c q (delta p k h f o) =
@@ -198,7 +198,7 @@ module _ (rooms : ListRooms) (bytes : List ℕ) where
       let s = S bytes in
       let at : 4 * (deltasFrom 8 s + k) ≡ 32 + 12 * s + 4 * k = omega arith in
       let e = numbers-at tooWild Delta 0 (part (deltasFrom 8 s) (2 * P bytes) N) (deltasFrom 8 s) k (omega (arith, deltas-length bytes w))
-          (λ j g. none-wild bytes w j (omega arith) (f j g)) (delta-is bytes w k h ∙ le-leb (2 ^ 30) _ o) in
+      (λ j g. none-wild bytes w j (omega arith) (f j g)) (delta-is bytes w k h ∙ le-leb (2 ^ 30) _ o) in
       content-from c q
       (sym (laid-body (m .laid)) ∙ sym (sized-parts w) ∙ sym (parts-rest 8 s (P bytes) N (eq-eqb _ _ (m .sums)) (starts-fine bytes w (p .inside))) ∙ e ∙ ap (Fault Delta) at)
   told-fault c q (room t l) = sym (whole-room rooms bytes (tamed-fine bytes t) (S bytes) (P bytes) refl refl (lacks-tight rooms (S bytes) (P bytes) l))

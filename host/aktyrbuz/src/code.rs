@@ -139,9 +139,9 @@ impl fmt::Display for Refusal {
 impl std::error::Error for Refusal {}
 
 /// The counts of an answer, or its refusal.
-pub(crate) fn judged((number, answer): (u32, port::Answer)) -> Result<[i64; 3], Refusal> {
+pub(crate) fn judged((number, answer): (u32, port::Answer)) -> Result<[i64; 4], Refusal> {
     match Code::of(number) {
-        None => Ok([answer[1], answer[2], answer[3]]),
+        None => Ok([answer[1], answer[2], answer[3], answer[4]]),
         Some(code) => Err(Refusal {
             code,
             place: answer[0] as u64,

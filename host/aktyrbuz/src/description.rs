@@ -46,7 +46,7 @@ fn filled(
     let (mut counts, mut starts) = (zeros(room)?, zeros(room)?);
     let (mut deltas, mut coefficients) = (zeros(room)?, zeros(room)?);
     let told = call(&mut counts, &mut starts, &mut deltas, &mut coefficients);
-    let [splines, points, adjustment] = judged(told)?;
+    let [splines, points, adjustment, _] = judged(told)?;
     Ok(Description {
         counts: first(counts, splines as usize),
         starts: first(starts, 2 * splines as usize),
@@ -92,7 +92,7 @@ impl Description {
     pub fn write(&self, limit: Limit) -> Result<Vec<u32>, Refusal> {
         // The count, the adjustment, and each cell of the four parts.
         let mut list = zeros(2 + self.cells())?;
-        let [values, _, _] = judged(port::write(
+        let [values, ..] = judged(port::write(
             &self.parts(),
             limit.configured,
             limit.pixels,
@@ -113,7 +113,7 @@ impl Description {
     pub fn to_trace(&self) -> Result<Vec<u8>, Refusal> {
         // The header, and four bytes for each cell of the four parts.
         let mut file = zeros(32 + 4 * self.cells())?;
-        let [bytes, _, _] = judged(port::trace_write(&self.parts(), &mut file))?;
+        let [bytes, ..] = judged(port::trace_write(&self.parts(), &mut file))?;
         Ok(first(file, bytes as usize))
     }
 

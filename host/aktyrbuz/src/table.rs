@@ -32,7 +32,7 @@ impl Buffers {
     }
 
     fn build(mut self, description: &Description, image: &Image) -> Result<Table, Refusal> {
-        let [made, listed, estimate] = judged(port::build(
+        let [made, listed, estimate, faint] = judged(port::build(
             &description.parts(),
             image,
             port::Buffers {
@@ -54,6 +54,7 @@ impl Buffers {
                 segments: made as u32,
                 entries: listed as u32,
                 estimate: estimate as u64,
+                faint: faint as u32,
             },
         })
     }
@@ -66,6 +67,8 @@ pub struct Counts {
     pub entries: u32,
     /// The estimate of the pixels that drawing touches.
     pub estimate: u64,
+    /// How many of the segments are faint.
+    pub faint: u32,
 }
 
 /// A trace that has a pixel.
@@ -123,6 +126,11 @@ impl Table {
 
     pub fn image(&self) -> Image {
         self.image
+    }
+
+    /// How many segments are faint: their distance is NaN, so that they sit at row 0 and column 0 wherever their centre is.
+    pub fn faint(&self) -> u32 {
+        self.counts.faint
     }
 
     /// The number of the spline that this segment comes from; it never falls from one segment to the next.
@@ -201,14 +209,14 @@ impl Table {
                 place: 0,
             });
         };
-        judged(port::draw(&self.lent(), y, x0, n, channels)).map(|[updates, _, _]| updates as u64)
+        judged(port::draw(&self.lent(), y, x0, n, channels)).map(|[updates, ..]| updates as u64)
     }
 
     /// The columns that drawing row y touches, from the first to the last: none outside is updated, and both ends are. What lies wholly left of
     /// the image touches column 0. 0..0 if drawing touches none.
     pub fn reach(&self, y: u32) -> Result<Range<u32>, Refusal> {
         judged(port::reach(&self.lent(), y, self.image.width))
-            .map(|[first, past, _]| first as u32..past as u32)
+            .map(|[first, past, ..]| first as u32..past as u32)
     }
 
     fn lent(&self) -> port::Table<'_> {
@@ -282,6 +290,28 @@ mod tests {
         assert_eq!(
             row(&table, 8, &[0, 64]),
             row(&table, 8, &[0, 1, 17, 17, 40, 64])
+        );
+    }
+
+    /// Its length is a whole number, so that the last segment has multiplier 0 and a NaN distance.
+    #[test]
+    fn a_faint_segment_sits_at_the_corner() {
+        let mut low = fibre();
+        low.starts[1] = 100.0;
+        let table = Table::build(&low, &Image::new(64, 128)).expect("a good description");
+        assert_eq!(table.faint(), 1);
+        assert_eq!(table.counts().faint, 1);
+        let last = table.counts().segments - 1;
+        assert_eq!(table.listed(0), [last]);
+        assert_eq!(table.reach(0), Ok(0..1));
+        let mut wide = fibre();
+        wide.deltas[1] = 1;
+        let image = Image::new(64, 16);
+        assert_eq!(
+            Table::build(&wide, &image)
+                .expect("a good description")
+                .faint(),
+            0
         );
     }
 

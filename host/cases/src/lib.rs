@@ -63,6 +63,8 @@ pub struct Table {
     pub row_starts: Vec<u32>,
     pub entries: Vec<u32>,
     pub estimate: u64,
+    /// How many of the segments have a NaN distance.
+    pub faint: u64,
 }
 
 /// The codes of the scope. `host/aktyrbuz` has its own for its users, and a test that holds them together.

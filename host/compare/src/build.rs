@@ -74,4 +74,5 @@ pub fn same_table(a: &Table, b: &Table) -> bool {
         && a.row_starts == b.row_starts
         && a.entries == b.entries
         && a.estimate == b.estimate
+        && a.faint == b.faint
 }

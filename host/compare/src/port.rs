@@ -53,7 +53,7 @@ fn told_build(expected: &Result<Table, Refusal>) -> (u32, Answer) {
                 table.segments.len() as i64,
                 table.entries.len() as i64,
                 table.estimate as i64,
-                0,
+                table.faint as i64,
             ],
         ),
         Err(refusal) => told_refusal(refusal),

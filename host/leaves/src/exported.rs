@@ -22,6 +22,9 @@ exported! {
     leaves_saturating_f32_to_i64 as to_i64(x: f32) -> i64;
     leaves_saturating_f32_to_i32 as to_i32(x: f32) -> i32;
     leaves_saturating_f32_to_u64 as to_u64(x: f32) -> u64;
+    leaves_kind_i64 as kind_i64(x: f32) -> u32;
+    leaves_kind_i32 as kind_i32(x: f32) -> u32;
+    leaves_kind_u64 as kind_u64(x: f32) -> u32;
     leaves_nearest_u32_to_f32 as from_u32(n: u32) -> f32;
     leaves_nearest_i32_to_f32 as from_i32(z: i32) -> f32;
     leaves_nearest_u64_to_f32 as from_u64(n: u64) -> f32;

@@ -60,7 +60,7 @@ fn wanted(mut words: impl Iterator<Item = String>) -> Option<Wanted> {
 
 type Compare = fn(&'static str, u32) -> Tally;
 
-const LEAVES: [(&str, Compare); 26] = [
+const LEAVES: [(&str, Compare); 29] = [
     ("floor", |n, s| floats(n, s, ours::floor, f32::floor)),
     ("ceil", |n, s| floats(n, s, ours::ceil, f32::ceil)),
     ("round", |n, s| floats(n, s, ours::round, f32::round)),
@@ -79,6 +79,15 @@ const LEAVES: [(&str, Compare); 26] = [
     }),
     ("u64", |n, s| {
         Tally::of(n, values(s), ours::to_u64, |x| x as u64)
+    }),
+    ("i64 by kind", |n, s| {
+        kinds(n, s, ours::kind_i64, i64::MIN.into(), i64::MAX.into())
+    }),
+    ("i32 by kind", |n, s| {
+        kinds(n, s, ours::kind_i32, i32::MIN.into(), i32::MAX.into())
+    }),
+    ("u64 by kind", |n, s| {
+        kinds(n, s, ours::kind_u64, 0, u64::MAX.into())
     }),
     ("negative", |n, s| {
         Tally::of(n, values(s), ours::negative, |x| {
@@ -240,6 +249,22 @@ fn floats(name: &'static str, stride: u32, ours: fn(f32) -> f32, theirs: fn(f32)
         |x| Bits::of(ours(x)),
         |x| Bits::of(theirs(x)),
     )
+}
+
+/// The kind of each value as a whole number from `least` through `most`, by the number that the port gives it: 0 exact, 1 NaN, 2 below, 3 above. What 128 bits
+/// cannot hold saturates, and is beyond every range all the same.
+fn kinds(name: &'static str, stride: u32, ours: fn(f32) -> u32, least: i128, most: i128) -> Tally {
+    Tally::of(name, values(stride), ours, |x| {
+        if x.is_nan() {
+            1
+        } else if (x as i128) < least {
+            2
+        } else if x as i128 > most {
+            3
+        } else {
+            0
+        }
+    })
 }
 
 /// All differences up to 200 either way, then 10^7 of any size (with a stride, every 100th of these).

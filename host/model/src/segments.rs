@@ -46,6 +46,11 @@ pub fn segment(
     ])
 }
 
+/// "a faint segment" (document 02, (vii)): one whose distance, the third number, is NaN.
+pub fn is_faint(segment: &Segment) -> bool {
+    segment[2].is_nan()
+}
+
 /// Adds the segments of one spline's walk to those before it, if there is room for so many in all.
 pub fn add_segments(
     coefficients: &[[f32; 32]; 4],
@@ -122,6 +127,7 @@ mod tests {
         assert_eq!(columns(&at(-5.0, 2.0)), 0..1);
         assert_eq!(rows(&at(7.0, f32::NAN), 100), 0..1);
         assert_eq!(columns(&at(7.0, f32::NAN)), 0..1);
+        assert!(is_faint(&at(7.0, f32::NAN)) && !is_faint(&at(7.0, f32::INFINITY)));
         assert_eq!(rows(&at(0.0, 2f32.powi(63)), 100), 0..0);
         assert_eq!(columns(&at(0.0, 2f32.powi(64)),), 0..0);
         assert_eq!(rows(&at(0.0, 1e18), 0), 0..0);

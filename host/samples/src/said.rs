@@ -22,8 +22,9 @@ fn updates(table: &Table, size: Size) -> Result<u64, String> {
 
 fn built(table: &Table) -> String {
     format!(
-        "{} segments, {} entries, estimate {}",
+        "{} segments, {} of them faint, {} entries, estimate {}",
         table.segments.len(),
+        table.faint,
         table.entries.len(),
         table.estimate
     )

@@ -12,7 +12,7 @@ use Rattle.aktyrbuz.proofs.told_write.Tie as tie
 
 -- a success with one count
 abbrev counted : ℤ → Told
-counted z = record { number = 0; place = pos 0; first = z; second = pos 0; third = pos 0 }
+counted z = record { number = 0; place = pos 0; first = z; second = pos 0; third = pos 0; fourth = pos 0 }
 
 enum-known-answer : tie.Need-enum-known-answer
 enum-known-answer c = search needs

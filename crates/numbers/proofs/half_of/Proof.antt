@@ -1,41 +1,37 @@
--- By the test against the cut and a half, which is a float with no rounding.
+-- The closest whole number, and one more at a tie that went down, is the number rounded half up.
+use native.Mathlib.Omega.{arith}
 use borrow.Author.Needs.{needs}
-use lib.Ieee.{ofBits}
-use Rattle.numbers.proofs.Zero.{yes, no}
-use Rattle.numbers.proofs.Wholes.{castable-twice, half-yes, half-no}
+use Prim.Native.Nat.{_+_}
+use lib.Ieee.{ofBits, toUnsigned}
+use Rattle.numbers.specs.Inner.{Made}
+use Rattle.numbers.specs.Whole.{half}
+use Rattle.numbers.proofs.Rounds.{near-cast, rounded-by}
 use Rattle.numbers.proofs.half_of.Statement.{statement}
 use Rattle.numbers.proofs.half_of.Tie as tie
 
-cut-of-requires : tie.Need-cut-of-requires
-cut-of-requires c κs = search needs
+nearest-to-requires : tie.Need-nearest-to-requires
+nearest-to-requires c κs = c .pre
 
-add-if1 : tie.Need-add-if1
-add-if1 c = search needs
+unless-requires : tie.Need-unless-requires
+unless-requires c κs = search needs
 
-add-if1-2 : tie.Need-add-if1-2
-add-if1-2 c = search needs
+float-to-int-result : tie.Need-float-to-int-result
+float-to-int-result c = let s = c .before .before in near-cast (s .before .args .a) (s .before .pre) (s .nearest-to .ensures) .0
 
-int-to-float-if1 : tie.Need-int-to-float-if1
-int-to-float-if1 c =
-    let s = c .before in
-    castable-twice (s .before .args .a) (s .cut-of .result) (s .before .pre) (s .cut-of .ensures)
+made : (c : tie.After-unless) → Made half (c .before .before .args .a) (toUnsigned 32 (c .before .nearest-to .result) + c .unless .result)
+unfolding ofBits
+made c = let s = c .before in rounded-by (s .before .args .a) (s .before .pre) (s .nearest-to .ensures) (c .unless .ensures)
 
 add-result : tie.Need-add-result
-add-result c = search needs
+add-result c = omega (arith, made (c .before) .most)
+
+cast-result : tie.Need-cast-result
+cast-result c = omega (arith, made (c .before) .most)
 
 returns : tie.Need-returns
-unfolding ofBits
-returns c =
-    let s = c .before .before in
-    half-yes (s .before .args .a) (s .cut-of .result) (s .before .pre) (s .cut-of .ensures) (yes (c .if1 .taken))
-
-returns-2 : tie.Need-returns-2
-unfolding ofBits
-returns-2 c =
-    let s = c .before .before in
-    half-no (s .before .args .a) (s .cut-of .result) (s .before .pre) (s .cut-of .ensures) (no (c .if1 .left))
+returns c = made (c .before)
 
 pub half-of-spec : {M : Type 1} → statement M
-half-of-spec = tie.close (tie.spec cut-of-requires add-if1 add-if1-2 int-to-float-if1 add-result returns returns-2)
+half-of-spec = tie.close (tie.spec nearest-to-requires unless-requires float-to-int-result add-result cast-result returns)
 
 -- Assumes nothing.

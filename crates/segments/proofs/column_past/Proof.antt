@@ -1,36 +1,65 @@
--- `column_past` meets its contract: its three branches are three cases of the float's size, and `Ranges` has the law of each.
-use mathlib.Core.Path.{sym, subst}
-use native.Mathlib.Omega.{arith}
-use lib.Dec.{T}
-use lib.Ieee.{binary32, ofBits, fits}
+-- `column_past` meets its contract: each arm is the definition's case of the kind.
+use mathlib.Core.Path.{ap, sym, _∙_}
+use Prim.Native.Nat.{ℕ, _+_}
+use native.Mathlib.Numerals.{add-one}
 use borrow.Author.Needs.{needs}
-use Rattle.numbers.proofs.Zero.{yes, no}
-use Rattle.segments.specs.Ranges.{rounded}
-use Rattle.segments.proofs.Ranges.{clip-most, column-past-some, column-past-none, nan-past}
+use Rattle.segments.specs.Ranges.{columnPastBy, columnPastOf}
 use Rattle.segments.proofs.column_past.Statement.{statement}
 use Rattle.segments.proofs.column_past.Tie as tie
 
-held : (c : tie.Start) → T (fits binary32 (c .args .x))
-held c = subst T (sym (c .good .0 .1)) tt
+rounded-to-u64-requires : tie.Need-rounded-to-u64-requires
+rounded-to-u64-requires c κs = search needs
 
-clip-requires : tie.Need-clip-requires
-clip-requires c κs = search needs
+enum-known-n : tie.Need-enum-known-n
+enum-known-n c = search needs
+
+cut-requires : tie.Need-cut-requires
+cut-requires c κs = search needs
 
 add-result : tie.Need-add-result
-add-result c = omega (arith, c .clip .ensures, clip-most (rounded (c .before .before .args .x)))
+add-result c = search needs
+
+enum-told : tie.Need-enum-told
+enum-told c = search needs
+
+enum-told-2 : tie.Need-enum-told-2
+enum-told-2 c = search needs
+
+enum-told-3 : tie.Need-enum-told-3
+enum-told-3 c = search needs
 
 returns : tie.Need-returns
-unfolding ofBits
-returns c = rw (c .clip .ensures) (column-past-some (c .before .before .args .x) (held (c .before .before)) (yes (c .before .if1 .taken)))
+unfolding columnPastOf
+returns c =
+    let s = c .before .before in
+    ap (λ (m : ℕ). m + 1) (c .cut .ensures) ∙ add-one _ ∙ ap columnPastBy (sym (s .n .given .1) ∙ s .before .before .rounded-to-u64 .ensures)
 
 returns-2 : tie.Need-returns-2
-returns-2 c = nan-past (c .before .before .args .x) (yes (c .if2 .taken)) .1
+unfolding columnPastOf
+returns-2 c = ap columnPastBy (sym (c .enum-told .given .1) ∙ c .before .before .rounded-to-u64 .ensures)
 
 returns-3 : tie.Need-returns-3
-unfolding ofBits
-returns-3 c = column-past-none (c .before .before .args .x) (no (c .before .if1 .left)) (no (c .if2 .left))
+unfolding columnPastOf
+returns-3 c = ap columnPastBy (sym (c .enum-told2 .given .1) ∙ c .before .before .rounded-to-u64 .ensures)
+
+returns-4 : tie.Need-returns-4
+unfolding columnPastOf
+returns-4 c = ap columnPastBy (sym (c .enum-told3 .given .1) ∙ c .before .before .rounded-to-u64 .ensures)
 
 pub column-past-spec : {M : Type 1} → statement M
-column-past-spec = tie.close (tie.spec clip-requires add-result returns returns-2 returns-3)
+column-past-spec =
+    tie.close
+    (tie.spec
+    rounded-to-u64-requires
+    enum-known-n
+    cut-requires
+    add-result
+    enum-told
+    enum-told-2
+    enum-told-3
+    returns
+    returns-2
+    returns-3
+    returns-4)
 
 -- Assumes nothing.

@@ -1,42 +1,68 @@
--- `row_past` meets its contract: its four branches are four cases of the float's size, and `Ranges` has the law of each.
-use mathlib.Core.Path.{sym, subst}
-use native.Mathlib.Omega.{arith}
-use lib.Dec.{T}
-use lib.Ieee.{binary32, ofBits, neg, fits}
+-- `row_past` meets its contract: each arm is the definition's case of the kind.
+use mathlib.Core.Path.{_≡_, ap, sym, _∙_}
 use borrow.Author.Needs.{needs}
-use Rattle.numbers.proofs.Zero.{yes, no}
-use Rattle.segments.specs.Ranges.{rounded}
-use Rattle.segments.proofs.Ranges.{clip-most, row-past-some, row-past-above, row-past-none, nan-past}
+use lib.Ieee.{binary32}
+use mir.Facts.{toZ-ofZ}
+use mir.Syntax.{w64}
+use Rattle.numbers.specs.Whole.{roundOf}
+use Rattle.numbers.specs.declared.KindI64.the-variants as I64
+use Rattle.segments.specs.Ranges.{clipPast, rowEnd, rowPastBy, rowPastOf}
+use Rattle.segments.proofs.Ranges.{exact-fits}
 use Rattle.segments.proofs.row_past.Statement.{statement}
 use Rattle.segments.proofs.row_past.Tie as tie
 
-held : (c : tie.Start) → T (fits binary32 (c .args .x))
-held c = subst T (sym (c .good .0 .1)) tt
+rounded-to-i64-requires : tie.Need-rounded-to-i64-requires
+rounded-to-i64-requires c κs = search needs
 
-clip-requires : tie.Need-clip-requires
-clip-requires c κs = search needs
+enum-known-z : tie.Need-enum-known-z
+enum-known-z c = search needs
 
-add-result : tie.Need-add-result
-add-result c = omega (arith, c .clip .ensures, clip-most (rounded (c .before .before .before .args .x)))
+clip-past-requires : tie.Need-clip-past-requires
+clip-past-requires c κs = search needs
+
+enum-told : tie.Need-enum-told
+enum-told c = search needs
+
+enum-told-2 : tie.Need-enum-told-2
+enum-told-2 c = search needs
+
+enum-told-3 : tie.Need-enum-told-3
+enum-told-3 c = search needs
 
 returns : tie.Need-returns
-unfolding ofBits neg
+unfolding rowPastOf
 returns c =
-    let s = c .before in
-    rw (c .clip .ensures) (row-past-some (s .before .before .args .x) (held (s .before .before)) (yes (s .before .if1 .taken)) (yes (s .if2 .taken)))
+    let s = c .before .before in
+    let x = s .before .before .before .args .x in
+    let z = s .z .given .0 .0 in
+    let k : I64.Exact z ≡ rowEnd x = sym (s .z .given .1) ∙ s .before .before .rounded-to-i64 .ensures in
+    c .clip-past .ensures ∙ ap clipPast (toZ-ofZ {w = w64} {z = z} (exact-fits (roundOf binary32 x) z k)) ∙ ap rowPastBy k
 
 returns-2 : tie.Need-returns-2
-unfolding ofBits neg
-returns-2 c = row-past-above (c .before .before .args .x) (yes (c .before .if1 .taken)) (no (c .if2 .left))
+unfolding rowPastOf
+returns-2 c = ap rowPastBy (sym (c .enum-told .given .1) ∙ c .before .before .rounded-to-i64 .ensures)
 
 returns-3 : tie.Need-returns-3
-returns-3 c = nan-past (c .before .before .args .x) (yes (c .if3 .taken)) .0
+unfolding rowPastOf
+returns-3 c = ap rowPastBy (sym (c .enum-told2 .given .1) ∙ c .before .before .rounded-to-i64 .ensures)
 
 returns-4 : tie.Need-returns-4
-unfolding ofBits
-returns-4 c = row-past-none (c .before .before .args .x) (no (c .before .if1 .left)) (no (c .if3 .left))
+unfolding rowPastOf
+returns-4 c = ap rowPastBy (sym (c .enum-told3 .given .1) ∙ c .before .before .rounded-to-i64 .ensures)
 
 pub row-past-spec : {M : Type 1} → statement M
-row-past-spec = tie.close (tie.spec clip-requires add-result returns returns-2 returns-3 returns-4)
+row-past-spec =
+    tie.close
+    (tie.spec
+    rounded-to-i64-requires
+    enum-known-z
+    clip-past-requires
+    enum-told
+    enum-told-2
+    enum-told-3
+    returns
+    returns-2
+    returns-3
+    returns-4)
 
 -- Assumes nothing.

@@ -6,6 +6,7 @@ use lib.ListN.{length, take}
 use lib.Ieee.{Float, binary32, ofBits}
 use Rattle.rows.specs.Rows.{Outcome, inRow, built}
 use Rattle.table.specs.Table.{BuildRooms, roomsOf}
+use Rattle.faint.proofs.Counts.{faint-take}
 use Rattle.table.proofs.Placing.{kept, rows-room, rows-done}
 use borrow.Author.Needs.{needs}
 use Rattle.table.proofs.list_segments.Statement.{statement}
@@ -36,11 +37,14 @@ refuse-requires c κs = search needs
 enum-known-n : tie.Need-enum-known-n
 enum-known-n c = search needs
 
+faint-in-requires : tie.Need-faint-in-requires
+faint-in-requires c κs = let s = c .before .before .before .before .before .before .before .before .before .before .before .before .before .before .before .before .before .before in (s .pre .0, s .pre .2)
+
 wipe-unused-requires : tie.Need-wipe-unused-requires
 wipe-unused-requires c κs = search needs
 
-cast-t42 : tie.Need-cast-t42
-cast-t42 c = search needs
+cast-t45 : tie.Need-cast-t45
+cast-t45 c = search needs
 
 same-length : tie.Need-same-length
 same-length c = search needs
@@ -87,10 +91,11 @@ same-length-12 c = search needs
 
 returns-2 : tie.Need-returns-2
 returns-2 c =
-    let s = c .before .before .before .before .before .before .before .before .before .before .before .before .before .before .before .before .before .before .before .before .before .before .before .before .before .before .before .before .before .before in
-    let l = c .before .before .before .before .before .before .before .before .before .before .before .before .before .before .before .before .before .before .before .before .list-rows in
+    let s = c .before .before .before .before .before .before .before .before .before .before .before .before .before .before .before .before .before .before .before .before .before .before .before .before .before .before .before .before .before .before .before .before in
+    let l = c .before .before .before .before .before .before .before .before .before .before .before .before .before .before .before .before .before .before .before .before .before .before .list-rows in
     let w = c .before .before .before .before .before .before .before .before .wipe-unused .ensures in
-    rows-done (rooms s) (s .args .estimate) (s .args .count) (numbers s) (owned s) (listing s) (l .ensures) (c .before .before .before .before .before .before .before .before .before .before .before .before .before .before .n .given .0 .0) (c .before .before .before .before .before .before .before .before .before .before .before .before .before .before .n .given .1)
+    let f = c .before .before .before .before .before .before .before .before .before .before .before .before .before .faint-in .ensures ∙ faint-take (s .args .segments .now) (s .args .count) (s .pre .0) in
+    rows-done (rooms s) (s .args .estimate) (s .args .count) (numbers s) (owned s) (listing s) (l .ensures) (c .before .before .before .before .before .before .before .before .before .before .before .before .before .before .before .before .n .given .0 .0) f (c .before .before .before .before .before .before .before .before .before .before .before .before .before .before .before .before .n .given .1)
     (w .0) (w .1 .0) (kept (ofBits binary32 0) (s .args .segments .now) (8 * s .args .count) (s .pre .0) (w .1 .1 .0)) (kept 0 (s .args .owners .now) (s .args .count) (s .pre .1) (w .1 .1 .1))
 
 pub list-segments-spec : {M : Type 1} → statement M
@@ -101,8 +106,9 @@ list-segments-spec =
     enum-told
     refuse-requires
     enum-known-n
+    faint-in-requires
     wipe-unused-requires
-    cast-t42
+    cast-t45
     same-length
     same-length-2
     same-length-3

@@ -368,6 +368,11 @@ fn table_of(splines: &Splines) -> Table {
             .map(|&start| small(start))
             .collect(),
         entries: entries.map(|&index| small(index as u64)).collect(),
+        faint: splines
+            .segments
+            .iter()
+            .filter(|segment| segment.maximum_distance.is_nan())
+            .count() as u64,
         ..Table::default()
     }
 }

@@ -4,13 +4,13 @@ use Prim.Native.Nat.{_+_, _-_, _≤_}
 use native.Mathlib.Omega.{arith}
 use borrow.Author.Needs.{needs}
 use lib.ListN.{length}
-use Rattle.dequantize.specs.Estimate.{colorAt, colorOf}
+use Rattle.dequantize.specs.Estimate.{toU64, colorAt, colorBy}
 use Rattle.dequantize.proofs.Tables.{Summed, summed-none, summed-more, summed-all}
 use Rattle.dequantize.proofs.estimate.color.Statement.{statement}
 use Rattle.dequantize.proofs.estimate.color.Tie as tie
 
 abbrev Inv-loop : tie.InvT-loop
-Inv-loop c from quant sum₀ i₀ sum i = (from + 32 ≤ length c) × Summed (colorAt c from quant) 32 sum i
+Inv-loop c from quant sum₀ i₀ sum i = (from + 32 ≤ length c) × Summed (colorAt (λ x. toU64 x) c from quant) 32 sum i
 
 abbrev μ-loop : tie.MeasureT-loop
 μ-loop c from quant sum₀ i₀ sum i = 32 - i
@@ -24,8 +24,8 @@ add-share c = omega arith
 share-requires : tie.Need-share-requires Inv-loop μ-loop
 share-requires c κs = omega arith
 
-saturating-f32-to-u64-requires : tie.Need-saturating-f32-to-u64-requires Inv-loop μ-loop
-saturating-f32-to-u64-requires c κs = search needs
+whole-requires : tie.Need-whole-requires Inv-loop μ-loop
+whole-requires c κs = search needs
 
 saturating-add-requires : tie.Need-saturating-add-requires Inv-loop μ-loop
 saturating-add-requires c κs = search needs
@@ -39,11 +39,11 @@ loop-less c = omega arith
 loop-again : tie.Need-loop-again Inv-loop μ-loop
 loop-again c =
     let l = c .before .before .before .before .loop in
-    let e : c .before .saturating-f32-to-u64 .result ≡ _ = rw (c .before .before .share .ensures) at (c .before .saturating-f32-to-u64 .ensures) in
+    let e : c .before .whole .result ≡ _ = rw (c .before .before .share .ensures) at (c .before .whole .ensures) in
     (l .inv .0, summed-more _ (l .i) (l .inv .1) (omega arith) e (c .saturating-add .ensures))
 
 returns : tie.Need-returns Inv-loop μ-loop
-unfolding colorOf
+unfolding colorBy
 returns c = let l = c .before .loop in summed-all _ (l .i) (l .inv .1) (c .loop-test .left)
 
 pub color-spec : {M : Type 1} → statement M
@@ -55,7 +55,7 @@ color-spec =
     loop-holds
     add-share
     share-requires
-    saturating-f32-to-u64-requires
+    whole-requires
     saturating-add-requires
     add-i
     loop-less

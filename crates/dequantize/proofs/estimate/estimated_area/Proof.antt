@@ -1,6 +1,6 @@
 -- The calls are the definition's operations, last call first.
 use borrow.Author.Needs.{needs}
-use Rattle.dequantize.specs.Estimate.{estimateOf}
+use Rattle.dequantize.specs.Estimate.{estimateBy}
 use Rattle.dequantize.proofs.estimate.estimated_area.Statement.{statement}
 use Rattle.dequantize.proofs.estimate.estimated_area.Tie as tie
 
@@ -26,7 +26,7 @@ saturating-mul-requires : tie.Need-saturating-mul-requires
 saturating-mul-requires c κs = search needs
 
 returns : tie.Need-returns
-unfolding estimateOf
+unfolding estimateBy
 returns c =
     rw (
       c .saturating-mul .ensures,

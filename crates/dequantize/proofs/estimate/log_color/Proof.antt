@@ -1,6 +1,6 @@
 -- The calls are the definition's operations, last call first.
 use borrow.Author.Needs.{needs}
-use Rattle.dequantize.specs.Estimate.{logColor}
+use Rattle.dequantize.specs.Estimate.{logColorBy}
 use Rattle.dequantize.proofs.estimate.log_color.Statement.{statement}
 use Rattle.dequantize.proofs.estimate.log_color.Tie as tie
 
@@ -26,7 +26,7 @@ greater-requires-3 : tie.Need-greater-requires-3
 greater-requires-3 c κs = search needs
 
 returns : tie.Need-returns
-unfolding logColor
+unfolding logColorBy
 returns c = rw (c .greater3 .ensures, c .before .ceil-log2 .ensures, c .before .before .saturating-add .ensures, c .before .before .before .greater2 .ensures, c .before .before .before .before .tinted2 .ensures, c .before .before .before .before .before .greater .ensures, c .before .before .before .before .before .before .tinted .ensures)
 
 pub log-color-spec : {M : Type 1} → statement M

@@ -1,6 +1,6 @@
 -- The calls are the definition's operations, last call first.
 use borrow.Author.Needs.{needs}
-use Rattle.dequantize.specs.Estimate.{tintedOf}
+use Rattle.dequantize.specs.Estimate.{tintedBy}
 use Rattle.dequantize.proofs.estimate.tinted.Statement.{statement}
 use Rattle.dequantize.proofs.estimate.tinted.Tie as tie
 
@@ -10,8 +10,8 @@ abs-requires c κs = search needs
 ceil-requires : tie.Need-ceil-requires
 ceil-requires c κs = search needs
 
-saturating-f32-to-u64-requires : tie.Need-saturating-f32-to-u64-requires
-saturating-f32-to-u64-requires c κs = search needs
+whole-requires : tie.Need-whole-requires
+whole-requires c κs = search needs
 
 saturating-mul-requires : tie.Need-saturating-mul-requires
 saturating-mul-requires c κs = search needs
@@ -20,8 +20,8 @@ saturating-add-requires : tie.Need-saturating-add-requires
 saturating-add-requires c κs = search needs
 
 returns : tie.Need-returns
-unfolding tintedOf
-returns c = rw (c .saturating-add .ensures, c .before .saturating-mul .ensures, c .before .before .saturating-f32-to-u64 .ensures, c .before .before .before .ceil .ensures, c .before .before .before .before .abs .ensures)
+unfolding tintedBy
+returns c = rw (c .saturating-add .ensures, c .before .saturating-mul .ensures, c .before .before .whole .ensures, c .before .before .before .ceil .ensures, c .before .before .before .before .abs .ensures)
 
 pub tinted-spec : {M : Type 1} → statement M
 tinted-spec =
@@ -29,7 +29,7 @@ tinted-spec =
     (tie.spec
     abs-requires
     ceil-requires
-    saturating-f32-to-u64-requires
+    whole-requires
     saturating-mul-requires
     saturating-add-requires
     returns)

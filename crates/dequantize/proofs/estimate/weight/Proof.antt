@@ -1,6 +1,6 @@
 -- The calls are the definition's operations, last call first.
 use borrow.Author.Needs.{needs}
-use Rattle.dequantize.specs.Estimate.{weightAt}
+use Rattle.dequantize.specs.Estimate.{weightBy}
 use Rattle.dequantize.proofs.estimate.weight.Statement.{statement}
 use Rattle.dequantize.proofs.estimate.weight.Tie as tie
 
@@ -13,12 +13,12 @@ max-requires c κs = search needs
 min-requires : tie.Need-min-requires
 min-requires c κs = search needs
 
-saturating-f32-to-u64-requires : tie.Need-saturating-f32-to-u64-requires
-saturating-f32-to-u64-requires c κs = search needs
+whole-requires : tie.Need-whole-requires
+whole-requires c κs = search needs
 
 returns : tie.Need-returns
-unfolding weightAt
-returns c = rw (c .saturating-f32-to-u64 .ensures, c .before .min .ensures, c .before .before .max .ensures, c .before .before .before .share .ensures)
+unfolding weightBy
+returns c = rw (c .whole .ensures, c .before .min .ensures, c .before .before .max .ensures, c .before .before .before .share .ensures)
 
 pub weight-spec : {M : Type 1} → statement M
 weight-spec =
@@ -27,7 +27,7 @@ weight-spec =
     share-requires
     max-requires
     min-requires
-    saturating-f32-to-u64-requires
+    whole-requires
     returns)
 
 -- Assumes nothing.

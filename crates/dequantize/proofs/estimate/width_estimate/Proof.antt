@@ -4,13 +4,13 @@ use Prim.Native.Nat.{_-_, _≤_}
 use native.Mathlib.Omega.{arith}
 use borrow.Author.Needs.{needs}
 use lib.ListN.{length}
-use Rattle.dequantize.specs.Estimate.{widthAt, widthEstimate}
+use Rattle.dequantize.specs.Estimate.{toU64, widthAt, widthBy}
 use Rattle.dequantize.proofs.Tables.{Summed, summed-none, summed-more, summed-all}
 use Rattle.dequantize.proofs.estimate.width_estimate.Statement.{statement}
 use Rattle.dequantize.proofs.estimate.width_estimate.Tie as tie
 
 abbrev Inv-loop : tie.InvT-loop
-Inv-loop c quant most log sum₀ i₀ sum i = (128 ≤ length c) × Summed (widthAt c quant most log) 32 sum i
+Inv-loop c quant most log sum₀ i₀ sum i = (128 ≤ length c) × Summed (widthAt (λ x. toU64 x) c quant most log) 32 sum i
 
 abbrev μ-loop : tie.MeasureT-loop
 μ-loop c quant most log sum₀ i₀ sum i = 32 - i
@@ -46,7 +46,7 @@ loop-again c =
     (l .inv .0, summed-more _ (l .i) (l .inv .1) (omega arith) e (c .saturating-add .ensures))
 
 returns : tie.Need-returns Inv-loop μ-loop
-unfolding widthEstimate
+unfolding widthBy
 returns c = let l = c .before .loop in summed-all _ (l .i) (l .inv .1) (c .loop-test .left)
 
 pub width-estimate-spec : {M : Type 1} → statement M

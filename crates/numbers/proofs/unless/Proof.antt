@@ -1,6 +1,6 @@
 -- By the test, each branch is its case of `cond`.
-use Rattle.segments.proofs.unless.Statement.{statement}
-use Rattle.segments.proofs.unless.Tie as tie
+use Rattle.numbers.proofs.unless.Statement.{statement}
+use Rattle.numbers.proofs.unless.Tie as tie
 
 returns : tie.Need-returns
 returns c = rw (c .if1 .taken)

@@ -1,4 +1,4 @@
--- Adding 2 ^ 23 and taking it away leaves the closest whole number, a tie to the even one; the test against a half more finds the tie that went down.
+-- The closest whole number, a tie to the even one, and R: the test against a half more finds the tie that went down.
 use mathlib.Core.Path.{_≡_, refl, sym, ap, _∙_, subst}
 use mathlib.Core.Logic.{inl, inr}
 use mathlib.Core.Bool.{Bool, true, false, not, cond, true≢false}
@@ -15,13 +15,12 @@ use lib.Ieee.Nearest.{closest, nearest-ge}
 use lib.Ieee.Scale.{round-same}
 use lib.Ieee.Back.{round-whole, unsigned-back}
 use lib.Ieee.Positive.{num, den, den-pos, own-value}
 use Rattle.numbers.specs.Whole.{half}
 use Rattle.numbers.specs.Inner.{Small, Made}
 use Rattle.numbers.proofs.Zero.{yes, no, two-to}
 use Rattle.numbers.proofs.Order.{Cmp, cmp, lt-yes, lt-no}
 use Rattle.numbers.proofs.Units.{ofInt-is, castable}
 use Rattle.numbers.proofs.Wholes.{small-above, bound}
-use Rattle.numbers.proofs.Steps.{near-whole}
 
 -- ---- the closest whole number to n / d is at most a half away
 
@@ -112,12 +111,12 @@ module _ (x : Float) (s : Small x) where
   wide : k ≤ 2 ^ 24
   wide = le-trans most (lit≤ tt)
 
-  -- x + 2 ^ 23 - 2 ^ 23
+  -- the closest whole number as a float
   abbrev near : Float
-  near = sub binary32 (add binary32 x (two-to 23)) (two-to 23)
+  near = ofInt binary32 (pos k)
 
-  pub near-cast : T (inUnsigned binary32 32 (sub binary32 (add binary32 x (two-to 23)) (two-to 23))) × (toUnsigned 32 (sub binary32 (add binary32 x (two-to 23)) (two-to 23)) ≡ closest (num x) (den x))
-  near-cast = subst (λ (z : Float). T (inUnsigned binary32 32 z) × (toUnsigned 32 z ≡ k)) (sym (near-whole x s)) (unsigned-back binary32 32 k (castable binary32 k wide) (go k most))
+  pub near-cast : {r : Float} → r ≡ ofInt binary32 (pos (closest (num x) (den x))) → T (inUnsigned binary32 32 r) × (toUnsigned 32 r ≡ closest (num x) (den x))
+  near-cast {r} e = subst (λ (z : Float). T (inUnsigned binary32 32 z) × (toUnsigned 32 z ≡ k)) (sym e) (unsigned-back binary32 32 k (castable binary32 k wide) (go k most))
     where
       go : (k : ℕ) → k ≤ 8388608 → k < 4294967296
       go k h = omega arith
@@ -126,7 +125,7 @@ module _ (x : Float) (s : Small x) where
   mid = add binary32 near (fin false 1 (negsuc 0))
 
   mid-is : mid ≡ round binary32 false (k + k + 1) 2
-  mid-is = ap (λ (z : Float). add binary32 z (fin false 1 (negsuc 0))) (near-whole x s) ∙ half-more (ofInt binary32 (pos k)) k (whole-value k wide)
+  mid-is = half-more (ofInt binary32 (pos k)) k (whole-value k wide)
 
   lo : 2 * (k * den x) ≤ 2 * num x + den x
   lo = within (num x) (den x) (den-pos x) .0
@@ -160,18 +159,21 @@ module _ (x : Float) (s : Small x) where
   from-mid h = lt-no x mid (num x) (den x) (k + k + 1) 2 (own-value x (small-above x s)) (mid-value (not-top h)) h
 
   -- the closest number, and one more at a tie that went down, is the number rounded
-  pub rounded-by : (t u : ℕ) → t ≡ closest (num x) (den x) → (b : Bool) → lt x mid ≡ b → u ≡ cond b 0 1 → Made half x (t + u)
-  rounded-by t u i true h e =
+  by-test : (t u : ℕ) → t ≡ closest (num x) (den x) → (b : Bool) → lt x mid ≡ b → u ≡ cond b 0 1 → Made half x (t + u)
+  by-test t u i true h e =
       let r : half (num x) (den x) ≡ k = stays (num x) (den x) k lo hi (den-pos x) (under-mid (yes h)) in
       record { is = ap (λ (z : ℕ). t + z) e ∙ add-zero t ∙ i ∙ sym r; most = go t u k i e most }
     where
       go : (t u k : ℕ) → t ≡ k → u ≡ 0 → k ≤ 8388608 → t + u ≤ 8388608
       go t u k i e l = omega arith
-  rounded-by t u i false h e =
+  by-test t u i false h e =
       let r : half (num x) (den x) ≡ k + 1 = steps (num x) (den x) k lo hi (den-pos x) (from-mid (no h)) in
       record { is = ap (λ (z : ℕ). t + z) e ∙ ap (λ (z : ℕ). z + 1) i ∙ sym r; most = go t u k i e (not-top (no h)) }
     where
       go : (t u k : ℕ) → t ≡ k → u ≡ 1 → k < 8388608 → t + u ≤ 8388608
       go t u k i e l = omega arith
+
+  pub rounded-by : {r : Float} {u : ℕ} → r ≡ ofInt binary32 (pos (closest (num x) (den x))) → u ≡ cond (lt x (add binary32 r (fin false 1 (negsuc 0)))) 0 1 → Made half x (toUnsigned 32 r + u)
+  rounded-by {r} {u} e d = by-test (toUnsigned 32 r) u (near-cast e .1) (lt x mid) refl (d ∙ ap (λ (z : Float). cond (lt x (add binary32 z (fin false 1 (negsuc 0)))) 0 1) e)
 
 -- Assumes nothing.

@@ -1,0 +1,2 @@
+-- The definitions of the crate `faint`.
+pub mod Faint
