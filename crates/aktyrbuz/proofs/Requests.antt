@@ -1,4 +1,4 @@
-
+-- The later requests hold.
 use mathlib.Core.Path.{_≡_, sym, ap, _∙_, refl, subst}
 use mathlib.Core.Logic.{⊎-elim, inl, inr, _↔_}
 use mathlib.Core.List.{List, []}

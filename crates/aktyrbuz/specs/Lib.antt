@@ -4,3 +4,4 @@ pub mod Calls
 pub mod Demands
 pub mod Requests
 pub mod ListCodes
+pub mod TraceCalls

@@ -12,7 +12,7 @@ ghost use Rattle.draw.specs.Draw.{tableOf, three, drawOf};
 ghost use Rattle.hull.specs.Reach.{reachOf};
 ghost use Rattle.aktyrbuz.specs.Exported.{signedOf, toldIn, toldRefusal, toldRead, toldWrite, toldBuild, toldDraw, toldReach, readLeaves, readExport, writeLeaves, writeExport, buildLeaves, buildExport, drawLeaves, drawExport, reachLeaves, reachExport};
 
-mod trace_files;
+pub mod trace_files;
 
 use codes::Code;
 use draw::DrawAnswer;

@@ -1,0 +1,2 @@
+-- The definitions of the crate `near`.
+pub mod Near

@@ -1,0 +1,1 @@
+// Laws on the rows and columns of a segment, and no code.
