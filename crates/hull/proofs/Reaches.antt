@@ -10,7 +10,7 @@ use lib.Ieee.{Float}
 use borrow.Author.Tests.{le-ltb, leb-true, ltb-true}
 use Rattle.codes.specs.declared.Code.{Code}
 use Rattle.segments.specs.Segment.{segmentAt}
-use Rattle.segments.specs.Ranges.{columnsOf}
+use Rattle.segments.specs.Ranges.{columnFirst, columnPast}
 use Rattle.segments.specs.declared.Segment.{Segment}
 use Rattle.segments.specs.declared.Range.{Range}
 use Rattle.checks.specs.declared.Verdict.{Verdict}
@@ -30,16 +30,15 @@ skipped : {a : Range} (b : Range) → b .past ≤ b .first → a ≡ joined a b
 unfolding joined
 skipped b h = rw (le-ltb (b .first) (b .past) h)
 
-module _ (found : Range) (s : Segment) (W : ℕ) (c : Range) (p : ℕ) (e : c ≡ columnsOf s) (q : p ≡ min W (c .past)) where
-  cut : record { first = c .first; past = p } ≡ columnsBelow W s
-  unfolding columnsOf
-  cut = same-range _ _ (ap (λ (r : Range). r .first) e) (q ∙ ap (λ (r : Range). min W (r .past)) e)
+module _ (found : Range) (s : Segment) (W a e p : ℕ) (f : a ≡ columnFirst s) (l : e ≡ columnPast s) (q : p ≡ min W e) where
+  cut : record { first = a; past = p } ≡ columnsBelow W s
+  cut = same-range _ _ f (q ∙ ap (min W) l)
 
   -- one without columns below the width is skipped
-  pub skip-segment : p ≤ c .first → found ≡ joined found (columnsBelow W s)
-  skip-segment h = skipped (record { first = c .first; past = p }) h ∙ ap (joined found) cut
+  pub skip-segment : p ≤ a → found ≡ joined found (columnsBelow W s)
+  skip-segment h = skipped (record { first = a; past = p }) h ∙ ap (joined found) cut
 
-  pub join-segment : {r : Range} → r ≡ joined found (record { first = c .first; past = p }) → r ≡ joined found (columnsBelow W s)
+  pub join-segment : {r : Range} → r ≡ joined found (record { first = a; past = p }) → r ≡ joined found (columnsBelow W s)
   join-segment k = k ∙ ap (joined found) cut
 
 -- ---- the entries

@@ -48,12 +48,13 @@ fn join(found: Range, first: u32, past: u32) -> Range
 fn with_segment(found: Range, segment: Segment, width: u32) -> Range
     ensures { λ r. ⌜ r ≡ joined found (columnsBelow width segment) ⌝ }
 {
-    let columns = segment.columns();
-    let past = least(width, columns.past);
-    if past <= columns.first {
+    let first = segments::column_first(segment.center_x - segment.maximum_distance);
+    let last = segments::column_past(segment.center_x + segment.maximum_distance);
+    let past = least(width, last);
+    if past <= first {
         return found;
     }
-    join(found, columns.first, past)
+    join(found, first, past)
 }
 
 // The reach over the entries from b up to e.

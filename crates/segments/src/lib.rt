@@ -145,7 +145,7 @@ fn row_past(x: f32) -> u32
 }
 
 // The first column, by the float that it is.
-fn column_first(x: f32) -> u32
+pub fn column_first(x: f32) -> u32
     ensures { λ r. ⌜ r ≡ columnFirstOf x ⌝ }
 {
     match numbers::rounded_to_u64(x) {
@@ -157,7 +157,7 @@ fn column_first(x: f32) -> u32
 }
 
 // One past the last column, by the float that is the last: column 0 where it lies left of the image, and none from 2^64 on.
-fn column_past(x: f32) -> u32
+pub fn column_past(x: f32) -> u32
     ensures { λ r. ⌜ r ≡ columnPastOf x ⌝ }
 {
     match numbers::rounded_to_u64(x) {

@@ -7,33 +7,38 @@ use Rattle.hull.proofs.Reaches.{skip-segment, join-segment}
 use Rattle.hull.proofs.with_segment.Statement.{statement}
 use Rattle.hull.proofs.with_segment.Tie as tie
 
-columns-requires : tie.Need-columns-requires
-columns-requires c κs = search needs
+column-first-requires : tie.Need-column-first-requires
+column-first-requires c κs = search needs
+
+column-past-requires : tie.Need-column-past-requires
+column-past-requires c κs = search needs
 
 least-requires : tie.Need-least-requires
 least-requires c κs = search needs
 
 returns : tie.Need-returns
 returns c =
-    let A = c .before .before .before .before .args in
-    let r = c .before .before .before .columns .result in
-    let p = c .before .before .least .result in
-    let q : p ≡ min (A .width) (r .past) = omega arith in
-    let h : p ≤ r .first = omega arith in
-    skip-segment (A .found) (A .segment) (A .width) r p (c .before .before .before .columns .ensures) q h
+    let A = c .before .before .before .before .before .before .args in
+    let a = c .before .before .before .before .column-first .result in
+    let e = c .before .before .column-past .result in
+    let p = c .before .least .result in
+    let q : p ≡ min (A .width) e = omega arith in
+    let h : p ≤ a = omega arith in
+    skip-segment (A .found) (A .segment) (A .width) a e p (c .before .before .before .before .column-first .ensures) (c .before .before .column-past .ensures) q h
 
 join-requires : tie.Need-join-requires
 join-requires c κs = omega arith
 
 returns-2 : tie.Need-returns-2
 returns-2 c =
-    let A = c .before .before .before .before .before .args in
-    let r = c .before .before .before .before .columns .result in
-    let p = c .before .before .before .least .result in
-    let q : p ≡ min (A .width) (r .past) = omega arith in
-    join-segment (A .found) (A .segment) (A .width) r p (c .before .before .before .before .columns .ensures) q (c .join .ensures)
+    let A = c .before .before .before .before .before .before .before .args in
+    let a = c .before .before .before .before .before .column-first .result in
+    let e = c .before .before .before .column-past .result in
+    let p = c .before .before .least .result in
+    let q : p ≡ min (A .width) e = omega arith in
+    join-segment (A .found) (A .segment) (A .width) a e p (c .before .before .before .before .before .column-first .ensures) (c .before .before .before .column-past .ensures) q (c .join .ensures)
 
 pub with-segment-spec : {M : Type 1} → statement M
-with-segment-spec = tie.close (tie.spec columns-requires least-requires returns join-requires returns-2)
+with-segment-spec = tie.close (tie.spec column-first-requires column-past-requires least-requires returns join-requires returns-2)
 
 -- Assumes nothing.
