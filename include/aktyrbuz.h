@@ -40,7 +40,13 @@ enum aktyrbuz_code {
     AKTYRBUZ_TABLE = 14,    /* a table that no build makes: a height above 2^23, more than 2^24 segments or 2^30 entries, counts that overrun the buffers, starts of row y that descend or pass the entries, an entry of it that names no segment */
     AKTYRBUZ_ROW = 15,      /* a row that is not below the height */
     AKTYRBUZ_SPAN = 16,     /* x0 + n above 2^23, or a channel shorter than n */
-    AKTYRBUZ_HEADER = 17    /* a trace file of a version other than 1, or with an offset that is not its part's; writing: a count or offset of 2^32 or more */
+    AKTYRBUZ_HEADER = 17,   /* a trace file of a version other than 1, or with an offset that is not its part's; writing: a count or offset of 2^32 or more */
+    AKTYRBUZ_TEXT = 18,     /* a byte that no text of points could have there, or a text that stops early */
+    AKTYRBUZ_DESK = 19,     /* a desk other than 0 and 1 */
+    AKTYRBUZ_TRACE = 20,    /* fewer shared bytes than the description had splines, or a bit of a spline without a byte */
+    AKTYRBUZ_PROFILE = 21,  /* a description that breaks a rule of the fineness profile: the rule is the first count, the one refusal whose counts are not all 0 */
+    AKTYRBUZ_EDITION = 22,  /* an edition other than 1 and 2, or edition 2 in a trace file of version 1 */
+    AKTYRBUZ_BAND = 23      /* a band past the last */
 };
 
 /* The natural logarithm that building uses: a fixed sequence of operations, the same on every machine. */

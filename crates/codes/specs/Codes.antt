@@ -2,7 +2,7 @@
 -- Two codes with one number are equal: `numberOf-injective` of proofs/Codes.antt.
 use Prim.Native.Nat.{ℕ}
 use Rattle.codes.specs.declared.Code.{Code}
-use Rattle.codes.specs.declared.Code.the-variants.{Done, Short, Splines, Coord, Points, Delta, Trail, Room, Size, Shape, Position, Distance, Area, Coincide, Table, Row, Span, Header}
+use Rattle.codes.specs.declared.Code.the-variants.{Done, Short, Splines, Coord, Points, Delta, Trail, Room, Size, Shape, Position, Distance, Area, Coincide, Table, Row, Span, Header, Text, Desk, Trace, Profile, Edition, Band}
 
 abbrev pub numberOf : Code → ℕ
 numberOf Done = 0
@@ -23,3 +23,9 @@ numberOf Table = 14
 numberOf Row = 15
 numberOf Span = 16
 numberOf Header = 17
+numberOf Text = 18
+numberOf Desk = 19
+numberOf Trace = 20
+numberOf Profile = 21
+numberOf Edition = 22
+numberOf Band = 23

@@ -21,6 +21,12 @@ pub enum Code {
     Row,
     Span,
     Header,
+    Text,
+    Desk,
+    Trace,
+    Profile,
+    Edition,
+    Band,
 }
 
 pub fn number_of(code: Code) -> u32
@@ -45,5 +51,11 @@ pub fn number_of(code: Code) -> u32
         Code::Row => 15,
         Code::Span => 16,
         Code::Header => 17,
+        Code::Text => 18,
+        Code::Desk => 19,
+        Code::Trace => 20,
+        Code::Profile => 21,
+        Code::Edition => 22,
+        Code::Band => 23,
     }
 }

@@ -42,10 +42,16 @@ pub enum Code {
     Span = 16,
     /// A trace file of another version or with an offset that is not its part's; writing: a count or offset of 2^32 or more.
     Header = 17,
+    Text = 18,
+    Desk = 19,
+    Trace = 20,
+    Profile = 21,
+    Edition = 22,
+    Band = 23,
 }
 
 /// Each code with its name and what it says, in the order of their numbers.
-const CODES: [(Code, &str, &str); 17] = [
+const CODES: [(Code, &str, &str); 23] = [
     (Code::Short, "SHORT", "it ends before the next value"),
     (
         Code::Splines,
@@ -99,10 +105,28 @@ const CODES: [(Code, &str, &str); 17] = [
         "HEADER",
         "a version or offset that a trace file cannot have there",
     ),
+    (
+        Code::Text,
+        "TEXT",
+        "a byte that no text of points could have there",
+    ),
+    (Code::Desk, "DESK", "a desk other than 0 and 1"),
+    (Code::Trace, "TRACE", "fewer shared bytes than splines"),
+    (
+        Code::Profile,
+        "PROFILE",
+        "a rule of the fineness profile is broken",
+    ),
+    (
+        Code::Edition,
+        "EDITION",
+        "an edition other than 1 and 2, or one that the version cannot hold",
+    ),
+    (Code::Band, "BAND", "a band past the last"),
 ];
 
 impl Code {
-    /// The code of a number from 1 through 17.
+    /// The code of a number from 1 through 23.
     fn of(number: u32) -> Option<Code> {
         CODES
             .get((number as usize).checked_sub(1)?)

@@ -88,10 +88,16 @@ pub enum Code {
     Row = 15,
     Span = 16,
     Header = 17,
+    Text = 18,
+    Desk = 19,
+    Trace = 20,
+    Profile = 21,
+    Edition = 22,
+    Band = 23,
 }
 
 /// All of them, in the order of their numbers.
-pub const CODES: [Code; 17] = [
+pub const CODES: [Code; 23] = [
     Code::Short,
     Code::Splines,
     Code::Coord,
@@ -109,6 +115,12 @@ pub const CODES: [Code; 17] = [
     Code::Row,
     Code::Span,
     Code::Header,
+    Code::Text,
+    Code::Desk,
+    Code::Trace,
+    Code::Profile,
+    Code::Edition,
+    Code::Band,
 ];
 
 /// A refusal: what, and where.

@@ -56,7 +56,21 @@ pub fn no_equality(code: Code) -> bool {
     use Code::*;
     matches!(
         code,
-        Short | Trail | Room | Size | Shape | Table | Row | Span | Header
+        Short
+            | Trail
+            | Room
+            | Size
+            | Shape
+            | Table
+            | Row
+            | Span
+            | Header
+            | Text
+            | Desk
+            | Trace
+            | Profile
+            | Edition
+            | Band
     )
 }
 
