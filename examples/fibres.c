@@ -128,17 +128,19 @@ static void touch(const struct table *t, uint32_t x, uint32_t y) {
     printf("touch: column %" PRIu32 ", row %" PRIu32 " is of trace %" PRIu64 "\n", x, y, trace);
 }
 
-static void draw_all(const struct table *t, uint32_t width) {
+/* For one desk that has hidden nothing: a byte of 0 for each spline. */
+static void draw_all(const struct table *t, size_t splines, uint32_t width) {
     float *channels = room(3 * (size_t)width, sizeof *channels);
+    uint8_t *bits = room(splines, sizeof *bits);
     int64_t answer[5], updates = 0;
     float brightest = 0;
     uint32_t at_x = 0, at_y = 0;
     for (uint32_t y = 0; y < t->height; y++) {
         for (size_t i = 0; i < 3 * (size_t)width; i++)
             channels[i] = 0;
-        check("draw", aktyrbuz_draw(t->segments, t->segments_len, t->segment_count, t->entries, t->entries_len, t->entry_count, t->row_starts,
-                                    (size_t)t->height + 1, t->height, y, 0, width, channels, width, channels + width, width,
-                                    channels + 2 * (size_t)width, width, answer),
+        check("draw", aktyrbuz_draw(t->segments, t->segments_len, t->owners, t->segment_count, t->segment_count, t->entries, t->entries_len, t->entry_count,
+                                    t->row_starts, (size_t)t->height + 1, t->height, splines, bits, splines, 0, y, 0, width, channels, width,
+                                    channels + width, width, channels + 2 * (size_t)width, width, answer),
               answer);
         updates += answer[1];
         for (size_t x = 0; x < width; x++)
@@ -151,7 +153,7 @@ static void draw_all(const struct table *t, uint32_t width) {
     printf("draw: %" PRId64 " updates, the brightest Y is %.3f\n", updates, brightest);
     if (brightest > 0)
         touch(t, at_x, at_y);
-    free(channels);
+    free(channels), free(bits);
 }
 
 int main(int argc, char **argv) {
@@ -165,7 +167,7 @@ int main(int argc, char **argv) {
     uint32_t *list = load(argv[1], &len);
     struct description d = read_all(list, len, pixels < UINT32_MAX ? (uint32_t)pixels : UINT32_MAX);
     struct table t = build_all(&d, width, height);
-    draw_all(&t, width);
+    draw_all(&t, d.splines, width);
     free(list);
     free(d.counts), free(d.starts), free(d.deltas), free(d.coefficients);
     free(t.segments), free(t.owners), free(t.row_starts), free(t.entries);

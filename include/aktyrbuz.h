@@ -37,7 +37,7 @@ enum aktyrbuz_code {
     AKTYRBUZ_DISTANCE = 11, /* a spline whose steps add up to more than the area limit */
     AKTYRBUZ_AREA = 12,     /* splines whose estimates add up to more than the area limit */
     AKTYRBUZ_COINCIDE = 13, /* two adjacent control points are equal */
-    AKTYRBUZ_TABLE = 14,    /* a table that no build makes: a height above 2^23, more than 2^24 segments or 2^30 entries, counts that overrun the buffers, starts of row y that descend or pass the entries, an entry of it that names no segment */
+    AKTYRBUZ_TABLE = 14,    /* a table that no build makes: a height above 2^23, more than 2^24 segments or 2^30 entries, counts that overrun the buffers, starts of row y that descend or pass the entries, an entry of it that names no segment, or one of no spline */
     AKTYRBUZ_ROW = 15,      /* a row that is not below the height */
     AKTYRBUZ_SPAN = 16,     /* x0 + n above 2^23, or a channel shorter than n */
     AKTYRBUZ_HEADER = 17,   /* a trace file of a version other than 1, or with an offset that is not its part's; writing: a count or offset of 2^32 or more */
@@ -86,22 +86,31 @@ uint32_t aktyrbuz_build(const uint32_t *counts, size_t counts_len, const float *
                         float *path, size_t path_len, float *walk, size_t walk_len, float *segments, size_t segments_len, uint64_t *owners, size_t owners_len,
                         uint32_t *row_starts, size_t row_starts_len, uint32_t *entries, size_t entries_len, int64_t answer[5]);
 
-/* Adds the segments of row y to the pixels x0 up to but not including x0 + n. Each channel begins at pixel x0; what they hold before stays and is added to.
- * Parts of a row may be drawn in any order. A refused drawing changes nothing.
- * Place: 0. Counts: updates, one for each segment at each pixel. */
-uint32_t aktyrbuz_draw(const float *segments, size_t segments_len, uint32_t segment_count,
+/* Adds the segments of row y to the pixels x0 up to but not including x0 + n, for a desk and without what it has hidden. Each channel begins at pixel x0; what they hold
+ * before stays and is added to. Parts of a row may be drawn in any order. A refused drawing changes nothing.
+ *
+ * splines is how many the description had, and bits has a shared byte for each (more are not looked at): bit 0 hides the spline for desk 0, the operator, bit 1 for desk 1, the checker.
+ * What a desk gets depends on its own bits alone. A viewer without desks lends zeros and is desk 0.
+ * Checks: DESK, TABLE for the counts, TRACE, ROW, SPAN, TABLE for the row. Place: 0. Counts: updates, one for each segment at each pixel. */
+uint32_t aktyrbuz_draw(const float *segments, size_t segments_len, const uint64_t *owners, size_t owners_len, uint32_t segment_count,
                        const uint32_t *entries, size_t entries_len, uint32_t entry_count,
                        const uint32_t *row_starts, size_t row_starts_len, uint32_t height,
+                       uint64_t splines, const uint8_t *bits, size_t bits_len, uint32_t desk,
                        uint32_t y, uint32_t x0, uint32_t n,
                        float *r0, size_t r0_len, float *r1, size_t r1_len, float *r2, size_t r2_len, int64_t answer[5]);
 
-/* The columns that drawing row y touches in an image of this width: from the first to the last of them. When the row is drawn whole, no column outside is
+/* The columns that drawing row y for a desk touches in an image of this width: from the first to the last of them. When the row is drawn whole, no column outside is
  * updated, and the first and the last one are. What lies wholly left of the image touches column 0, as in drawing.
- * Place: 0. Counts: the first column and one past the last; 0 and 0 if drawing touches none. */
-uint32_t aktyrbuz_reach(const float *segments, size_t segments_len, uint32_t segment_count,
+ * Checks: DESK, SIZE, TABLE for the counts, TRACE, ROW, TABLE for the row. Place: 0. Counts: the first column and one past the last; 0 and 0 if drawing touches none. */
+uint32_t aktyrbuz_reach(const float *segments, size_t segments_len, const uint64_t *owners, size_t owners_len, uint32_t segment_count,
                         const uint32_t *entries, size_t entries_len, uint32_t entry_count,
                         const uint32_t *row_starts, size_t row_starts_len, uint32_t height,
+                        uint64_t splines, const uint8_t *bits, size_t bits_len, uint32_t desk,
                         uint32_t y, uint32_t width, int64_t answer[5]);
+
+/* Hides a spline for a desk, or shows it again: sets that one bit to hidden, and changes no other. A refused call changes nothing.
+ * Checks: DESK, TRACE for a spline without a byte. Place: 0. Counts: none. */
+uint32_t aktyrbuz_hide(uint8_t *bits, size_t bits_len, uint32_t desk, uint64_t spline, bool hidden, int64_t answer[5]);
 
 /* Reads a trace file, a description without its picture, into a description. It has no limit of splines or points but its own length.
  *

@@ -16,6 +16,9 @@ use Rattle.writer.specs.declared.Verdict.{Verdict}
 use Rattle.writer.specs.declared.Verdict.the-variants.{Fine, Fault}
 use Rattle.writer.specs.declared.WriteAnswer.{WriteAnswer}
 use Rattle.roundtrip.proofs.RoundTrip.{written-then-read, read-then-written}
+use Rattle.desks.specs.Desks.{Sight}
+use Rattle.segments.specs.declared.Segment.{Segment}
+use Rattle.shade.specs.Edit.{edit}
 use Rattle.draw.specs.Draw as drawing
 use Rattle.draw.specs.Image.{mostPairs}
 use Rattle.hull.specs.Reach as reaching
@@ -30,7 +33,9 @@ use Rattle.draw.proofs.Alike.{drawn-alike}
 use Rattle.hull.proofs.Refusals as reach-refusals
 use Rattle.hull.proofs.Alike.{reached-alike}
 use Rattle.draw.proofs.Keeps.{keeps-cells, keeps-lengths}
-use Rattle.picture.specs.Picture.{imagePairs}
+use Rattle.picture.specs.Picture.{pixelOf, rowPairs, imagePairs, RowPicture}
+use Rattle.picture.specs.Sights.{notHidden}
+use Rattle.picture.proofs.Sights.{kept-not-hidden}
 use Rattle.picture.proofs.Tables.{built-table}
 use Rattle.picture.proofs.Keeping.{kept-lists, draw-fine, reach-fine}
 use Rattle.picture.proofs.Pictures as pictures
@@ -40,7 +45,7 @@ use Rattle.segments.proofs.Expressions.{as-spline-rs}
 use Rattle.dequantize.specs.Judge.{Description}
 use Rattle.table.proofs.Segments as making
 use Rattle.table.specs.declared.BuildAnswer.{BuildAnswer}
-use Rattle.aktyrbuz.specs.Demands.{ReadsAsSplineRs, WritesTheList, WrittenIsRead, ReadIsWritten, BuildsAsSplineRs, BuildsTheTable, EnoughRoomIsDone, NumbersByIeee754, DrawsAsSplineRs, ReachesByTheRule, LogsByItsSteps, RefusedLeavesZero, RefusedDrawsNothing, BuildCodes, DrawCodes, ReachCodes, CodesExactly, BuiltIsDrawn, OnceAscending, OtherRowsDontMatter, RowInParts, ImageInParts, KeepsOtherCells, RowUpdates, ImageUpdates, UpdatesSum, OneOutcome}
+use Rattle.aktyrbuz.specs.Demands.{ReadsAsSplineRs, WritesTheList, WrittenIsRead, ReadIsWritten, BuildsAsSplineRs, BuildsTheTable, EnoughRoomIsDone, NumbersByIeee754, DrawsAsSplineRs, ReachesByTheRule, LogsByItsSteps, RefusedLeavesZero, RefusedDrawsNothing, BuildCodes, DrawCodes, ReachCodes, CodesExactly, BuiltIsDrawn, OnceAscending, OtherRowsDontMatter, RowInParts, ImageInParts, KeepsOtherCells, RowUpdates, ImageUpdates, UpdatesSum, NothingStale, OneOutcome}
 use Rattle.aktyrbuz.specs.Calls.{BuildDone}
 use Rattle.aktyrbuz.proofs.ListCodes.{read-codes, write-codes}
 use Rattle.aktyrbuz.proofs.Calls.{read-equation, write-equation, write-floats, build-equation, draw-equation, reach-equation, ln-equation, told-by, build-told-by, reach-told-by, built-by, kept-are, row-by, image-by}
@@ -133,48 +138,48 @@ refused-leaves-zero = record {
 
 pub refused-draws-nothing : RefusedDrawsNothing
 unfolding drawing.drawOf
-refused-draws-nothing t y x0 n a o c p d e =
-    go (drawing.judgeOf t y x0 n (length (a .r0)) (length (a .r1)) (length (a .r2))) (draw-equation t y x0 n a o d)
+refused-draws-nothing t s y x0 n a o c p d e =
+    go (drawing.judgeOf t s y x0 n (length (a .r0)) (length (a .r1)) (length (a .r2))) (draw-equation t s y x0 n a o d)
   where
-    go : (v : Judged) → o ≡ drawing.outcome v t y x0 n a → o .channels ≡ a
+    go : (v : Judged) → o ≡ drawing.outcome v t s y x0 n a → o .channels ≡ a
     go judged.Fine f =
         let g = sym (ap (λ (u : drawing.DrawOutcome). u .answer) f) ∙ e in
         let k : _≡_ {A = ℕ} 0 1 = cc in
         absurd (omega arith)
     go (judged.Fault k) f = ap (λ (u : drawing.DrawOutcome). u .channels) f
 
-drawn-fine : (t : drawing.Table) (y x0 n : ℕ) (a : drawing.Channels) (z : drawing.DrawOutcome) → z ≡ drawing.drawOf t y x0 n a
-    → drawing.judgeOf t y x0 n (length (a .r0)) (length (a .r1)) (length (a .r2)) ≡ judged.Fine → z .answer ≡ DrawAnswer.Done (z .told .updates)
+drawn-fine : (t : drawing.Table) (s : Sight) (y x0 n : ℕ) (a : drawing.Channels) (z : drawing.DrawOutcome) → z ≡ drawing.drawOf t s y x0 n a
+    → drawing.judgeOf t s y x0 n (length (a .r0)) (length (a .r1)) (length (a .r2)) ≡ judged.Fine → z .answer ≡ DrawAnswer.Done (z .told .updates)
 unfolding drawing.drawOf
-drawn-fine t y x0 n a z e f = rw (e, f)
+drawn-fine t s y x0 n a z e f = rw (e, f)
 
-reached-fine : (t : drawing.Table) (y W : ℕ) (z : reaching.ReachOutcome) → z ≡ reaching.reachOf t y W → reaching.judgeReachOf t y W ≡ judged.Fine
+reached-fine : (t : drawing.Table) (s : Sight) (y W : ℕ) (z : reaching.ReachOutcome) → z ≡ reaching.reachOf t s y W → reaching.judgeReachOf t s y W ≡ judged.Fine
     → z .answer ≡ ReachAnswer.Done (z .told .first) (z .told .past)
 unfolding reaching.reachOf
-reached-fine t y W z e f = rw (e, f)
+reached-fine t s y W z e f = rw (e, f)
 
 pub draw-codes : DrawCodes
 draw-codes = record {
-  exactly = λ t y x0 n a o d c p.
-      let is = ap (λ (u : drawing.DrawOutcome). u .answer) (draw-equation t y x0 n a o d) in
-      let when = refusals.draw-refused-exactly t y x0 n a c p in
+  exactly = λ t s y x0 n a o d c p.
+      let is = ap (λ (u : drawing.DrawOutcome). u .answer) (draw-equation t s y x0 n a o d) in
+      let when = refusals.draw-refused-exactly t s y x0 n a c p in
       (λ e. when .0 (sym is ∙ e), λ l. is ∙ when .1 l);
-  told = λ t y x0 n a o d c p e.
-      let is = ap (λ (u : drawing.DrawOutcome). u .answer) (draw-equation t y x0 n a o d) in
-      let place : p ≡ 0 = refusals.draw-place t y x0 n a (refusals.draw-refused-exactly t y x0 n a c p .0 (sym is ∙ e)) in
-      ap (λ (u : drawing.DrawOutcome). u .told) (told-by t y x0 n a o d) ∙ ap drawing.toldOf (e ∙ ap (DrawAnswer.Refused c) place);
+  told = λ t s y x0 n a o d c p e.
+      let is = ap (λ (u : drawing.DrawOutcome). u .answer) (draw-equation t s y x0 n a o d) in
+      let place : p ≡ 0 = refusals.draw-place t s y x0 n a (refusals.draw-refused-exactly t s y x0 n a c p .0 (sym is ∙ e)) in
+      ap (λ (u : drawing.DrawOutcome). u .told) (told-by t s y x0 n a o d) ∙ ap drawing.toldOf (e ∙ ap (DrawAnswer.Refused c) place);
 }
 
 pub reach-codes : ReachCodes
 reach-codes = record {
-  exactly = λ t y W o d c p.
-      let is = ap (λ (u : reaching.ReachOutcome). u .answer) (reach-equation t y W o d) in
-      let when = reach-refusals.reach-refused-exactly t y W c p in
+  exactly = λ t s y W o d c p.
+      let is = ap (λ (u : reaching.ReachOutcome). u .answer) (reach-equation t s y W o d) in
+      let when = reach-refusals.reach-refused-exactly t s y W c p in
       (λ e. when .0 (sym is ∙ e), λ l. is ∙ when .1 l);
-  told = λ t y W o d c p e.
-      let is = ap (λ (u : reaching.ReachOutcome). u .answer) (reach-equation t y W o d) in
-      let place : p ≡ 0 = reach-refusals.reach-place t y W (reach-refusals.reach-refused-exactly t y W c p .0 (sym is ∙ e)) in
-      ap (λ (u : reaching.ReachOutcome). u .told) (reach-told-by t y W o d) ∙ ap reaching.toldOf (e ∙ ap (ReachAnswer.Refused c) place);
+  told = λ t s y W o d c p e.
+      let is = ap (λ (u : reaching.ReachOutcome). u .answer) (reach-equation t s y W o d) in
+      let place : p ≡ 0 = reach-refusals.reach-place t s y W (reach-refusals.reach-refused-exactly t s y W c p .0 (sym is ∙ e)) in
+      ap (λ (u : reaching.ReachOutcome). u .told) (reach-told-by t s y W o d) ∙ ap reaching.toldOf (e ∙ ap (ReachAnswer.Refused c) place);
 }
 
 pub build-codes : BuildCodes
@@ -191,11 +196,11 @@ codes-exactly = record { read = read-codes; write = write-codes; build = build-c
 
 pub built-is-drawn : BuiltIsDrawn
 built-is-drawn = record {
-  draw = λ d i segments t k y x0 n a o h f c.
-      drawn-fine t y x0 n a o (draw-equation t y x0 n a o c)
-      (draw-fine (built-by (k .done)) (k .kept) y (omega (arith, h, k .kept .height)) x0 n (length (a .r0)) (length (a .r1)) (length (a .r2)) f);
-  reach = λ d i segments t k y W o h w c.
-      reached-fine t y W o (reach-equation t y W o c) (reach-fine (built-by (k .done)) (k .kept) y (omega (arith, h, k .kept .height)) W w);
+  draw = λ d i segments owners t s k l y x0 n a o h f c.
+      drawn-fine t s y x0 n a o (draw-equation t s y x0 n a o c)
+      (draw-fine (built-by (k .done)) (k .kept) l y (omega (arith, h, k .kept .height)) x0 n (length (a .r0)) (length (a .r1)) (length (a .r2)) f);
+  reach = λ d i segments owners t s k l y W o h w c.
+      reached-fine t s y W o (reach-equation t s y W o c) (reach-fine (built-by (k .done)) (k .kept) l y (omega (arith, h, k .kept .height)) W w);
 }
 
 -- ---- tables
@@ -205,44 +210,70 @@ once-ascending d i segments t k y h = kept-lists (built-by (k .done)) (k .kept) 
 
 pub other-rows-dont-matter : OtherRowsDontMatter
 other-rows-dont-matter = record {
-  draw = λ t u y k x0 n a o q c e. draw-equation t y x0 n a o c ∙ drawn-alike k x0 n a ∙ sym (draw-equation u y x0 n a q e);
-  reach = λ t u y k W o q c e. reach-equation t y W o c ∙ reached-alike k W ∙ sym (reach-equation u y W q e);
+  draw = λ t u s r y k x0 n a o q c e. draw-equation t s y x0 n a o c ∙ drawn-alike k x0 n a ∙ sym (draw-equation u r y x0 n a q e);
+  reach = λ t u s r y k W o q c e. reach-equation t s y W o c ∙ reached-alike k W ∙ sym (reach-equation u r y W q e);
 }
 
 -- ---- pixels
 
 pub row-in-parts : RowInParts
-row-in-parts d i segments t k y W a w sum z =
+row-in-parts d i segments owners t s k l y W a w sum z =
     rw (kept-are k)
-    (pictures.row-in-parts (built-by (k .done)) (k .kept) W (z .narrow) y (z .in-image) (z .widths) (z .cut) (z .parts) (z .order) a w (z .wide) sum (row-by (z .drawn)))
+    (pictures.row-in-parts (built-by (k .done)) (k .kept) l W (z .narrow) y (z .in-image) (z .widths) (z .cut) (z .parts) (z .order) a w (z .wide) sum (row-by (z .drawn)))
 
 pub image-in-parts : ImageInParts
-image-in-parts d i segments t k W a w sum z y h =
+image-in-parts d i segments owners t s k l W a w sum z y h =
     rw (kept-are k)
-    (pictures.image-in-parts (built-by (k .done)) (k .kept) W (z .narrow) (z .widths) (z .tall) (z .cut) (z .parts) (z .order) a w (z .wide) sum (image-by (z .drawn)) y
+    (pictures.image-in-parts (built-by (k .done)) (k .kept) l W (z .narrow) (z .widths) (z .tall) (z .cut) (z .parts) (z .order) a w (z .wide) sum (image-by (z .drawn)) y
     (omega (arith, h, k .kept .height)))
 
 pub keeps-other-cells : KeepsOtherCells
 keeps-other-cells = record {
-  cells = λ t y x0 n a o c. keeps-cells t y x0 n a o (draw-equation t y x0 n a o c);
-  lengths = λ t y x0 n a o c. keeps-lengths t y x0 n a o (draw-equation t y x0 n a o c);
+  cells = λ t s y x0 n a o c. keeps-cells t s y x0 n a o (draw-equation t s y x0 n a o c);
+  lengths = λ t s y x0 n a o c. keeps-lengths t s y x0 n a o (draw-equation t s y x0 n a o c);
 }
 
 row-updates : RowUpdates
-row-updates d i segments t k y W a w sum z =
-    let exact = pictures.row-updates (built-by (k .done)) (k .kept) W (z .narrow) y (z .in-image) (z .widths) (z .cut) (z .parts) (z .order) a w (z .wide) sum (row-by (z .drawn)) in
-    let most = pictures.row-updates-most (built-by (k .done)) (k .kept) W (z .narrow) y (z .in-image) (z .widths) (z .cut) (z .parts) (z .order) a w (z .wide) sum (row-by (z .drawn)) in
+row-updates d i segments owners t s k l y W a w sum z =
+    let exact = pictures.row-updates (built-by (k .done)) (k .kept) l W (z .narrow) y (z .in-image) (z .widths) (z .cut) (z .parts) (z .order) a w (z .wide) sum (row-by (z .drawn)) in
+    let most = pictures.row-updates-most (built-by (k .done)) (k .kept) l W (z .narrow) y (z .in-image) (z .widths) (z .cut) (z .parts) (z .order) a w (z .wide) sum (row-by (z .drawn)) in
     (rw (kept-are k) exact, most)
 
 image-updates : ImageUpdates
-image-updates d i segments t k W a w sum z =
-    let exact = pictures.image-updates (built-by (k .done)) (k .kept) W (z .narrow) (z .widths) (z .tall) (z .cut) (z .parts) (z .order) a w (z .wide) sum (image-by (z .drawn)) in
-    let most = pictures.image-updates-most (built-by (k .done)) (k .kept) W (z .narrow) (z .widths) (z .tall) (z .cut) (z .parts) (z .order) a w (z .wide) sum (image-by (z .drawn)) in
-    let same : sum ≡ imagePairs segments W 0 (t .height) = rw (kept-are k) exact in
-    (same ∙ ap (imagePairs segments W 0) (sym (k .kept .height)), subst (λ (n : ℕ). sum ≤ mostPairs t W 0 n) (sym (k .kept .height)) most)
+image-updates d i segments owners t s k l W a w sum z =
+    let exact = pictures.image-updates (built-by (k .done)) (k .kept) l W (z .narrow) (z .widths) (z .tall) (z .cut) (z .parts) (z .order) a w (z .wide) sum (image-by (z .drawn)) in
+    let most = pictures.image-updates-most (built-by (k .done)) (k .kept) l W (z .narrow) (z .widths) (z .tall) (z .cut) (z .parts) (z .order) a w (z .wide) sum (image-by (z .drawn)) in
+    let same : sum ≡ imagePairs (notHidden s owners segments) W 0 (t .height) = rw (kept-are k) exact in
+    (same ∙ ap (imagePairs (notHidden s owners segments) W 0) (sym (k .kept .height)), subst (λ (n : ℕ). sum ≤ mostPairs t s W 0 n) (sym (k .kept .height)) most)
 
 pub updates-sum : UpdatesSum
 updates-sum = record { row = row-updates; image = image-updates }
+
+-- a picture fixes the pixels
+same-picture : (own others : List Segment) (y : ℕ) (a w z : drawing.Channels) → own ≡ others → RowPicture own y a w → RowPicture others y a z → w ≡ z
+same-picture own others y a w z e p q =
+    same-channels w z
+    (p .channel0 ∙ ap (λ (l : List Segment). edit (pixelOf 0 l y) (a .r0)) e ∙ sym (q .channel0))
+    (p .channel1 ∙ ap (λ (l : List Segment). edit (pixelOf 1 l y) (a .r1)) e ∙ sym (q .channel1))
+    (p .channel2 ∙ ap (λ (l : List Segment). edit (pixelOf 2 l y) (a .r2)) e ∙ sym (q .channel2))
+  where
+    same-channels : (w z : drawing.Channels) → w .r0 ≡ z .r0 → w .r1 ≡ z .r1 → w .r2 ≡ z .r2 → w ≡ z
+    same-channels w z f g h =
+        ap (λ (l : List Float). drawing.three l (w .r1) (w .r2)) f ∙ ap (λ (l : List Float). drawing.three (z .r0) l (w .r2)) g ∙ ap (λ (l : List Float). drawing.three (z .r0) (z .r1) l) h
+
+pub nothing-stale : NothingStale
+nothing-stale = record {
+  row = λ d i segments owners t u s r k l m n agree y W a w z sum total p q.
+      let e = kept-not-hidden l n agree in (
+        same-picture _ _ y a w z e (row-in-parts d i segments owners t s k l y W a w sum p) (row-in-parts d i segments owners u r m n y W a z total q),
+        row-updates d i segments owners t s k l y W a w sum p .0 ∙ ap (λ (own : List Segment). rowPairs own W y) e ∙ sym (row-updates d i segments owners u r m n y W a z total q .0),
+      );
+  image = λ d i segments owners t u s r k l m n agree W a w z sum total p q.
+      let e = kept-not-hidden l n agree in (
+        λ y h. same-picture _ _ y (a y) (w y) (z y) e (image-in-parts d i segments owners t s k l W a w sum p y h) (image-in-parts d i segments owners u r m n W a z total q y h),
+        image-updates d i segments owners t s k l W a w sum p .0 ∙ ap (λ (own : List Segment). imagePairs own W 0 (i .height)) e ∙ sym (image-updates d i segments owners u r m n W a z total q .0),
+      );
+}
 
 -- ---- an equation determines its outcome
 
@@ -252,8 +283,8 @@ one-outcome = record {
   write = λ ns ss ds cs n configured pixels room o q a b.
       write-equation ns ss ds cs n configured pixels room o a ∙ sym (write-equation ns ss ds cs n configured pixels room q b);
   build = λ d i r o q a b. build-equation d i r o a ∙ sym (build-equation d i r q b);
-  draw = λ t y x0 n z o q a b. draw-equation t y x0 n z o a ∙ sym (draw-equation t y x0 n z q b);
-  reach = λ t y W o q a b. reach-equation t y W o a ∙ sym (reach-equation t y W q b);
+  draw = λ t s y x0 n z o q a b. draw-equation t s y x0 n z o a ∙ sym (draw-equation t s y x0 n z q b);
+  reach = λ t s y W o q a b. reach-equation t s y W o a ∙ sym (reach-equation t s y W q b);
   ln = λ x o q a b. ln-equation x o a ∙ sym (ln-equation x q b);
 }
 

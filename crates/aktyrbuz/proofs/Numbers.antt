@@ -14,12 +14,14 @@ use Rattle.writer.specs.Write as Write
 use Rattle.writer.specs.declared.WriteAnswer.{WriteAnswer}
 use Rattle.table.specs.Table as Build
 use Rattle.table.specs.declared.BuildAnswer.{BuildAnswer}
+use Rattle.desks.specs.Hide as Hide
+use Rattle.desks.specs.declared.HideAnswer.{HideAnswer}
 use Rattle.draw.specs.Draw as Draw
 use Rattle.hull.specs.Reach as Reach
 use Rattle.draw.specs.declared.DrawAnswer.{DrawAnswer}
 use Rattle.hull.specs.declared.ReachAnswer.{ReachAnswer}
 use Rattle.aktyrbuz.specs.declared.Told.{Told}
-use Rattle.aktyrbuz.specs.Exported.{signedOf, toldIn, toldRead, toldWrite, toldBuild, toldDraw, toldReach, readLeaves, readExport, writeLeaves, writeExport, buildLeaves, buildExport, drawLeaves, drawExport, reachLeaves, reachExport}
+use Rattle.aktyrbuz.specs.Exported.{signedOf, toldIn, toldRead, toldWrite, toldBuild, toldDraw, toldReach, toldHide, readLeaves, readExport, writeLeaves, writeExport, buildLeaves, buildExport, drawLeaves, drawExport, reachLeaves, reachExport, hideLeaves, hideExport}
 
 pub signed-back : (n : ℕ) → toZ w64 (ofZ w64 (signedOf n)) ≡ signedOf n
 signed-back n = toZ-ofZ {w = w64} {z = signedOf n} (record { sfits = omega arith })
@@ -48,5 +50,10 @@ pub reach-exported : {o : Reach.ReachOutcome} (r : ReachAnswer) (t : Told) (five
     → Reach.tells r ≡ o → t ≡ toldReach r → five ≡ toldIn t
     → reachLeaves (t .number) five ≡ reachExport o
 reach-exported r t five p q s = rw (← p, s, q)
+
+pub hide-exported : {o : Hide.HideOutcome} (r : HideAnswer) (t : Told) (five : List ℤ) (bits : List ℕ)
+    → Hide.leaves r bits ≡ o → t ≡ toldHide r → five ≡ toldIn t
+    → hideLeaves (t .number) five bits ≡ hideExport o
+hide-exported r t five bits p q s = rw (← p, s, q)
 
 -- Assumes nothing.

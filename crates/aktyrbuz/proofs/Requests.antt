@@ -2,7 +2,7 @@
 use mathlib.Core.Path.{_≡_, sym, ap, _∙_, refl, subst}
 use mathlib.Core.Logic.{⊎-elim, inl, inr, _↔_}
 use mathlib.Core.List.{List, []}
-use Prim.Native.Nat.{ℕ, _≤_, _<_, _+_, suc, _-_, _^_}
+use Prim.Native.Nat.{ℕ, _≤_, _<_, _+_, suc, _-_, _^_, _*_}
 use native.Mathlib.Nat.{zero-add, not-le-of-lt}
 use native.Mathlib.Omega.{arith}
 use lib.ListN.{length, getD, take, replicate, List·getD-append}
@@ -14,31 +14,44 @@ use Rattle.segments.specs.Ranges.{hasRow, hasColumn, rowEnd, columnEnd}
 use Rattle.rows.specs.Rows.{inRow}
 use Rattle.shade.proofs.Edits.{lt-or-ge}
 use Rattle.table.specs.Table.{Setting, BuildRooms, BuildOutcome, givenOf, zeros, padded, buildOf}
-use Rattle.checks.specs.Tables.{Table, rowOf}
+use Rattle.desks.specs.Desks.{Sight, bitOf, hiddenIn}
+use Rattle.desks.specs.Agree.{Agree}
+use Rattle.desks.specs.Hide.{HideOutcome, HideRefusal, hideOf}
+use Rattle.desks.specs.Hide as hide-table
+use Rattle.desks.specs.declared.HideAnswer.{HideAnswer}
+use Rattle.desks.proofs.Shown.{nothing-hidden}
+use Rattle.desks.proofs.Hides.{Way, no-desk, no-byte, one-bit, way, hide-refused, hide-done, hide-place, hide-refused-exactly, hide-length, hide-sets, hide-keeps, hides-length, hides-keep}
+use Rattle.desks.proofs.Hides as hiding
+use Rattle.checks.specs.Tables.{Table, rowOf, shownOf}
 use Rattle.checks.specs.declared.Verdict.{Verdict}
 use Rattle.checks.specs.declared.Verdict.the-variants.{Fine, Fault}
-use Rattle.checks.proofs.Refusals.{counts-fit, row-fine}
+use Rattle.checks.proofs.Entries.{and-left, and-right}
+use Rattle.checks.proofs.Refusals.{counts-fit-for, row-fine-for}
 use Rattle.draw.specs.Draw.{Channels, DrawOutcome, updates, judgeOf, outcome, drawOf}
+use Rattle.draw.proofs.Alike.{whole-row}
 use Rattle.draw.specs.Keeps.{Updates}
 use Rattle.draw.specs.Parts.{Whole}
 use Rattle.draw.specs.declared.DrawAnswer.{DrawAnswer}
 use Rattle.draw.proofs.Keeps.{whole-keeps, updated-counts}
 use Rattle.hull.specs.Reach.{touched, ReachOutcome}
+use Rattle.hull.proofs.Alike.{whole-reach}
 use Rattle.hull.proofs.Hulls.{Least, one-less, Passing, touched-by, touched-if}
 use Rattle.hull.proofs.Reaches.{PassedReach, reached}
-use Rattle.picture.specs.Picture.{Lists, Found}
-use Rattle.picture.proofs.Keeping.{kept-count, kept-is, kept-lists}
-use Rattle.aktyrbuz.specs.Calls.{KeptTable, RowRun, BuildDone}
-use Rattle.aktyrbuz.specs.Requests.{Reaches, InReach, NoReach, HasSegment, OutsideReachUntouched, BothEnds, ReachEndsUpdated, ReachEmptyExactly, LeftEdgeReached, SegmentsNear, TablesNear, Beyond, RowIs, ColumnIs, Clear, DrawingsNear, OwnersOf, OwnersLeft, OwnersAscend, SplineOwns, OwnerIsSpline, NoOwner, SkippedHasNone, NumbersByKind, FaintCounted, FaintEnds, FaintByKind, FileReadBack, FileWrittenBack, OneFile, TraceReadCodes, TraceWriteCodes, TraceOneOutcome, NegativeFirstStart}
+use Rattle.picture.specs.Picture.{Lists, Found, RowPicture, rowPairs, imagePairs}
+use Rattle.picture.specs.Sights.{hides, KeptSight}
+use Rattle.picture.proofs.Sights.{none-hidden}
+use Rattle.picture.proofs.Keeping.{kept-count, kept-is, kept-owner, owned-for, shown-lists}
+use Rattle.aktyrbuz.specs.Calls.{KeptTable, RowRun, BuildDone, DrawCall, ReachCall, HideCall, HideCalls, withBits}
+use Rattle.aktyrbuz.specs.Requests.{Reaches, InReach, NoReach, HasSegment, OutsideReachUntouched, BothEnds, ReachEndsUpdated, ReachEmptyExactly, LeftEdgeReached, SegmentsNear, TablesNear, Beyond, RowIs, ColumnIs, Clear, DrawingsNear, OwnersOf, OwnersLeft, OwnersAscend, SplineOwns, OwnerIsSpline, NoOwner, SkippedHasNone, NumbersByKind, FaintCounted, FaintEnds, FaintByKind, FileReadBack, FileWrittenBack, OneFile, TraceReadCodes, TraceWriteCodes, TraceOneOutcome, NegativeFirstStart, DesksApart, OtherDeskUnseen, OwnBitsAlone, HideChangesOneBit, HideCodes, HideOneOutcome, BuiltIsLent, AsWithoutDesks}
 use Rattle.aktyrbuz.proofs.Readings.{starred-readings}
-use Rattle.aktyrbuz.proofs.Calls.{draw-equation, reach-equation, built-by, kept-are, row-by, build-equation}
-use mathlib.Core.Bool.{Bool, true, false, true≢false}
+use Rattle.aktyrbuz.proofs.Calls.{draw-equation, reach-equation, hide-equation, hide-told-by, built-by, kept-are, own-alike, row-by, hides-by, build-equation}
+use mathlib.Core.Bool.{Bool, true, false, true≢false, not, _&&_}
 use Rattle.near.proofs.Near.{rows-near, columns-near, rows-tight, columns-tight, every-finite}
-use Rattle.aktyrbuz.proofs.Demands.{once-ascending, keeps-other-cells, builds-the-table}
-use lib.Dec.{leb}
+use Rattle.aktyrbuz.proofs.Demands.{once-ascending, other-rows-dont-matter, keeps-other-cells, row-in-parts, image-in-parts, updates-sum, builds-the-table}
+use lib.Dec.{leb, eqb}
 use lib.Seq.{take-at}
 use lib.Ieee.{Float, nan, inf, fin, isNan, add, sub}
-use borrow.Author.Tests.{leb-true, leb-false}
+use borrow.Author.Tests.{lt-ltb, le-leb, leb-true, leb-false, eqb-true, eqb-false}
 use Rattle.painting.proofs.Segments.{spline-one, makes-owned}
 use Rattle.points.specs.Points.{eights}
 use Rattle.table.specs.Segments.{BuildMakes, doneWith}
@@ -70,6 +83,7 @@ use Rattle.trace_laws.proofs.Trips.{file-then-read, read-then-file, same-file}
 use Rattle.trace_laws.proofs.ReadWhen.{read-exactly, read-refused, read-else}
 use Rattle.trace_laws.proofs.WriteWhen.{write-exactly, write-refused, write-done}
 use Rattle.trace_laws.proofs.Readings.{small-outcome}
+use Rattle.codes.specs.declared.Code.{Code}
 use Rattle.aktyrbuz.specs.ListCodes.{ReadDone}
 use Rattle.aktyrbuz.specs.TraceCalls.{TraceReadCall, reads, TraceWriteCall, writes}
 use Rattle.draw.proofs.Parts as parts
@@ -150,30 +164,32 @@ negative-first-start o r = trace-read-equation _ _ o r ∙ small-outcome
 -- ---- (iii) the reach of a row
 
 -- an answer that is done is the least range of the columns that drawing the row updates
-module _ {t : Table} {y W first past : ℕ} (r : Reaches t y W first past) where
-  answered : PassedReach t y W × Least (Passing (touched (t .segments) (rowOf t y)) W) (record { first = first; past = past })
-  answered = reached t y W (sym (ap (λ (o : ReachOutcome). o .answer) (reach-equation t y W (r .outcome) (r .called))) ∙ r .done)
+module _ {t : Table} {s : Sight} {y W first past : ℕ} (r : Reaches t s y W first past) where
+  answered : PassedReach t s y W × Least (Passing (touched (t .segments) (shownOf t s y)) W) (record { first = first; past = past })
+  answered = reached t s y W (sym (ap (λ (o : ReachOutcome). o .answer) (reach-equation t s y W (r .outcome) (r .called))) ∙ r .done)
 
   -- a column is touched exactly when it is updated
-  updated : (x : ℕ) → Passing (touched (t .segments) (rowOf t y)) W x → Updates t y 0 W x
+  updated : (x : ℕ) → Passing (touched (t .segments) (shownOf t s y)) W x → Updates t s y 0 W x
   updated x p =
-      let u = touched-by (t .segments) (rowOf t y) x (p .1) in
+      let u = touched-by (t .segments) (shownOf t s y) x (p .1) in
       record { in-part = p .0; entry = u .entry; in-row = u .in-list; has = rw (zero-add x) (u .has) }
 
-  passing : (x : ℕ) → Updates t y 0 W x → Passing (touched (t .segments) (rowOf t y)) W x
-  passing x u = (u .in-part, touched-if (t .segments) (rowOf t y) x (u .entry) (u .in-row) (rw (zero-add x) at (u .has)))
+  passing : (x : ℕ) → Updates t s y 0 W x → Passing (touched (t .segments) (shownOf t s y)) W x
+  passing x u = (u .in-part, touched-if (t .segments) (shownOf t s y) x (u .entry) (u .in-row) (rw (zero-add x) at (u .has)))
 
-  reach-holds : (x : ℕ) → Updates t y 0 W x → InReach first past x
+  reach-holds : (x : ℕ) → Updates t s y 0 W x → InReach first past x
   reach-holds x u = answered .1 .holds x (passing x u)
 
-  reach-whole : {a w : Channels} {sum : ℕ} → RowRun t y W a w sum → Whole t y W a sum w
+  reach-whole : {a w : Channels} {sum : ℕ} → RowRun t s y W a w sum → Whole t s y W a sum w
   reach-whole {a} {w} {sum} z =
-      parts.row-in-parts t y W (counts-fit t (answered .0 .counts)) (z .in-image) (row-fine t y (answered .0 .row)) (z .narrow) (z .widths) (z .parts) a w sum (z .cut) (z .order) (z .wide) (row-by (z .drawn))
+      let l = answered .0 .lent in
+      parts.row-in-parts t s y W (lt-ltb (s .desk) 2 (l .desk)) (counts-fit-for t s (l .counts)) (le-leb (s .splines) (length (s .bits)) (l .bytes)) (z .in-image) (row-fine-for t s y (answered .0 .row))
+      (z .narrow) (z .widths) (z .parts) a w sum (z .cut) (z .order) (z .wide) (row-by (z .drawn))
 
   nothing : past ≤ first → NoReach first past
   nothing h = let e = answered .1 .empty h in (ap (λ (q : Range). q .first) e, ap (λ (q : Range). q .past) e)
 
-  both-ends : (NoReach first past → ⊥) → BothEnds (Updates t y 0 W) W first past
+  both-ends : (NoReach first past → ⊥) → BothEnds (Updates t s y 0 W) W first past
   both-ends some =
       ⊎-elim
       (λ h.
@@ -190,16 +206,20 @@ module _ {t : Table} {y W first past : ℕ} (r : Reaches t y W first past) where
       (λ h. absurd (some (nothing h)))
       (lt-or-ge first past)
 
-  none-updated : NoReach first past → (x : ℕ) → Updates t y 0 W x → ⊥
+  none-updated : NoReach first past → (x : ℕ) → Updates t s y 0 W x → ⊥
   none-updated e x u = omega (arith, e .1, reach-holds x u .1)
 
-  no-reach : ((x : ℕ) → Updates t y 0 W x → ⊥) → NoReach first past
+  no-reach : ((x : ℕ) → Updates t s y 0 W x → ⊥) → NoReach first past
   no-reach f = ⊎-elim (λ h. absurd (f first (updated first (answered .1 .begins h)))) nothing (lt-or-ge first past)
 
--- in a kept table, the columns that are updated are those of the description's segments that have the row
-module _ {d : Description} {i : Setting} {segments : List Segment} {t : Table} (k : KeptTable d i segments t) {y : ℕ} (l : y < t .height) where
-  row-lists : Lists (λ j. inRow (t .segments) j y) (t .segmentCount) (rowOf t y)
-  row-lists = kept-lists (built-by (k .done)) (k .kept) y l
+not-true : (b : Bool) → not b ≡ true → b ≡ false
+not-true true h = sym h
+not-true false h = refl
+
+-- in a kept table, the columns that are updated are those of the description's segments that have the row and are not hidden for the desk
+module _ {d : Description} {i : Setting} {segments : List Segment} {owners : List ℕ} {t : Table} {s : Sight} (k : KeptTable d i segments t) (z : KeptSight d i segments owners s) {y : ℕ} (l : y < t .height) where
+  row-shows : Lists (λ j. inRow (t .segments) j y && not (hiddenIn s j)) (t .segmentCount) (shownOf t s y)
+  row-shows = shown-lists (built-by (k .done)) (k .kept) z y l
 
   segment-is : (j : ℕ) → j < t .segmentCount → segmentAt (t .segments) j ≡ getD segments j (segmentAt [] 0)
   segment-is j h = kept-is (built-by (k .done)) (k .kept) j (segmentAt [] 0) h ∙ ap (λ (own : List Segment). getD own j (segmentAt [] 0)) (sym (kept-are k))
@@ -207,53 +227,58 @@ module _ {d : Description} {i : Setting} {segments : List Segment} {t : Table} (
   how-many : t .segmentCount ≡ length segments
   how-many = kept-count (built-by (k .done)) (k .kept) ∙ ap length (sym (kept-are k))
 
-  has-segment : {W : ℕ} (x : ℕ) → Updates t y 0 W x → HasSegment segments y x
+  -- a segment is hidden as its owner is
+  hidden-is : (j : ℕ) → j < t .segmentCount → hiddenIn s j ≡ hides s (getD owners j 0)
+  hidden-is j h = ap (hides s) (kept-owner (built-by (k .done)) (k .kept) z j h)
+
+  has-segment : {W : ℕ} (x : ℕ) → Updates t s y 0 W x → HasSegment segments owners s y x
   has-segment x u =
-      let j = getD (rowOf t y) (u .entry) 0 in
-      let p = row-lists .passes (u .entry) (u .in-row) in
+      let j = getD (shownOf t s y) (u .entry) 0 in
+      let p = row-shows .passes (u .entry) (u .in-row) in
       let is = segment-is j (p .0) in
       record {
         number = j;
         listed = omega (arith, p .0, how-many);
-        row = ap (λ (s : Segment). hasRow s y) (sym is) ∙ p .1;
-        column = ap (λ (s : Segment). hasColumn s x) (sym is) ∙ (rw (zero-add x) at (u .has));
+        seen = sym (hidden-is j (p .0)) ∙ not-true (hiddenIn s j) (and-right (inRow (t .segments) j y) (not (hiddenIn s j)) (p .1));
+        row = ap (λ (m : Segment). hasRow m y) (sym is) ∙ and-left (inRow (t .segments) j y) (not (hiddenIn s j)) (p .1);
+        column = ap (λ (m : Segment). hasColumn m x) (sym is) ∙ (rw (zero-add x) at (u .has));
       }
 
-  is-updated : {W : ℕ} (x : ℕ) → x < W → HasSegment segments y x → Updates t y 0 W x
-  is-updated x h s =
-      let n : s .number < t .segmentCount = omega (arith, s .listed, how-many) in
-      let is = segment-is (s .number) n in
-      let f = row-lists .complete (s .number) n (ap (λ (m : Segment). hasRow m y) is ∙ s .row) in
+  is-updated : {W : ℕ} (x : ℕ) → x < W → HasSegment segments owners s y x → Updates t s y 0 W x
+  is-updated x h m =
+      let n : m .number < t .segmentCount = omega (arith, m .listed, how-many) in
+      let is = segment-is (m .number) n in
+      let f = row-shows .complete (m .number) n (rw (is, m .row, hidden-is (m .number) n, m .seen)) in
       record {
         in-part = h;
         entry = f .index;
         in-row = f .in-row;
-        has = rw (zero-add x, f .is) (ap (λ (m : Segment). hasColumn m x) is ∙ s .column);
+        has = rw (zero-add x, f .is) (ap (λ (v : Segment). hasColumn v x) is ∙ m .column);
       }
 
 pub outside-reach-untouched : OutsideReachUntouched
 outside-reach-untouched = record {
-  any = λ t y W first past r a w sum z x out.
-      let idle : Updates t y 0 W x → ⊥ = λ u. out (reach-holds r x u) in
+  any = λ t s y W first past r a w sum z x out.
+      let idle : Updates t s y 0 W x → ⊥ = λ u. out (reach-holds r x u) in
       (idle, whole-keeps (z .wide) (reach-whole r z) x idle);
-  built = λ d i segments t k y W first past r a w sum z x h out.
-      let idle : Updates t y 0 W x → ⊥ = λ u. out (reach-holds r x u) in
-      (λ s. idle (is-updated k (z .in-image) x h s), whole-keeps (z .wide) (reach-whole r z) x idle);
+  built = λ d i segments owners t s k l y W first past r a w sum z x h out.
+      let idle : Updates t s y 0 W x → ⊥ = λ u. out (reach-holds r x u) in
+      (λ m. idle (is-updated k l (z .in-image) x h m), whole-keeps (z .wide) (reach-whole r z) x idle);
 }
 
 -- a drawing that is done counts its updates
-drawn-count : (t : Table) (y x0 n : ℕ) (a : Channels) (o : DrawOutcome) (m : ℕ) → o ≡ drawOf t y x0 n a → o .answer ≡ DrawAnswer.Done m → m ≡ updates (t .segments) x0 n (rowOf t y)
+drawn-count : (t : Table) (s : Sight) (y x0 n : ℕ) (a : Channels) (o : DrawOutcome) (m : ℕ) → o ≡ drawOf t s y x0 n a → o .answer ≡ DrawAnswer.Done m → m ≡ updates (t .segments) x0 n (shownOf t s y)
 unfolding drawOf
-drawn-count t y x0 n a o m e d = go (judgeOf t y x0 n (length (a .r0)) (length (a .r1)) (length (a .r2))) (sym d ∙ ap (λ (q : DrawOutcome). q .answer) e)
+drawn-count t s y x0 n a o m e d = go (judgeOf t s y x0 n (length (a .r0)) (length (a .r1)) (length (a .r2))) (sym d ∙ ap (λ (q : DrawOutcome). q .answer) e)
   where
-    go : (v : Verdict) → DrawAnswer.Done m ≡ outcome v t y x0 n a .answer → m ≡ updates (t .segments) x0 n (rowOf t y)
+    go : (v : Verdict) → DrawAnswer.Done m ≡ outcome v t s y x0 n a .answer → m ≡ updates (t .segments) x0 n (shownOf t s y)
     go (Fault c) f = let z : _≡_ {A = ℕ} 0 1 = cc in absurd (omega (arith, z))
     go Fine f = cc
 
 pub reach-ends-updated : ReachEndsUpdated
 reach-ends-updated = record {
-  any = λ t y W first past r some. both-ends r some;
-  built = λ d i segments t k y W first past r some.
+  any = λ t s y W first past r some. both-ends r some;
+  built = λ d i segments owners t s k l y W first past r some.
       let b = both-ends r some in
       let in-image = answered r .0 .in-image in
       record {
@@ -261,23 +286,23 @@ reach-ends-updated = record {
         ends = b .ends;
         ordered = b .ordered;
         inside = b .inside;
-        at-first = has-segment k in-image first (b .at-first);
-        at-last = has-segment k in-image (b .last) (b .at-last);
+        at-first = has-segment k l in-image first (b .at-first);
+        at-last = has-segment k l in-image (b .last) (b .at-last);
       };
-  counted = λ t y W x u a o n c e. rw (drawn-count t y x 1 a o n (draw-equation t y x 1 a o c) e) (updated-counts t y x W u);
+  counted = λ t s y W x u a o n c e. rw (drawn-count t s y x 1 a o n (draw-equation t s y x 1 a o c) e) (updated-counts t s y x W u);
 }
 
 pub reach-empty-exactly : ReachEmptyExactly
 reach-empty-exactly = record {
-  any = λ t y W first past r. (none-updated r, no-reach r);
-  built = λ d i segments t k y W first past r.
+  any = λ t s y W first past r. (none-updated r, no-reach r);
+  built = λ d i segments owners t s k l y W first past r.
       let in-image = answered r .0 .in-image in
-      (λ e x h s. none-updated r e x (is-updated k in-image x h s), λ f. no-reach r (λ x u. f x (u .in-part) (has-segment k in-image x u)));
+      (λ e x h m. none-updated r e x (is-updated k l in-image x h m), λ f. no-reach r (λ x u. f x (u .in-part) (has-segment k l in-image x u)));
 }
 
 pub left-edge-reached : LeftEdgeReached
-left-edge-reached t y W first past r w j l cy e =
-    reach-holds r 0 (record { in-part = w; entry = j; in-row = l; has = ap (λ (s : Segment). hasColumn s 0) e ∙ starred-readings .column-0 cy 0 })
+left-edge-reached t s y W first past r w j l cy e =
+    reach-holds r 0 (record { in-part = w; entry = j; in-row = l; has = ap (λ (m : Segment). hasColumn m 0) e ∙ starred-readings .column-0 cy 0 })
 
 -- ---- (v) the number of a segment's spline
 
@@ -355,6 +380,154 @@ skipped-has-none = record {
   no-deltas = λ d i r o s e estimate b k h z. no-deltas-skipped d (givenOf i) (i .high) k (made b .needs .passes) h z;
 }
 
+-- ---- (vi) two desks, one table
+
+drawn-apart : (t : Table) (s : Sight) (bits : List ℕ) → Agree s (withBits s bits) → (y x0 n : ℕ) (a : Channels) (o q : DrawOutcome)
+    → DrawCall t s y x0 n a o → DrawCall t (withBits s bits) y x0 n a q → o ≡ q
+drawn-apart t s bits agree y x0 n a o q = other-rows-dont-matter .draw t t s (withBits s bits) y (own-alike y t s bits agree) x0 n a o q
+
+reached-apart : (t : Table) (s : Sight) (bits : List ℕ) → Agree s (withBits s bits) → (y W : ℕ) (o q : ReachOutcome) → ReachCall t s y W o → ReachCall t (withBits s bits) y W q → o ≡ q
+reached-apart t s bits agree y W o q = other-rows-dont-matter .reach t t s (withBits s bits) y (own-alike y t s bits agree) W o q
+
+pub desks-apart : DesksApart
+desks-apart = record { draw = drawn-apart; reach = reached-apart }
+
+-- hides by another desk leave the desk's own bits
+hides-agree : (s : Sight) (other : ℕ) → (other ≡ s .desk → ⊥) → (bits : List ℕ) → HideCalls other (s .bits) bits → Agree s (withBits s bits)
+hides-agree s other apart bits run =
+    let as-many = hides-length (hides-by run) in
+    record {
+      desk = refl;
+      splines = refl;
+      lent = (λ h. omega (arith, h, as-many), λ h. omega (arith, h, as-many));
+      own-bits = record { own-bits = λ k l. sym (hides-keep (s .desk) (λ e. apart (sym e)) (hides-by run) k) };
+    }
+
+-- one hide of two byte slices of one length, whose bits of the desk are alike
+hidden-alike : (desk spline : ℕ) (hidden : Bool) (a b : List ℕ) → length b ≡ length a → ((k : ℕ) → bitOf desk (getD a k 0) ≡ bitOf desk (getD b k 0))
+    → (hideOf a desk spline hidden .answer ≡ hideOf b desk spline hidden .answer)
+    × ((k : ℕ) → bitOf desk (getD (hideOf a desk spline hidden .bits) k 0) ≡ bitOf desk (getD (hideOf b desk spline hidden .bits) k 0))
+hidden-alike desk spline hidden a b as-many same = go (way a desk spline hidden)
+  where
+    refused : {c : Code} {p : ℕ} → HideRefusal a desk spline c p → HideRefusal b desk spline c p
+        → (hideOf a desk spline hidden .answer ≡ hideOf b desk spline hidden .answer)
+        × ((k : ℕ) → bitOf desk (getD (hideOf a desk spline hidden .bits) k 0) ≡ bitOf desk (getD (hideOf b desk spline hidden .bits) k 0))
+    refused l m = rw (hide-refused a desk spline hidden l, hide-refused b desk spline hidden m) (refl, same)
+
+    sets : (k : ℕ) → desk < 2 → spline < length a → k ≡ spline → bitOf desk (getD (hideOf a desk spline hidden .bits) k 0) ≡ bitOf desk (getD (hideOf b desk spline hidden .bits) k 0)
+    sets k h l e = rw e (hide-sets a desk spline hidden h l ∙ sym (hide-sets b desk spline hidden h (omega (arith, l, as-many))))
+
+    keeps : (k : ℕ) → (k ≡ spline → desk ≡ desk → ⊥) → bitOf desk (getD (hideOf a desk spline hidden .bits) k 0) ≡ bitOf desk (getD (hideOf b desk spline hidden .bits) k 0)
+    keeps k other = hide-keeps a desk spline hidden k desk other ∙ same k ∙ sym (hide-keeps b desk spline hidden k desk other)
+
+    by : (k : ℕ) → desk < 2 → spline < length a → (t : Bool) → eqb k spline ≡ t → bitOf desk (getD (hideOf a desk spline hidden .bits) k 0) ≡ bitOf desk (getD (hideOf b desk spline hidden .bits) k 0)
+    by k h l true e = sets k h l (eqb-true k spline e)
+    by k h l false e = keeps k (λ q r. eqb-false k spline e q)
+
+    go : Way a desk spline hidden → (hideOf a desk spline hidden .answer ≡ hideOf b desk spline hidden .answer)
+        × ((k : ℕ) → bitOf desk (getD (hideOf a desk spline hidden .bits) k 0) ≡ bitOf desk (getD (hideOf b desk spline hidden .bits) k 0))
+    go (no-desk h) = refused (hide-table.desk h) (hide-table.desk h)
+    go (no-byte h l) = refused (hide-table.trace h l) (hide-table.trace h (omega (arith, l, as-many)))
+    go (one-bit h l) = (
+      ap (λ (u : HideOutcome). u .answer) (hide-done a desk spline hidden h l) ∙ sym (ap (λ (u : HideOutcome). u .answer) (hide-done b desk spline hidden h (omega (arith, l, as-many)))),
+      λ k. by k h l (eqb k spline) refl,
+    )
+
+pub other-desk-unseen : OtherDeskUnseen
+other-desk-unseen = record {
+  draw = λ t s other apart bits run. drawn-apart t s bits (hides-agree s other apart bits run);
+  reach = λ t s other apart bits run. reached-apart t s bits (hides-agree s other apart bits run);
+  hide = λ desk other apart a b run spline hidden o q c e.
+      rw (hide-equation a desk spline hidden o c, hide-equation b desk spline hidden q e)
+      (hidden-alike desk spline hidden a b (hides-length (hides-by run)) (λ k. sym (hides-keep desk (λ u. apart (sym u)) (hides-by run) k)));
+}
+
+pub own-bits-alone : OwnBitsAlone
+own-bits-alone desk splines a b la lb same spline hidden o q c e =
+    rw (hide-equation a desk spline hidden o c, hide-equation b desk spline hidden q e)
+    (⊎-elim
+    (λ h. hiding.own-bits-alone desk splines spline hidden a b la lb h same)
+    (λ h. record {
+      own-bits = λ k l.
+          let other : k ≡ spline → desk ≡ desk → ⊥ = λ u v. omega (arith, h, l, u) in
+          hide-keeps a desk spline hidden k desk other ∙ same .own-bits k l ∙ sym (hide-keeps b desk spline hidden k desk other);
+    })
+    (lt-or-ge spline splines))
+
+-- where hide is done, and only there, the desk is one of the two and the spline has a byte
+hide-when : (a : List ℕ) (desk spline : ℕ) (hidden : Bool) → (hideOf a desk spline hidden .answer ≡ HideAnswer.Done) ↔ ((desk < 2) × (spline < length a))
+hide-when a desk spline hidden =
+    (λ e. go e (way a desk spline hidden), λ h. ap (λ (u : HideOutcome). u .answer) (hide-done a desk spline hidden (h .0) (h .1)))
+  where
+    refused : {c : Code} {p : ℕ} → hideOf a desk spline hidden .answer ≡ HideAnswer.Done → HideRefusal a desk spline c p → ⊥
+    refused e l =
+        let g = sym (ap (λ (u : HideOutcome). u .answer) (hide-refused a desk spline hidden l)) ∙ e in
+        let z : _≡_ {A = ℕ} 0 1 = cc in
+        omega (arith, z)
+
+    go : hideOf a desk spline hidden .answer ≡ HideAnswer.Done → Way a desk spline hidden → (desk < 2) × (spline < length a)
+    go e (no-desk h) = absurd (refused e (hide-table.desk h))
+    go e (no-byte h l) = absurd (refused e (hide-table.trace h l))
+    go e (one-bit h l) = (h, l)
+
+pub hide-changes-one-bit : HideChangesOneBit
+hide-changes-one-bit = record {
+  asked = λ a desk spline hidden o c e.
+      let is = hide-equation a desk spline hidden o c in
+      let h = hide-when a desk spline hidden .0 (sym (ap (λ (u : HideOutcome). u .answer) is) ∙ e) in
+      rw is (hide-sets a desk spline hidden (h .0) (h .1));
+  others = λ a desk spline hidden o c k bit other. rw (hide-equation a desk spline hidden o c) (hide-keeps a desk spline hidden k bit (λ p q. other (p, q)));
+  as-many = λ a desk spline hidden o c. rw (hide-equation a desk spline hidden o c) (hide-length a desk spline hidden);
+  refused = λ a desk spline hidden o n p c e.
+      let is = hide-equation a desk spline hidden o c in
+      let l = hide-refused-exactly a desk spline hidden n p .0 (sym (ap (λ (u : HideOutcome). u .answer) is) ∙ e) in
+      ap (λ (u : HideOutcome). u .bits) (is ∙ hide-refused a desk spline hidden l);
+}
+
+pub hide-codes : HideCodes
+hide-codes = record {
+  exactly = λ a desk spline hidden o h c p. along (λ (u : HideOutcome). u .answer ≡ HideAnswer.Refused c p) (hide-equation a desk spline hidden o h) (hide-refused-exactly a desk spline hidden c p);
+  told = λ a desk spline hidden o h c p e.
+      let is = ap (λ (u : HideOutcome). u .answer) (hide-equation a desk spline hidden o h) in
+      let place : p ≡ 0 = hide-place a desk spline hidden (hide-refused-exactly a desk spline hidden c p .0 (sym is ∙ e)) in
+      ap (λ (u : HideOutcome). u .told) (hide-told-by a desk spline hidden o h) ∙ ap hide-table.toldOf (e ∙ ap (HideAnswer.Refused c) place);
+  done = λ a desk spline hidden o h. along (λ (u : HideOutcome). u .answer ≡ HideAnswer.Done) (hide-equation a desk spline hidden o h) (hide-when a desk spline hidden);
+}
+
+pub hide-one-outcome : HideOneOutcome
+hide-one-outcome a desk spline hidden o q c e = hide-equation a desk spline hidden o c ∙ sym (hide-equation a desk spline hidden q e)
+
+pub built-is-lent : BuiltIsLent
+built-is-lent d i r o n e estimate b segments owners m bits desk enough two =
+    let l = owners-left d i r o n e estimate b segments owners m in
+    record {
+      makes = m;
+      kept = ap (take (length owners)) (l .cells) ∙ take-at owners _ (length owners) refl;
+      splines = refl;
+      bytes = enough;
+      desk = two;
+    }
+
+pub as-without-desks : AsWithoutDesks
+as-without-desks = record {
+  draw = λ t s y x0 n a o none c. draw-equation t s y x0 n a o c ∙ whole-row t s y x0 n a none;
+  reach = λ t s y W o none c. reach-equation t s y W o c ∙ whole-reach t s y W none;
+  segments = λ d i segments owners s z none. none-hidden z none;
+  row = λ d i segments owners t s k z none y W a w sum run.
+      let e = none-hidden z none in
+      let g = nothing-hidden s (rowOf t y) none (owned-for (built-by (k .done)) (k .kept) z y (run .in-image)) in
+      let u = updates-sum .row d i segments owners t s k z y W a w sum run in (
+        subst (λ (own : List Segment). RowPicture own y a w) e (row-in-parts d i segments owners t s k z y W a w sum run),
+        u .0 ∙ ap (λ (own : List Segment). rowPairs own W y) e,
+        subst (λ (l : List ℕ). sum ≤ W * length l) g (u .1),
+      );
+  image = λ d i segments owners t s k z none W a w sum run.
+      let e = none-hidden z none in (
+        λ y h. subst (λ (own : List Segment). RowPicture own y (a y) (w y)) e (image-in-parts d i segments owners t s k z W a w sum run y h),
+        updates-sum .image d i segments owners t s k z W a w sum run .0 ∙ ap (λ (own : List Segment). imagePairs own W 0 (i .height)) e,
+      );
+}
+
 -- ---- (vii) why a segment sits at the corner
 
 pub numbers-by-kind : NumbersByKind
@@ -405,10 +578,6 @@ module _ (d : Description) (i : Setting) (segments : List Segment) (t : Table) (
   has : Found (rowOf t y) j → hasRow (segmentAt (t .segments) j) y ≡ true
   has = found-has (λ k. hasRow (segmentAt (t .segments) k) y) (t .segmentCount) (rowOf t y) j (once-ascending d i segments t kept y h)
 
-  not-both : (x : ℕ) → Clear t y x j → Found (rowOf t y) j → hasColumn (segmentAt (t .segments) j) x ≡ true → ⊥
-  not-both x (inl b) f e = no-row (segmentAt (t .segments) j) y b (has f)
-  not-both x (inr b) f e = no-column (segmentAt (t .segments) j) x b e
-
 pub tables-near : TablesNear
 tables-near d i segments t kept j named k c far edge =
     let near = rows-near (segmentAt (t .segments) j) k c far edge in
@@ -417,19 +586,35 @@ tables-near d i segments t kept j named k c far edge =
       outside = λ y h found. near .outside y (has d i segments t kept y j h found);
     }
 
+-- a pixel that is so far from segment j is not updated by it
+not-both : (t : Table) (y x j : ℕ) → Clear t y x j → hasRow (segmentAt (t .segments) j) y ≡ true → hasColumn (segmentAt (t .segments) j) x ≡ true → ⊥
+not-both t y x j (inl b) f e = no-row (segmentAt (t .segments) j) y b f
+not-both t y x j (inr b) f e = no-column (segmentAt (t .segments) j) x b e
+
+-- what is shown in a row has it and is not hidden
+shown-has : (t : Table) (s : Sight) (y j : ℕ) → (inRow (t .segments) j y && not (hiddenIn s j)) ≡ true → (hasRow (segmentAt (t .segments) j) y ≡ true) × (hiddenIn s j ≡ false)
+shown-has t s y j e = (and-left (inRow (t .segments) j y) (not (hiddenIn s j)) e, not-true (hiddenIn s j) (and-right (inRow (t .segments) j y) (not (hiddenIn s j)) e))
+
 pub drawings-near : DrawingsNear
 drawings-near = record {
-  inside = λ d i segments t kept y x0 n x j h in-part named row column.
-      let f = tables-near d i segments t kept j named (row .k) (row .c) (row .d) (row .edge) .inside y h (row .is) in
+  inside = λ d i segments owners t s kept z y x0 n x j h in-part named seen row column.
+      let near = rows-near (segmentAt (t .segments) j) (row .k) (row .c) (row .d) (row .edge) .inside y (row .is) in
+      let l : y < t .height = omega (arith, h, kept .kept .height) in
+      let f = row-shows kept z l .complete j named (rw (near, seen)) in
       let e = columns-near (segmentAt (t .segments) j) (column .k) (column .c) (column .d) (column .edge) (column .clear) .inside (x0 + x) (column .is) in
       record { updates = record { in-part = in-part; entry = f .index; in-row = f .in-row; has = rw (f .is) e }; by = f .is };
-  outside = λ d i segments t kept y x0 n x j h clear u.
-      not-both d i segments t kept y j h (x0 + x) clear (record { index = u .updates .entry; in-row = u .updates .in-row; is = u .by }) (rw (u .by) at (u .updates .has));
-  kept = λ d i segments t kept y x0 n a o h called x clear.
-      keeps-other-cells .cells t y x0 n a o called x (λ u.
-      let j = getD (rowOf t y) (u .entry) 0 in
-      let named = once-ascending d i segments t kept y h .passes (u .entry) (u .in-row) .0 in
-      not-both d i segments t kept y j h (x0 + x) (clear j named) (record { index = u .entry; in-row = u .in-row; is = refl }) (u .has));
+  outside = λ d i segments owners t s kept z y x0 n x j h clear u.
+      let l : y < t .height = omega (arith, h, kept .kept .height) in
+      let p = row-shows kept z l .passes (u .updates .entry) (u .updates .in-row) in
+      let q = shown-has t s y (getD (shownOf t s y) (u .updates .entry) 0) (p .1) in
+      not-both t y (x0 + x) j clear (rw (u .by) at (q .0)) (rw (u .by) at (u .updates .has));
+  kept = λ d i segments owners t s kept z y x0 n a o h called x clear.
+      let l : y < t .height = omega (arith, h, kept .kept .height) in
+      keeps-other-cells .cells t s y x0 n a o called x (λ u.
+      let j = getD (shownOf t s y) (u .entry) 0 in
+      let p = row-shows kept z l .passes (u .entry) (u .in-row) in
+      let q = shown-has t s y j (p .1) in
+      not-both t y (x0 + x) j (clear j (p .0) (q .1)) (q .0) (u .has));
 }
 
 -- Assumes nothing.

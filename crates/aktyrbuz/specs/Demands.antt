@@ -40,9 +40,12 @@ use Rattle.table.specs.Segments.{Makes, BuildMakes, NeedsMet, doneWith, NoLess,
 use Rattle.table.specs.Refusals.{BuildRefusal}
 use Rattle.table.specs.declared.BuildAnswer.{BuildAnswer}
 use Rattle.picture.specs.Picture.{BuiltTable, Lists, rowPairs, imagePairs, RowPicture}
-use Rattle.draw.specs.Draw.{Table, rowOf, Channels, DrawOutcome, drawOf}
+use Rattle.picture.specs.Sights.{notHidden, KeptSight}
+use Rattle.desks.specs.Desks.{Sight}
+use Rattle.desks.specs.Agree.{Agree}
+use Rattle.draw.specs.Draw.{Table, rowOf, shownOf, Channels, DrawOutcome, drawOf}
 use Rattle.checks.specs.Refusals.{SpanFits}
-use Rattle.checks.specs.Alike.{AlikeIn}
+use Rattle.checks.specs.Alike.{AlikeFor}
 use Rattle.draw.specs.Refusals.{DrawRefusal}
 use Rattle.draw.specs.Keeps.{Updates, SameCell, SameLengths}
 use Rattle.draw.specs.Image.{mostPairs}
@@ -101,13 +104,13 @@ pub record EnoughRoomIsDone : Type 0 where
   pub more : (d : Description) (i : Setting) (r r′ : building.BuildRooms) (o o′ : building.BuildOutcome) (s e estimate : ℕ) → NoLess r r′ → BuildDone d i r o s e estimate
       → BuildCall d i r′ o′ → SameTable (i .height) s e o o′
 
--- `draw` answers and leaves what `draw_segments` makes of the table and the channels, with the checks in their order
+-- `draw` answers and leaves what `draw_segments` makes of the channels and of those of the row's segments that are not hidden for the desk, with the checks in their order
 abbrev pub DrawsAsSplineRs : Type 0
-DrawsAsSplineRs = (t : Table) (y x0 n : ℕ) (a : Channels) (o : DrawOutcome) → DrawCall t y x0 n a o → o ≡ drawOf t y x0 n a
+DrawsAsSplineRs = (t : Table) (s : Sight) (y x0 n : ℕ) (a : Channels) (o : DrawOutcome) → DrawCall t s y x0 n a o → o ≡ drawOf t s y x0 n a
 
--- `reach` answers the hull of the columns that drawing the row would touch, with the checks in their order
+-- `reach` answers the hull of the columns that drawing the row for the desk would touch, with the checks in their order
 abbrev pub ReachesByTheRule : Type 0
-ReachesByTheRule = (t : Table) (y W : ℕ) (o : ReachOutcome) → ReachCall t y W o → o ≡ reachOf t y W
+ReachesByTheRule = (t : Table) (s : Sight) (y W : ℕ) (o : ReachOutcome) → ReachCall t s y W o → o ≡ reachOf t s y W
 
 -- `ln` is the scope's fixed sequence of steps
 abbrev pub LogsByItsSteps : Type 0
@@ -148,19 +151,19 @@ pub record RefusedLeavesZero : Type 0 where
 -- a refused drawing writes nothing
 abbrev pub RefusedDrawsNothing : Type 0
 RefusedDrawsNothing =
-    (t : Table) (y x0 n : ℕ) (a : Channels) (o : DrawOutcome) (c : Code) (p : ℕ) → DrawCall t y x0 n a o → o .answer ≡ DrawAnswer.Refused c p → o .channels ≡ a
+    (t : Table) (s : Sight) (y x0 n : ℕ) (a : Channels) (o : DrawOutcome) (c : Code) (p : ℕ) → DrawCall t s y x0 n a o → o .answer ≡ DrawAnswer.Refused c p → o .channels ≡ a
 
 -- a code of drawing is given exactly when its table of codes says, at place 0 and with no update counted
 pub record DrawCodes : Type 0 where
-  pub exactly : (t : Table) (y x0 n : ℕ) (a : Channels) (o : DrawOutcome) → DrawCall t y x0 n a o → (c : Code) (p : ℕ)
-      → (o .answer ≡ DrawAnswer.Refused c p) ↔ DrawRefusal t y x0 n (length (a .r0)) (length (a .r1)) (length (a .r2)) c p
-  pub told : (t : Table) (y x0 n : ℕ) (a : Channels) (o : DrawOutcome) → DrawCall t y x0 n a o → (c : Code) (p : ℕ)
+  pub exactly : (t : Table) (s : Sight) (y x0 n : ℕ) (a : Channels) (o : DrawOutcome) → DrawCall t s y x0 n a o → (c : Code) (p : ℕ)
+      → (o .answer ≡ DrawAnswer.Refused c p) ↔ DrawRefusal t s y x0 n (length (a .r0)) (length (a .r1)) (length (a .r2)) c p
+  pub told : (t : Table) (s : Sight) (y x0 n : ℕ) (a : Channels) (o : DrawOutcome) → DrawCall t s y x0 n a o → (c : Code) (p : ℕ)
       → o .answer ≡ DrawAnswer.Refused c p → o .told ≡ record { number = numberOf c; place = 0; updates = 0 }
 
 -- and a code of reach, with both columns 0
 pub record ReachCodes : Type 0 where
-  pub exactly : (t : Table) (y W : ℕ) (o : ReachOutcome) → ReachCall t y W o → (c : Code) (p : ℕ) → (o .answer ≡ ReachAnswer.Refused c p) ↔ ReachRefusal t y W c p
-  pub told : (t : Table) (y W : ℕ) (o : ReachOutcome) → ReachCall t y W o → (c : Code) (p : ℕ)
+  pub exactly : (t : Table) (s : Sight) (y W : ℕ) (o : ReachOutcome) → ReachCall t s y W o → (c : Code) (p : ℕ) → (o .answer ≡ ReachAnswer.Refused c p) ↔ ReachRefusal t s y W c p
+  pub told : (t : Table) (s : Sight) (y W : ℕ) (o : ReachOutcome) → ReachCall t s y W o → (c : Code) (p : ℕ)
       → o .answer ≡ ReachAnswer.Refused c p → o .told ≡ record { number = numberOf c; place = 0; first = 0; past = 0 }
 
 -- a code of building is given exactly when its table of codes says, with number and place, and with counts of 0
@@ -178,13 +181,13 @@ pub record CodesExactly : Type 0 where
   pub draw : DrawCodes
   pub reach : ReachCodes
 
--- a kept table is not refused: a part of any of its rows that lies within 2^23 columns and in the channels is drawn, and every row has its reach
+-- a kept table is not refused: for either desk, a part of any of its rows that lies within 2^23 columns and in the channels is drawn, and every row has its reach
 pub record BuiltIsDrawn : Type 0 where
-  pub draw : (d : Description) (i : Setting) (segments : List Segment) (t : Table) → KeptTable d i segments t
+  pub draw : (d : Description) (i : Setting) (segments : List Segment) (owners : List ℕ) (t : Table) (s : Sight) → KeptTable d i segments t → KeptSight d i segments owners s
       → (y x0 n : ℕ) (a : Channels) (o : DrawOutcome) → y < i .height → SpanFits x0 n (length (a .r0)) (length (a .r1)) (length (a .r2))
-      → DrawCall t y x0 n a o → o .answer ≡ DrawAnswer.Done (o .told .updates)
-  pub reach : (d : Description) (i : Setting) (segments : List Segment) (t : Table) → KeptTable d i segments t
-      → (y W : ℕ) (o : ReachOutcome) → y < i .height → W ≤ 2 ^ 23 → ReachCall t y W o → o .answer ≡ ReachAnswer.Done (o .told .first) (o .told .past)
+      → DrawCall t s y x0 n a o → o .answer ≡ DrawAnswer.Done (o .told .updates)
+  pub reach : (d : Description) (i : Setting) (segments : List Segment) (owners : List ℕ) (t : Table) (s : Sight) → KeptTable d i segments t → KeptSight d i segments owners s
+      → (y W : ℕ) (o : ReachOutcome) → y < i .height → W ≤ 2 ^ 23 → ReachCall t s y W o → o .answer ≡ ReachAnswer.Done (o .told .first) (o .told .past)
 
 -- ---- tables
 
@@ -194,46 +197,61 @@ OnceAscending =
     (d : Description) (i : Setting) (segments : List Segment) (t : Table) → KeptTable d i segments t → (y : ℕ) → y < i .height
     → Lists (λ k. hasRow (segmentAt (t .segments) k) y) (t .segmentCount) (rowOf t y)
 
--- other rows are not looked at: two tables that are alike in row y have one outcome of drawing it, and one reach
+-- other rows are not looked at, nor what stands behind the counts and the splines' bytes, nor a bit that is not the desk's: two tables that are alike in row y for the desk
+-- have one outcome of drawing it, and one reach
 pub record OtherRowsDontMatter : Type 0 where
-  pub draw : (t u : Table) (y : ℕ) → AlikeIn y t u → (x0 n : ℕ) (a : Channels) (o q : DrawOutcome) → DrawCall t y x0 n a o → DrawCall u y x0 n a q → o ≡ q
-  pub reach : (t u : Table) (y : ℕ) → AlikeIn y t u → (W : ℕ) (o q : ReachOutcome) → ReachCall t y W o → ReachCall u y W q → o ≡ q
+  pub draw : (t u : Table) (s r : Sight) (y : ℕ) → AlikeFor y t s u r → (x0 n : ℕ) (a : Channels) (o q : DrawOutcome) → DrawCall t s y x0 n a o → DrawCall u r y x0 n a q → o ≡ q
+  pub reach : (t u : Table) (s r : Sight) (y : ℕ) → AlikeFor y t s u r → (W : ℕ) (o q : ReachOutcome) → ReachCall t s y W o → ReachCall u r y W q → o ≡ q
 
 -- ---- pixels
 
--- after all parts of a row of a kept table, in any order, each pixel is its starting value with exactly the segments added, ascending, whose rows and columns have it
+-- The segments not hidden for the desk are `notHidden s owners segments`: a segment is left out where the desk's bit is set in the byte of its spline, told by its ninth field, the owner.
+
+-- after all parts of a row of a kept table, in any order, each pixel is its starting value with exactly the segments added, ascending, that are not hidden for the desk and whose rows
+-- and columns have it
 abbrev pub RowInParts : Type 0
 RowInParts =
-    (d : Description) (i : Setting) (segments : List Segment) (t : Table) → KeptTable d i segments t
-    → (y W : ℕ) (a w : Channels) (sum : ℕ) → RowRun t y W a w sum → RowPicture segments y a w
+    (d : Description) (i : Setting) (segments : List Segment) (owners : List ℕ) (t : Table) (s : Sight) → KeptTable d i segments t → KeptSight d i segments owners s
+    → (y W : ℕ) (a w : Channels) (sum : ℕ) → RowRun t s y W a w sum → RowPicture (notHidden s owners segments) y a w
 
 -- the same of every row of an image
 abbrev pub ImageInParts : Type 0
 ImageInParts =
-    (d : Description) (i : Setting) (segments : List Segment) (t : Table) → KeptTable d i segments t
-    → (W : ℕ) (a w : drawing.Image) (sum : ℕ) → ImageRun t W a w sum → (y : ℕ) → y < i .height → RowPicture segments y (a y) (w y)
+    (d : Description) (i : Setting) (segments : List Segment) (owners : List ℕ) (t : Table) (s : Sight) → KeptTable d i segments t → KeptSight d i segments owners s
+    → (W : ℕ) (a w : drawing.Image) (sum : ℕ) → ImageRun t s W a w sum → (y : ℕ) → y < i .height → RowPicture (notHidden s owners segments) y (a y) (w y)
 
 -- a call keeps every lent cell that it does not update, those behind the part too, and the lengths
 pub record KeepsOtherCells : Type 0 where
-  pub cells : (t : Table) (y x0 n : ℕ) (a : Channels) (o : DrawOutcome) → DrawCall t y x0 n a o → (k : ℕ) → (Updates t y x0 n k → ⊥) → SameCell k a (o .channels)
-  pub lengths : (t : Table) (y x0 n : ℕ) (a : Channels) (o : DrawOutcome) → DrawCall t y x0 n a o → SameLengths a (o .channels)
+  pub cells : (t : Table) (s : Sight) (y x0 n : ℕ) (a : Channels) (o : DrawOutcome) → DrawCall t s y x0 n a o → (k : ℕ) → (Updates t s y x0 n k → ⊥) → SameCell k a (o .channels)
+  pub lengths : (t : Table) (s : Sight) (y x0 n : ℕ) (a : Channels) (o : DrawOutcome) → DrawCall t s y x0 n a o → SameLengths a (o .channels)
 
--- the updates of a row sum to the pairs of a segment and a pixel that it has, at most the width times the row's entries
+-- the updates of a row sum to the pairs of a segment that is not hidden for the desk and a pixel that it has, at most the width times the row's entries that the desk is shown
 abbrev pub RowUpdates : Type 0
 RowUpdates =
-    (d : Description) (i : Setting) (segments : List Segment) (t : Table) → KeptTable d i segments t
-    → (y W : ℕ) (a w : Channels) (sum : ℕ) → RowRun t y W a w sum → (sum ≡ rowPairs segments W y) × (sum ≤ W * length (rowOf t y))
+    (d : Description) (i : Setting) (segments : List Segment) (owners : List ℕ) (t : Table) (s : Sight) → KeptTable d i segments t → KeptSight d i segments owners s
+    → (y W : ℕ) (a w : Channels) (sum : ℕ) → RowRun t s y W a w sum → (sum ≡ rowPairs (notHidden s owners segments) W y) × (sum ≤ W * length (shownOf t s y))
 
--- those of an image to the pairs of all its rows, at most the sum over the rows of the width times the row's entries
+-- those of an image to the pairs of all its rows, at most the sum over the rows of the width times the row's entries that the desk is shown
 abbrev pub ImageUpdates : Type 0
 ImageUpdates =
-    (d : Description) (i : Setting) (segments : List Segment) (t : Table) → KeptTable d i segments t
-    → (W : ℕ) (a w : drawing.Image) (sum : ℕ) → ImageRun t W a w sum → (sum ≡ imagePairs segments W 0 (i .height)) × (sum ≤ mostPairs t W 0 (i .height))
+    (d : Description) (i : Setting) (segments : List Segment) (owners : List ℕ) (t : Table) (s : Sight) → KeptTable d i segments t → KeptSight d i segments owners s
+    → (W : ℕ) (a w : drawing.Image) (sum : ℕ) → ImageRun t s W a w sum
+    → (sum ≡ imagePairs (notHidden s owners segments) W 0 (i .height)) × (sum ≤ mostPairs t s W 0 (i .height))
 
 -- both
 pub record UpdatesSum : Type 0 where
   pub row : RowUpdates
   pub image : ImageUpdates
+
+-- nothing that stood anywhere before changes any of this, the starting pixels and the desk's bits apart: two runs over tables that were kept of one description, with sights that agree
+-- in the desk's own bits, end in the same pixels and the same sum, whatever else was lent
+pub record NothingStale : Type 0 where
+  pub row : (d : Description) (i : Setting) (segments : List Segment) (owners : List ℕ) (t u : Table) (s r : Sight) → KeptTable d i segments t → KeptSight d i segments owners s
+      → KeptTable d i segments u → KeptSight d i segments owners r → Agree s r
+      → (y W : ℕ) (a w z : Channels) (sum total : ℕ) → RowRun t s y W a w sum → RowRun u r y W a z total → (w ≡ z) × (sum ≡ total)
+  pub image : (d : Description) (i : Setting) (segments : List Segment) (owners : List ℕ) (t u : Table) (s r : Sight) → KeptTable d i segments t → KeptSight d i segments owners s
+      → KeptTable d i segments u → KeptSight d i segments owners r → Agree s r
+      → (W : ℕ) (a w z : drawing.Image) (sum total : ℕ) → ImageRun t s W a w sum → ImageRun u r W a z total → ((y : ℕ) → y < i .height → w y ≡ z y) × (sum ≡ total)
 
 -- ---- any two outcomes that a contract allows are equal
 
@@ -242,8 +260,8 @@ pub record OneOutcome : Type 0 where
   pub write : (ns : List ℕ) (ss : List Float) (ds cs : List ℤ) (a : ℤ) (configured pixels room : ℕ) (o q : WriteOutcome)
       → WriteCall ns ss ds cs a configured pixels room o → WriteCall ns ss ds cs a configured pixels room q → o ≡ q
   pub build : (d : Description) (i : Setting) (r : building.BuildRooms) (o q : building.BuildOutcome) → BuildCall d i r o → BuildCall d i r q → o ≡ q
-  pub draw : (t : Table) (y x0 n : ℕ) (a : Channels) (o q : DrawOutcome) → DrawCall t y x0 n a o → DrawCall t y x0 n a q → o ≡ q
-  pub reach : (t : Table) (y W : ℕ) (o q : ReachOutcome) → ReachCall t y W o → ReachCall t y W q → o ≡ q
+  pub draw : (t : Table) (s : Sight) (y x0 n : ℕ) (a : Channels) (o q : DrawOutcome) → DrawCall t s y x0 n a o → DrawCall t s y x0 n a q → o ≡ q
+  pub reach : (t : Table) (s : Sight) (y W : ℕ) (o q : ReachOutcome) → ReachCall t s y W o → ReachCall t s y W q → o ≡ q
   pub ln : (x o q : Float) → LnCall x o → LnCall x q → o ≡ q
 
 -- ---- the starred readings

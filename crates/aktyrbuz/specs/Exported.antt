@@ -16,6 +16,8 @@ use Rattle.draw.specs.Draw.{Channels, DrawOutcome}
 use Rattle.hull.specs.Reach.{ReachOutcome}
 use Rattle.draw.specs.declared.DrawAnswer.{DrawAnswer}
 use Rattle.hull.specs.declared.ReachAnswer.{ReachAnswer}
+use Rattle.desks.specs.Hide.{HideOutcome}
+use Rattle.desks.specs.declared.HideAnswer.{HideAnswer}
 use Rattle.aktyrbuz.specs.declared.Told.{Told}
 
 -- a number as an int64_t
@@ -45,6 +47,10 @@ toldDraw (DrawAnswer.Refused c p) = toldRefusal c p
 abbrev pub toldReach : ReachAnswer → Told
 toldReach (ReachAnswer.Done a e) = record { number = 0; place = pos 0; first = pos a; second = pos e; third = pos 0; fourth = pos 0 }
 toldReach (ReachAnswer.Refused c p) = toldRefusal c p
+
+abbrev pub toldHide : HideAnswer → Told
+toldHide HideAnswer.Done = record { number = 0; place = pos 0; first = pos 0; second = pos 0; third = pos 0; fourth = pos 0 }
+toldHide (HideAnswer.Refused c p) = toldRefusal c p
 
 -- the five numbers
 abbrev pub toldIn : Told → List ℤ
@@ -123,3 +129,14 @@ reachLeaves r five = record { number = r; answer = five }
 
 abbrev pub reachExport : ReachOutcome → ReachExport
 reachExport o = reachLeaves (toldReach (o .answer) .number) (toldIn (toldReach (o .answer)))
+
+pub record HideExport : Type 0 where
+  pub number : ℕ
+  pub answer : List ℤ
+  pub bits : List ℕ
+
+abbrev pub hideLeaves : ℕ → List ℤ → List ℕ → HideExport
+hideLeaves r five bits = record { number = r; answer = five; bits = bits }
+
+abbrev pub hideExport : HideOutcome → HideExport
+hideExport o = hideLeaves (toldHide (o .answer) .number) (toldIn (toldHide (o .answer))) (o .bits)

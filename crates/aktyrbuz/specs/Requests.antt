@@ -1,6 +1,6 @@
 -- The later requests, as named statements on outcomes that the proved contracts of the calls allow (specs/Calls.antt). proofs/Requests.antt proves each. Definitions only.
 use mathlib.Core.Path.{_≡_}
-use mathlib.Core.Bool.{true, false}
+use mathlib.Core.Bool.{Bool, true, false}
 use mathlib.Core.Logic.{_↔_, _⊎_}
 use mathlib.Core.List.{List, [], _∷_, _++_}
 use Prim.Native.Nat.{ℕ, suc, _≤_, _<_, _+_, _^_, _-_, _*_}
@@ -13,16 +13,22 @@ use Rattle.segments.specs.Segment.{segmentAt}
 use Rattle.segments.specs.Ranges.{hasRow, hasColumn, rowEnd, columnEnd}
 use Rattle.segments.specs.Readings.{spot}
 use Rattle.table.specs.Table.{Setting, BuildRooms, BuildOutcome, givenOf}
-use Rattle.checks.specs.Tables.{Table, rowOf}
-use Rattle.draw.specs.Draw.{Channels, DrawOutcome}
+use Rattle.desks.specs.Desks.{Sight, sightOf, bitOf, hiddenIn}
+use Rattle.desks.specs.Agree.{OwnBitsAlike, Agree, NothingHidden}
+use Rattle.desks.specs.Hide.{HideOutcome, HideRefusal}
+use Rattle.desks.specs.declared.HideAnswer.{HideAnswer}
+use Rattle.checks.specs.Tables.{Table, rowOf, shownOf}
+use Rattle.draw.specs.Draw.{Channels, DrawOutcome, unhidden, judgeOf}
+use Rattle.draw.specs.Image as drawing
 use Rattle.draw.specs.Keeps.{Updates, SameCell}
 use Rattle.draw.specs.declared.DrawAnswer.{DrawAnswer}
-use Rattle.hull.specs.Reach.{ReachOutcome}
+use Rattle.hull.specs.Reach.{ReachOutcome, reachOver, judgeReachOf, reachAnswer, tells}
 use Rattle.hull.specs.declared.ReachAnswer.{ReachAnswer}
-use Rattle.aktyrbuz.specs.Calls.{DrawCall, ReachCall, KeptTable, RowRun, BuildDone}
+use Rattle.aktyrbuz.specs.Calls.{DrawCall, ReachCall, HideCall, HideCalls, withBits, KeptTable, RowRun, ImageRun, BuildDone}
 use lib.Signed.{_≤ℤ_}
 use Rattle.near.specs.Near.{Edge, apart, Tight, RowsBy, ColumnsBy, RowsNear, ColumnsNear, EveryFinite}
-use Rattle.picture.specs.Picture.{Found}
+use Rattle.picture.specs.Picture.{Found, RowPicture, rowPairs, imagePairs}
+use Rattle.picture.specs.Sights.{hides, notHidden, KeptSight}
 use Rattle.painting.specs.Segments.{SplineMakes}
 use Rattle.table.specs.Segments.{MakesOwned}
 use Rattle.picture.specs.Owners.{segmentsIn, ownedBy, Ascending, Skipped}
@@ -30,6 +36,7 @@ use Rattle.numbers.specs.Arith.{_⊕_, _⊖_}
 use Rattle.dequantize.specs.ByKind.{StartByKind, EstimateByKind}
 use Rattle.segments.specs.Bounds.{RowsByKind, ColumnsByKind}
 use Rattle.faint.specs.Faint.{faintIn}
+use Rattle.codes.specs.Codes.{numberOf}
 use Rattle.codes.specs.declared.Code.{Code}
 use Rattle.shape.specs.Shape.{pointsOf}
 use Rattle.list.specs.List.{ListRooms}
@@ -109,10 +116,10 @@ NegativeFirstStart =
 
 -- ---- (iii) the reach of a row
 
--- an answer of reach that is done, for row y of a table and a width
-pub record Reaches (t : Table) (y W first past : ℕ) : Type 0 where
+-- an answer of reach that is done, for row y of a table, a desk and a width
+pub record Reaches (t : Table) (s : Sight) (y W first past : ℕ) : Type 0 where
   pub outcome : ReachOutcome
-  pub called : ReachCall t y W outcome
+  pub called : ReachCall t s y W outcome
   pub done : outcome .answer ≡ ReachAnswer.Done first past
 
 -- column x lies from the first up to, not including, the one past the last
@@ -123,20 +130,21 @@ InReach first past x = (first ≤ x) × (x < past)
 abbrev pub NoReach : ℕ → ℕ → Type 0
 NoReach first past = (first ≡ 0) × (past ≡ 0)
 
--- a segment of the description, by its number, has row y and column x
-pub record HasSegment (segments : List Segment) (y x : ℕ) : Type 0 where
+-- a segment of the description, by its number, that is not hidden for the desk has row y and column x
+pub record HasSegment (segments : List Segment) (owners : List ℕ) (s : Sight) (y x : ℕ) : Type 0 where
   pub number : ℕ
   pub listed : number < length segments
+  pub seen : hides s (getD owners number 0) ≡ false
   pub row : hasRow (getD segments number (segmentAt [] 0)) y ≡ true
   pub column : hasColumn (getD segments number (segmentAt [] 0)) x ≡ true
 
--- when the whole row is drawn, with any cut and in any order, a column outside reach is in the columns of no segment of the row, and its three cells come back as they were
+-- when the whole row is drawn for the desk, with any cut and in any order, a column outside its reach is in the columns of no segment of the row that is not hidden, and its three cells come back as they were
 pub record OutsideReachUntouched : Type 0 where
-  pub any : (t : Table) (y W first past : ℕ) → Reaches t y W first past → (a w : Channels) (sum : ℕ) → RowRun t y W a w sum
-      → (x : ℕ) → (InReach first past x → ⊥) → (Updates t y 0 W x → ⊥) × SameCell x a w
-  pub built : (d : Description) (i : Setting) (segments : List Segment) (t : Table) → KeptTable d i segments t
-      → (y W first past : ℕ) → Reaches t y W first past → (a w : Channels) (sum : ℕ) → RowRun t y W a w sum
-      → (x : ℕ) → x < W → (InReach first past x → ⊥) → (HasSegment segments y x → ⊥) × SameCell x a w
+  pub any : (t : Table) (s : Sight) (y W first past : ℕ) → Reaches t s y W first past → (a w : Channels) (sum : ℕ) → RowRun t s y W a w sum
+      → (x : ℕ) → (InReach first past x → ⊥) → (Updates t s y 0 W x → ⊥) × SameCell x a w
+  pub built : (d : Description) (i : Setting) (segments : List Segment) (owners : List ℕ) (t : Table) (s : Sight) → KeptTable d i segments t → KeptSight d i segments owners s
+      → (y W first past : ℕ) → Reaches t s y W first past → (a w : Channels) (sum : ℕ) → RowRun t s y W a w sum
+      → (x : ℕ) → x < W → (InReach first past x → ⊥) → (HasSegment segments owners s y x → ⊥) × SameCell x a w
 
 -- the first and the last column of a reach that is not empty, each with what holds of it
 pub record BothEnds (Holds : ℕ → Type 0) (W first past : ℕ) : Type 0 where
@@ -147,24 +155,24 @@ pub record BothEnds (Holds : ℕ → Type 0) (W first past : ℕ) : Type 0 where
   pub at-first : Holds first
   pub at-last : Holds last
 
--- unless reach is empty, its first and its last column each have a listed segment of the row, so an update; drawn alone, such a column counts one at least
+-- unless reach is empty, its first and its last column each have a segment of the row that the desk is shown, so an update; drawn alone, such a column counts one at least
 pub record ReachEndsUpdated : Type 0 where
-  pub any : (t : Table) (y W first past : ℕ) → Reaches t y W first past → (NoReach first past → ⊥) → BothEnds (Updates t y 0 W) W first past
-  pub built : (d : Description) (i : Setting) (segments : List Segment) (t : Table) → KeptTable d i segments t
-      → (y W first past : ℕ) → Reaches t y W first past → (NoReach first past → ⊥) → BothEnds (HasSegment segments y) W first past
-  pub counted : (t : Table) (y W x : ℕ) → Updates t y 0 W x → (a : Channels) (o : DrawOutcome) (n : ℕ) → DrawCall t y x 1 a o → o .answer ≡ DrawAnswer.Done n → 0 < n
+  pub any : (t : Table) (s : Sight) (y W first past : ℕ) → Reaches t s y W first past → (NoReach first past → ⊥) → BothEnds (Updates t s y 0 W) W first past
+  pub built : (d : Description) (i : Setting) (segments : List Segment) (owners : List ℕ) (t : Table) (s : Sight) → KeptTable d i segments t → KeptSight d i segments owners s
+      → (y W first past : ℕ) → Reaches t s y W first past → (NoReach first past → ⊥) → BothEnds (HasSegment segments owners s y) W first past
+  pub counted : (t : Table) (s : Sight) (y W x : ℕ) → Updates t s y 0 W x → (a : Channels) (o : DrawOutcome) (n : ℕ) → DrawCall t s y x 1 a o → o .answer ≡ DrawAnswer.Done n → 0 < n
 
--- reach is 0, 0 exactly when no segment of the row has a column below the width
+-- reach is 0, 0 exactly when no segment of the row that the desk is shown has a column below the width
 pub record ReachEmptyExactly : Type 0 where
-  pub any : (t : Table) (y W first past : ℕ) → Reaches t y W first past → NoReach first past ↔ ((x : ℕ) → Updates t y 0 W x → ⊥)
-  pub built : (d : Description) (i : Setting) (segments : List Segment) (t : Table) → KeptTable d i segments t
-      → (y W first past : ℕ) → Reaches t y W first past → NoReach first past ↔ ((x : ℕ) → x < W → HasSegment segments y x → ⊥)
+  pub any : (t : Table) (s : Sight) (y W first past : ℕ) → Reaches t s y W first past → NoReach first past ↔ ((x : ℕ) → Updates t s y 0 W x → ⊥)
+  pub built : (d : Description) (i : Setting) (segments : List Segment) (owners : List ℕ) (t : Table) (s : Sight) → KeptTable d i segments t → KeptSight d i segments owners s
+      → (y W first past : ℕ) → Reaches t s y W first past → NoReach first past ↔ ((x : ℕ) → x < W → HasSegment segments owners s y x → ⊥)
 
--- a strand wholly left of the picture changes column 0, and reach says so: a segment at -5 with the distance 2, wherever it lies and whatever else the row lists
+-- a strand wholly left of the picture changes column 0, and reach says so: a segment that the desk is shown at -5 with the distance 2, wherever it lies and whatever else the row lists
 abbrev pub LeftEdgeReached : Type 0
 LeftEdgeReached =
-    (t : Table) (y W first past : ℕ) → Reaches t y W first past → 0 < W → (j : ℕ) → j < length (rowOf t y) → (cy : Float)
-    → segmentAt (t .segments) (getD (rowOf t y) j 0) ≡ spot (fin true 5 (pos 0)) cy (fin false 1 (pos 1)) → InReach first past 0
+    (t : Table) (s : Sight) (y W first past : ℕ) → Reaches t s y W first past → 0 < W → (j : ℕ) → j < length (shownOf t s y) → (cy : Float)
+    → segmentAt (t .segments) (getD (shownOf t s y) j 0) ≡ spot (fin true 5 (pos 0)) cy (fin false 1 (pos 1)) → InReach first past 0
 
 -- ---- (v) the number of a segment's spline
 
@@ -204,6 +212,72 @@ pub record SkippedHasNone : Type 0 where
       → (k : ℕ) → Skipped d k → NoOwner k s o
   pub no-deltas : (d : Description) (i : Setting) (r : BuildRooms) (o : BuildOutcome) (s e estimate : ℕ) → BuildDone d i r o s e estimate
       → (k : ℕ) → k < length (d .counts) → getD (d .counts) k 0 ≡ 0 → Skipped d k
+
+-- ---- (vi) two desks, one table
+
+-- what a desk gets in answers, pixels and counts depends on the table, its own bits and its own row: two lent byte slices that agree in the desk's bits over the splines, whatever else
+-- they hold, give it equal outcomes of draw and of reach
+pub record DesksApart : Type 0 where
+  pub draw : (t : Table) (s : Sight) (bits : List ℕ) → Agree s (withBits s bits) → (y x0 n : ℕ) (a : Channels) (o q : DrawOutcome)
+      → DrawCall t s y x0 n a o → DrawCall t (withBits s bits) y x0 n a q → o ≡ q
+  pub reach : (t : Table) (s : Sight) (bits : List ℕ) → Agree s (withBits s bits) → (y W : ℕ) (o q : ReachOutcome) → ReachCall t s y W o → ReachCall t (withBits s bits) y W q → o ≡ q
+
+-- any run of hides by another desk before a drawing or a reach changes nothing of it; nor, before a hide, of its answer and of the desk's bits after it
+pub record OtherDeskUnseen : Type 0 where
+  pub draw : (t : Table) (s : Sight) (other : ℕ) → (other ≡ s .desk → ⊥) → (bits : List ℕ) → HideCalls other (s .bits) bits → (y x0 n : ℕ) (a : Channels) (o q : DrawOutcome)
+      → DrawCall t s y x0 n a o → DrawCall t (withBits s bits) y x0 n a q → o ≡ q
+  pub reach : (t : Table) (s : Sight) (other : ℕ) → (other ≡ s .desk → ⊥) → (bits : List ℕ) → HideCalls other (s .bits) bits → (y W : ℕ) (o q : ReachOutcome)
+      → ReachCall t s y W o → ReachCall t (withBits s bits) y W q → o ≡ q
+  pub hide : (desk other : ℕ) → (other ≡ desk → ⊥) → (a b : List ℕ) → HideCalls other a b → (spline : ℕ) (hidden : Bool) (o q : HideOutcome)
+      → HideCall a desk spline hidden o → HideCall b desk spline hidden q
+      → (o .answer ≡ q .answer) × ((k : ℕ) → bitOf desk (getD (o .bits) k 0) ≡ bitOf desk (getD (q .bits) k 0))
+
+-- a desk's bits over the splines after a hide of its own depend on its own bits alone
+abbrev pub OwnBitsAlone : Type 0
+OwnBitsAlone =
+    (desk splines : ℕ) (a b : List ℕ) → splines ≤ length a → splines ≤ length b → OwnBitsAlike desk splines a b
+    → (spline : ℕ) (hidden : Bool) (o q : HideOutcome) → HideCall a desk spline hidden o → HideCall b desk spline hidden q → OwnBitsAlike desk splines (o .bits) (q .bits)
+
+-- a hide that is done leaves the desk's bit of the spline as asked; every other bit of every byte stays, and so does the number of bytes; refused, it changes nothing
+pub record HideChangesOneBit : Type 0 where
+  pub asked : (a : List ℕ) (desk spline : ℕ) (hidden : Bool) (o : HideOutcome) → HideCall a desk spline hidden o → o .answer ≡ HideAnswer.Done
+      → bitOf desk (getD (o .bits) spline 0) ≡ hidden
+  pub others : (a : List ℕ) (desk spline : ℕ) (hidden : Bool) (o : HideOutcome) → HideCall a desk spline hidden o
+      → (k bit : ℕ) → ((k ≡ spline) × (bit ≡ desk) → ⊥) → bitOf bit (getD (o .bits) k 0) ≡ bitOf bit (getD a k 0)
+  pub as-many : (a : List ℕ) (desk spline : ℕ) (hidden : Bool) (o : HideOutcome) → HideCall a desk spline hidden o → length (o .bits) ≡ length a
+  pub refused : (a : List ℕ) (desk spline : ℕ) (hidden : Bool) (o : HideOutcome) (c : Code) (p : ℕ) → HideCall a desk spline hidden o → o .answer ≡ HideAnswer.Refused c p → o .bits ≡ a
+
+-- a code of hide is given exactly when its table of codes says, at place 0; where the table gives nothing it is done
+pub record HideCodes : Type 0 where
+  pub exactly : (a : List ℕ) (desk spline : ℕ) (hidden : Bool) (o : HideOutcome) → HideCall a desk spline hidden o
+      → (c : Code) (p : ℕ) → o .answer ≡ HideAnswer.Refused c p ↔ HideRefusal a desk spline c p
+  pub told : (a : List ℕ) (desk spline : ℕ) (hidden : Bool) (o : HideOutcome) → HideCall a desk spline hidden o
+      → (c : Code) (p : ℕ) → o .answer ≡ HideAnswer.Refused c p → o .told ≡ record { number = numberOf c; place = 0 }
+  pub done : (a : List ℕ) (desk spline : ℕ) (hidden : Bool) (o : HideOutcome) → HideCall a desk spline hidden o
+      → (o .answer ≡ HideAnswer.Done) ↔ ((desk < 2) × (spline < length a))
+
+-- any two outcomes of hide that its contract allows are equal
+abbrev pub HideOneOutcome : Type 0
+HideOneOutcome = (a : List ℕ) (desk spline : ℕ) (hidden : Bool) (o q : HideOutcome) → HideCall a desk spline hidden o → HideCall a desk spline hidden q → o ≡ q
+
+-- what a build left may be lent beside its table: its owners and the description's number of splines, with a byte for each spline at least, for either desk
+abbrev pub BuiltIsLent : Type 0
+BuiltIsLent =
+    (d : Description) (i : Setting) (r : BuildRooms) (o : BuildOutcome) (n e estimate : ℕ) → BuildDone d i r o n e estimate
+    → (segments : List Segment) (owners : List ℕ) → MakesOwned d i segments owners → (bits : List ℕ) (desk : ℕ) → length (d .counts) ≤ length bits → desk < 2
+    → KeptSight d i segments owners (sightOf (o .owners) (length (d .counts)) bits desk)
+
+-- with no bit of the desk set over the splines all is as it was without desks: a drawing is the fold over the row's entries themselves, and so is a reach; no segment is left out of demand 3
+pub record AsWithoutDesks : Type 0 where
+  pub draw : (t : Table) (s : Sight) (y x0 n : ℕ) (a : Channels) (o : DrawOutcome) → NothingHidden s → DrawCall t s y x0 n a o
+      → o ≡ unhidden (judgeOf t s y x0 n (length (a .r0)) (length (a .r1)) (length (a .r2))) t y x0 n a
+  pub reach : (t : Table) (s : Sight) (y W : ℕ) (o : ReachOutcome) → NothingHidden s → ReachCall t s y W o
+      → o ≡ tells (reachAnswer (judgeReachOf t s y W) (reachOver (t .segments) W (rowOf t y)))
+  pub segments : (d : Description) (i : Setting) (segments : List Segment) (owners : List ℕ) (s : Sight) → KeptSight d i segments owners s → NothingHidden s → notHidden s owners segments ≡ segments
+  pub row : (d : Description) (i : Setting) (segments : List Segment) (owners : List ℕ) (t : Table) (s : Sight) → KeptTable d i segments t → KeptSight d i segments owners s → NothingHidden s
+      → (y W : ℕ) (a w : Channels) (sum : ℕ) → RowRun t s y W a w sum → RowPicture segments y a w × (sum ≡ rowPairs segments W y) × (sum ≤ W * length (rowOf t y))
+  pub image : (d : Description) (i : Setting) (segments : List Segment) (owners : List ℕ) (t : Table) (s : Sight) → KeptTable d i segments t → KeptSight d i segments owners s → NothingHidden s
+      → (W : ℕ) (a w : drawing.Image) (sum : ℕ) → ImageRun t s W a w sum → ((y : ℕ) → y < i .height → RowPicture segments y (a y) (w y)) × (sum ≡ imagePairs segments W 0 (i .height))
 
 -- ---- (vii) why a segment sits at the corner
 
@@ -278,21 +352,23 @@ pub record ColumnIs (So : ℕ → ℕ → ℕ → Type 0) (s : Segment) (x : ℕ
   pub clear : pos (d + 2 ^ k) ≤ℤ c
   pub is : So (2 ^ k) d (apart k c x)
 
--- a drawing of n pixels of row y from column x0 on updates cell x by segment j
-pub record UpdatesBy (t : Table) (y x0 n x j : ℕ) : Type 0 where
-  pub updates : Updates t y x0 n x
-  pub by : getD (rowOf t y) (updates .entry) 0 ≡ j
+-- a desk's drawing of n pixels of row y from column x0 on updates cell x by segment j
+pub record UpdatesBy (t : Table) (s : Sight) (y x0 n x j : ℕ) : Type 0 where
+  pub updates : Updates t s y x0 n x
+  pub by : getD (shownOf t s y) (updates .entry) 0 ≡ j
 
 -- a pixel in row y is farther than d + 1 from segment j of a table, by its row or by its column x
 abbrev pub Clear : Table → ℕ → ℕ → ℕ → Type 0
 Clear t y x j = RowIs Beyond (segmentAt (t .segments) j) y ⊎ ColumnIs Beyond (segmentAt (t .segments) j) x
 
--- what a drawing of a row of a kept table updates: a segment updates the pixels of the part that are no farther than d - 1 from its centre by row and by column, and none that is farther than d + 1
--- by either; so a pixel that is so far from every segment comes back as it was
+-- what a drawing of a row of a kept table updates: a segment that is not hidden for the desk updates the pixels of the part that are no farther than d - 1 from its centre by row and by column,
+-- and none that is farther than d + 1 by either; so a pixel that is so far from every segment that is not hidden comes back as it was
 pub record DrawingsNear : Type 0 where
-  pub inside : (d : Description) (i : Setting) (segments : List Segment) (t : Table) → KeptTable d i segments t → (y x0 n x j : ℕ) → y < i .height → x < n → j < t .segmentCount
-      → RowIs Inside (segmentAt (t .segments) j) y → ColumnIs Inside (segmentAt (t .segments) j) (x0 + x) → UpdatesBy t y x0 n x j
-  pub outside : (d : Description) (i : Setting) (segments : List Segment) (t : Table) → KeptTable d i segments t → (y x0 n x j : ℕ) → y < i .height
-      → Clear t y (x0 + x) j → UpdatesBy t y x0 n x j → ⊥
-  pub kept : (d : Description) (i : Setting) (segments : List Segment) (t : Table) → KeptTable d i segments t
-      → (y x0 n : ℕ) (a : Channels) (o : DrawOutcome) → y < i .height → DrawCall t y x0 n a o → (x : ℕ) → ((j : ℕ) → j < t .segmentCount → Clear t y (x0 + x) j) → SameCell x a (o .channels)
+  pub inside : (d : Description) (i : Setting) (segments : List Segment) (owners : List ℕ) (t : Table) (s : Sight) → KeptTable d i segments t → KeptSight d i segments owners s
+      → (y x0 n x j : ℕ) → y < i .height → x < n → j < t .segmentCount → hiddenIn s j ≡ false
+      → RowIs Inside (segmentAt (t .segments) j) y → ColumnIs Inside (segmentAt (t .segments) j) (x0 + x) → UpdatesBy t s y x0 n x j
+  pub outside : (d : Description) (i : Setting) (segments : List Segment) (owners : List ℕ) (t : Table) (s : Sight) → KeptTable d i segments t → KeptSight d i segments owners s
+      → (y x0 n x j : ℕ) → y < i .height → Clear t y (x0 + x) j → UpdatesBy t s y x0 n x j → ⊥
+  pub kept : (d : Description) (i : Setting) (segments : List Segment) (owners : List ℕ) (t : Table) (s : Sight) → KeptTable d i segments t → KeptSight d i segments owners s
+      → (y x0 n : ℕ) (a : Channels) (o : DrawOutcome) → y < i .height → DrawCall t s y x0 n a o
+      → (x : ℕ) → ((j : ℕ) → j < t .segmentCount → hiddenIn s j ≡ false → Clear t y (x0 + x) j) → SameCell x a (o .channels)

@@ -8,10 +8,12 @@ ghost use Rattle.writer.specs.Write.{writeOf};
 ghost use Rattle.dequantize.specs.Judge.{descriptionOf};
 ghost use Rattle.table.specs.Table.{settingOf, buildOf};
 ghost use Rattle.table.specs.Table as build;
+ghost use Rattle.desks.specs.Desks.{sightOf};
 ghost use Rattle.draw.specs.Draw.{tableOf, three, drawOf};
 ghost use Rattle.hull.specs.Reach.{reachOf};
 ghost use Rattle.aktyrbuz.specs.Exported.{signedOf, toldIn, toldRefusal, toldRead, toldWrite, toldBuild, toldDraw, toldReach, readLeaves, readExport, writeLeaves, writeExport, buildLeaves, buildExport, drawLeaves, drawExport, reachLeaves, reachExport};
 
+pub mod hiding;
 pub mod trace_files;
 
 use codes::Code;
@@ -268,11 +270,15 @@ pub extern "C" fn aktyrbuz_build(
 #[no_mangle]
 pub extern "C" fn aktyrbuz_draw(
     segments: &[f32],
+    owners: &[u64],
     segment_count: u32,
     entries: &[u32],
     entry_count: u32,
     row_starts: &[u32],
     height: u32,
+    splines: u64,
+    bits: &[u8],
+    desk: u32,
     y: u32,
     x0: u32,
     n: u32,
@@ -282,15 +288,19 @@ pub extern "C" fn aktyrbuz_draw(
     answer: &mut [i64; 5],
 ) -> u32
     ensures { λ r. ⌜ drawLeaves r (now (answer .exit)) (three (now (r0 .exit)) (now (r1 .exit)) (now (r2 .exit)))
-        ≡ drawExport (drawOf (tableOf (now (segments .entry)) «segment_count» (now (entries .entry)) «entry_count» (now («row_starts» .entry)) height) y x0 n (three (now (r0 .entry)) (now (r1 .entry)) (now (r2 .entry)))) ⌝ }
+        ≡ drawExport (drawOf (tableOf (now (segments .entry)) «segment_count» (now (entries .entry)) «entry_count» (now («row_starts» .entry)) height) (sightOf (now (owners .entry)) splines (now (bits .entry)) desk) y x0 n (three (now (r0 .entry)) (now (r1 .entry)) (now (r2 .entry)))) ⌝ }
 {
     let told = told_draw(draw::draw(
         segments,
+        owners,
         segment_count,
         entries,
         entry_count,
         row_starts,
         height,
+        splines,
+        bits,
+        desk,
         y,
         x0,
         n,
@@ -305,25 +315,33 @@ pub extern "C" fn aktyrbuz_draw(
 #[no_mangle]
 pub extern "C" fn aktyrbuz_reach(
     segments: &[f32],
+    owners: &[u64],
     segment_count: u32,
     entries: &[u32],
     entry_count: u32,
     row_starts: &[u32],
     height: u32,
+    splines: u64,
+    bits: &[u8],
+    desk: u32,
     y: u32,
     width: u32,
     answer: &mut [i64; 5],
 ) -> u32
     ensures { λ r. ⌜ reachLeaves r (now (answer .exit))
-        ≡ reachExport (reachOf (tableOf (now (segments .entry)) «segment_count» (now (entries .entry)) «entry_count» (now («row_starts» .entry)) height) y width) ⌝ }
+        ≡ reachExport (reachOf (tableOf (now (segments .entry)) «segment_count» (now (entries .entry)) «entry_count» (now («row_starts» .entry)) height) (sightOf (now (owners .entry)) splines (now (bits .entry)) desk) y width) ⌝ }
 {
     let told = told_reach(hull::reach(
         segments,
+        owners,
         segment_count,
         entries,
         entry_count,
         row_starts,
         height,
+        splines,
+        bits,
+        desk,
         y,
         width,
     ));

@@ -14,6 +14,11 @@ const BYTES: usize = 24576;
 // The bytes of the longest head, and more.
 const HEAD: usize = 64;
 
+// The splines that a description may have here, and a byte for each: the operator's desk, which hides none.
+const SPLINES: u64 = 512;
+
+const TRACES: usize = 512;
+
 // What is asked of a description: to be told, its rows, its picture, the traces that have the pixel in this column and row, why the segment of this number sits where it does, its trace file, or its list.
 pub enum Asked {
     Told,
@@ -75,6 +80,7 @@ fn write_part(task: Task, n: usize, x: &[f32], y: &[f32], b: &[f32]) -> bool
 // Draws n pixels of row y from x0 on, on black, and writes them.
 fn draw_part(
     segments: &[f32],
+    owners: &[u64],
     segment_count: u32,
     entries: &[u32],
     entry_count: u32,
@@ -90,13 +96,18 @@ fn draw_part(
     let mut r1 = [0.0f32; CELLS];
     let mut r2 = [0.0f32; CELLS];
     let height = task.height;
+    let bits = [0u8; TRACES];
     match draw::draw(
         segments,
+        owners,
         segment_count,
         entries,
         entry_count,
         row_starts,
         height,
+        SPLINES,
+        &bits,
+        0,
         y,
         x0,
         n,
@@ -118,6 +129,7 @@ fn draw_part(
 // A whole row, strip by strip.
 fn draw_row(
     segments: &[f32],
+    owners: &[u64],
     segment_count: u32,
     entries: &[u32],
     entry_count: u32,
@@ -132,6 +144,7 @@ fn draw_row(
         let n = strip_of(width - x0);
         let Part::Updates(updates) = draw_part(
             segments,
+            owners,
             segment_count,
             entries,
             entry_count,
@@ -172,6 +185,7 @@ fn say_progress(task: Task, k: u32) {
 // All rows.
 fn draw_rows(
     segments: &[f32],
+    owners: &[u64],
     segment_count: u32,
     entries: &[u32],
     entry_count: u32,
@@ -186,6 +200,7 @@ fn draw_rows(
         let y = row_after(task, k);
         let Part::Updates(updates) = draw_row(
             segments,
+            owners,
             segment_count,
             entries,
             entry_count,
@@ -255,6 +270,7 @@ fn no_picture() -> u8
 // `gauge draw`: the picture, and how many updates it took.
 pub fn draw(
     segments: &[f32],
+    owners: &[u64],
     segment_count: u32,
     entries: &[u32],
     entry_count: u32,
@@ -269,6 +285,7 @@ pub fn draw(
     }
     match draw_rows(
         segments,
+        owners,
         segment_count,
         entries,
         entry_count,
@@ -295,6 +312,7 @@ fn say_row(y: u32, entries: u32, first: u32, past: u32) -> u8
 // One row, where it has entries; the status so far.
 fn reach_row(
     segments: &[f32],
+    owners: &[u64],
     segment_count: u32,
     entries: &[u32],
     entry_count: u32,
@@ -310,13 +328,18 @@ fn reach_row(
     }
     let height = task.height;
     let width = task.width;
+    let bits = [0u8; TRACES];
     match hull::reach(
         segments,
+        owners,
         segment_count,
         entries,
         entry_count,
         row_starts,
         height,
+        SPLINES,
+        &bits,
+        0,
         y,
         width,
     ) {
@@ -328,6 +351,7 @@ fn reach_row(
 // `gauge rows`: each row with entries, and its reach.
 pub fn rows(
     segments: &[f32],
+    owners: &[u64],
     segment_count: u32,
     entries: &[u32],
     entry_count: u32,
@@ -341,6 +365,7 @@ pub fn rows(
     while y < height {
         let status = reach_row(
             segments,
+            owners,
             segment_count,
             entries,
             entry_count,

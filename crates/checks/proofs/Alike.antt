@@ -4,17 +4,23 @@ use mathlib.Core.Bool.{Bool, true, false, _&&_}
 use mathlib.Core.List.{List}
 use Prim.Native.Nat.{ℕ, _+_, _*_, _<_, _≤_}
 use native.Mathlib.Omega.{arith}
-use lib.Dec.{leb}
+use lib.Dec.{leb, ltb}
 use lib.ListN.{length, getD, take, drop, length-take}
 use lib.Seq.{slice, getD-take, take-take}
 use lib.Ieee.{Float, nan}
 use Rattle.segments.specs.Segment.{field, segmentAt}
-use Rattle.checks.specs.Tables.{Table, rowOf}
-use Rattle.checks.specs.Checks.{countsGood, allBelow, entriesGood, rowGood, judgeRow}
-use Rattle.checks.specs.Refusals.{CountsFit}
-use Rattle.checks.specs.Alike.{AlikeIn, Kept}
-use Rattle.checks.proofs.Checks.{counts-facts, RowFacts, row-facts}
-use Rattle.checks.proofs.Refusals.{counts-fit, below-each}
+use Rattle.desks.specs.Desks.{Sight, ownerIn, deskGood, bytesGood, allOwned, shown}
+use Rattle.desks.specs.Agree.{Agree, NothingHidden}
+use Rattle.desks.proofs.Shown.{agree-shown, agree-owned, nothing-hidden}
+use Rattle.checks.specs.Tables.{Table, rowOf, shownOf}
+use Rattle.checks.specs.Checks.{countsGood, countsGoodFor, allBelow, entriesGood, rowGood, rowGoodFor, orFault, judgeRow}
+use Rattle.checks.specs.declared.Verdict.the-variants.{Fine}
+use Rattle.codes.specs.declared.Code.{Code}
+use Rattle.checks.specs.Refusals.{CountsFit, CountsFitFor}
+use Rattle.checks.specs.Alike.{AlikeIn, AlikeFor, Kept, KeptFor}
+use borrow.Author.Tests.{le-leb, leb-true}
+use Rattle.checks.proofs.Checks.{counts-facts, counts-facts-for, RowFacts, row-facts, RowFactsFor}
+use Rattle.checks.proofs.Refusals.{counts-fit, counts-fit-for, below-each}
 
 -- ---- two tables alike in a row
 
@@ -34,12 +40,51 @@ module _ {y : ℕ} {t u : Table} (k : AlikeIn y t u) where
   unfolding entriesGood
   alike-row = same-checks (k .first) (k .past) (k .entry-count) (k .segment-count) (k .entries)
 
-  pub alike-judged : (spanned : Bool) → judgeRow t y spanned ≡ judgeRow u y spanned
-  alike-judged spanned = rw (alike-counts, k .height, alike-row)
-
   -- where the row passes its checks, its entries name the same segments
   pub alike-named : RowFacts t y → (j : ℕ) → j < length (rowOf t y) → segmentAt (t .segments) (getD (rowOf t y) j 0) ≡ segmentAt (u .segments) (getD (rowOf t y) j 0)
   alike-named f j l = k .segments j l (below-each (t .segmentCount) (rowOf t y) (f .all-named) j l)
+
+-- ---- and by sights that agree
+
+same-test : {a b c d : ℕ} → ((a ≤ b) → (c ≤ d)) → ((c ≤ d) → (a ≤ b)) → leb a b ≡ leb c d
+same-test {a} {b} {c} {d} f g = both-or-none (leb a b) (leb c d) (λ e. le-leb c d (f (leb-true a b e))) (λ e. le-leb a b (g (leb-true c d e)))
+
+same-verdicts : {a a′ b b′ e e′ : Bool} {h h′ : ℕ} (y : ℕ) (spanned : Bool) → a ≡ a′ → b ≡ b′ → h ≡ h′ → e ≡ e′ → orFault a Code.Table (orFault b Code.Trace (orFault (ltb y h) Code.Row (orFault spanned Code.Span (orFault e Code.Table Fine)))) ≡ orFault a′ Code.Table (orFault b′ Code.Trace (orFault (ltb y h′) Code.Row (orFault spanned Code.Span (orFault e′ Code.Table Fine))))
+same-verdicts y spanned p q r w = rw (p, q, r, w)
+
+module _ {y : ℕ} {t u : Table} {s r : Sight} (k : AlikeFor y t s u r) where
+  alike-counts-for : countsGoodFor t s ≡ countsGoodFor u r
+  unfolding countsGoodFor
+  alike-counts-for =
+      ap (λ (b : Bool). b && leb (t .segmentCount) (length (s .owners))) (alike-counts (k .tables))
+      ∙ ap (λ (b : Bool). countsGood u && b) (same-test (k .owners-fit .0) (k .owners-fit .1))
+
+  pub alike-desk : deskGood s ≡ deskGood r
+  alike-desk = ap (λ (d : ℕ). ltb d 2) (k .sights .desk)
+
+  alike-bytes : bytesGood s ≡ bytesGood r
+  alike-bytes = same-test (k .sights .lent .0) (k .sights .lent .1)
+
+  -- the owners of a row whose entries name segments
+  alike-owners : RowFacts t y → (j : ℕ) → j < length (rowOf t y) → ownerIn s (getD (rowOf t y) j 0) ≡ ownerIn r (getD (rowOf t y) j 0)
+  alike-owners f j l = k .owners j l (below-each (t .segmentCount) (rowOf t y) (f .all-named) j l)
+
+  alike-row-for : rowGoodFor t s y ≡ rowGoodFor u r y
+  unfolding rowGoodFor
+  alike-row-for = go (rowGood t y) refl ∙ ap (λ (b : Bool). b && allOwned (r .owners) (r .splines) (rowOf u y)) (alike-row (k .tables))
+    where
+      go : (b : Bool) → rowGood t y ≡ b → (rowGood t y && allOwned (s .owners) (s .splines) (rowOf t y)) ≡ (rowGood t y && allOwned (r .owners) (r .splines) (rowOf u y))
+      go false e = rw e
+      go true e =
+          ap (λ (b : Bool). rowGood t y && b)
+          (agree-owned (k .sights) (rowOf t y) (alike-owners (row-facts t y e)) ∙ ap (allOwned (r .owners) (r .splines)) (k .tables .entries))
+
+  pub alike-judged : (spanned : Bool) → judgeRow t s y spanned ≡ judgeRow u r y spanned
+  alike-judged spanned = same-verdicts y spanned alike-counts-for alike-bytes (k .tables .height) alike-row-for
+
+  -- where the row passes its checks, the desk is shown the same entries of it
+  pub alike-shown : RowFactsFor t s y → shownOf t s y ≡ shownOf u r y
+  alike-shown f = agree-shown (k .sights) (rowOf t y) (alike-owners (f .table)) (f .all-owned) ∙ ap (shown r) (k .tables .entries)
 
 -- ---- a table as it is kept
 
@@ -93,5 +138,35 @@ module _ {t u : Table} (k : Kept t u) where
             ∙ ap (λ (n : ℕ). slice (getD (u .rowStarts) y 0) n (u .entries)) past;
         segments = λ j l m. kept-segment (getD (rowOf t y) j 0) m;
       }
+
+module _ {t u : Table} {s r : Sight} (k : KeptFor t s u r) where
+  pub kept-fits-for : CountsFitFor t s → CountsFitFor u r
+  kept-fits-for f = record { table = kept-fits (k .table) (f .table); owners-fit = as-long (s .owners) (r .owners) (k .table .segment-count) (k .owners) (f .owners-fit) }
+
+  -- a row that passes the checks is alike for both
+  pub kept-alike-for : (y : ℕ) → y < t .height → countsGoodFor t s ≡ true → rowGood t y ≡ true → AlikeFor y t s u r
+  kept-alike-for y h g q =
+      let f = counts-facts-for t s g in
+      record {
+        tables = kept-alike (k .table) y h (counts-fit t (f .table)) q;
+        sights = k .sights;
+        owners-fit = (λ e. kept-fits-for f .owners-fit, λ e. f .owners-fit);
+        owners = λ j l m. cell-same (t .segmentCount) (s .owners) (r .owners) 0 (k .owners) (getD (rowOf t y) j 0) m;
+      }
+
+-- ---- one table, two sights of it
+
+-- sights with the same owners that agree see the table alike in every row
+pub agree-alike : (t : Table) (s r : Sight) (y : ℕ) → Agree s r → s .owners ≡ r .owners → AlikeFor y t s t r
+agree-alike t s r y a e = record {
+  tables = record { fit = (λ f. f, λ f. f); segment-count = refl; entry-count = refl; height = refl; first = refl; past = refl; entries = refl; segments = λ j l m. refl };
+  sights = a;
+  owners-fit = (λ h. omega (arith, h, ap length e), λ h. omega (arith, h, ap length e));
+  owners = λ j l m. ap (λ (o : List ℕ). getD o (getD (rowOf t y) j 0) 0) e;
+}
+
+-- a row that passes the checks is shown whole where nothing is hidden
+pub shown-whole : (t : Table) (s : Sight) (y : ℕ) → NothingHidden s → RowFactsFor t s y → shownOf t s y ≡ rowOf t y
+shown-whole t s y n f = nothing-hidden s (rowOf t y) n (f .all-owned)
 
 -- Assumes nothing.

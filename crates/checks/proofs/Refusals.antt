@@ -1,19 +1,22 @@
 -- Each check fails exactly when the table of codes says.
 use mathlib.Core.Path.{_≡_, refl}
-use mathlib.Core.Bool.{Bool, true, false}
+use mathlib.Core.Bool.{Bool, true, false, _&&_}
 use mathlib.Core.Logic.{_⊎_, inl, inr, ⊎-elim}
 use mathlib.Core.List.{List, [], _∷_}
 use Prim.Native.Nat.{ℕ, zero, suc, _+_, _*_, _^_, _<_, _≤_}
 use native.Mathlib.Omega.{arith}
-use lib.Dec.{ltb}
+use lib.Dec.{leb, ltb}
 use lib.ListN.{length, getD}
 use borrow.Author.Tests.{lt-ltb, le-leb, ltb-true}
 use Rattle.shade.proofs.Edits.{lt-or-ge}
+use Rattle.desks.specs.Desks.{Sight, ownerIn, allOwned}
+use Rattle.desks.proofs.Shown.{owned-each}
 use Rattle.checks.specs.Tables.{Table, rowOf}
-use Rattle.checks.specs.Checks.{allBelow, countsGood, spanGood, entriesGood, rowGood}
-use Rattle.checks.specs.Refusals.{Overrun, many-segments, segments-short, many-entries, entries-short, high, starts-short, CountsFit, SpanOut, past-image, short0, short1, short2, SpanFits, RowBad, descends, passes, names-none}
+use Rattle.checks.specs.Checks.{allBelow, countsGood, countsGoodFor, spanGood, entriesGood, rowGood, rowGoodFor}
+use Rattle.checks.specs.Refusals.{Overrun, many-segments, segments-short, many-entries, entries-short, high, starts-short, CountsFit, SpanOut, past-image, short0, short1, short2, SpanFits, RowBad, descends, passes, names-none, OverrunFor, CountsFitFor, RowBadFor}
+use Rattle.checks.specs.Refusals as codes
 use Rattle.checks.proofs.Entries.{and-left, and-right}
-use Rattle.checks.proofs.Checks.{counts-facts, span-facts, RowFacts, row-facts}
+use Rattle.checks.proofs.Checks.{counts-facts, counts-facts-for, span-facts, RowFacts, row-facts, RowFactsFor, row-facts-for}
 
 pub is-false : (b : Bool) → (b ≡ true → ⊥) → b ≡ false
 is-false true h = absurd (h refl)
@@ -125,5 +128,63 @@ module _ (t : Table) (y : ℕ) where
       (below-or-above (t .segmentCount) (rowOf t y)))
       (lt-or-ge (t .entryCount) (getD (t .rowStarts) (y + 1) 0)))
       (lt-or-ge (getD (t .rowStarts) (y + 1) 0) (getD (t .rowStarts) y 0))
+
+-- ---- for a sight
+
+module _ (t : Table) (s : Sight) where
+  pub counts-fit-for : CountsFitFor t s → countsGoodFor t s ≡ true
+  unfolding countsGoodFor
+  counts-fit-for f = rw (counts-fit t (f .table), le-leb (t .segmentCount) (length (s .owners)) (f .owners-fit))
+
+  overrun-unfit-for : OverrunFor t s → CountsFitFor t s → ⊥
+  overrun-unfit-for (codes.OverrunFor.in-table o) f = overrun-unfit t o (f .table)
+  overrun-unfit-for (codes.owners-short h) f = omega (arith, h, f .owners-fit)
+
+  pub counts-overrun-for : OverrunFor t s → countsGoodFor t s ≡ false
+  counts-overrun-for o = is-false (countsGoodFor t s) (λ e. overrun-unfit-for o (counts-facts-for t s e))
+
+  pub fit-or-overrun-for : CountsFitFor t s ⊎ OverrunFor t s
+  fit-or-overrun-for =
+      ⊎-elim (λ f.
+      ⊎-elim (λ h. inr (codes.owners-short h)) (λ h. inl (record { table = f; owners-fit = h }))
+      (lt-or-ge (length (s .owners)) (t .segmentCount)))
+      (λ o. inr (codes.OverrunFor.in-table o))
+      (fit-or-overrun t)
+
+record NoSpline (owners : List ℕ) (splines : ℕ) (l : List ℕ) : Type 0 where
+  index : ℕ
+  listed : index < length l
+  none : splines ≤ getD owners (getD l index 0) 0
+
+owned-or-not : (owners : List ℕ) (splines : ℕ) (l : List ℕ) → (allOwned owners splines l ≡ true) ⊎ NoSpline owners splines l
+owned-or-not owners splines [] = inl refl
+owned-or-not owners splines (i ∷ l) =
+    ⊎-elim
+    (λ k. ⊎-elim
+    (λ e. inl (rw (lt-ltb (getD owners i 0) splines k) e))
+    (λ a. inr (record { index = suc (a .index); listed = omega (arith, a .listed); none = a .none }))
+    (owned-or-not owners splines l))
+    (λ k. inr (record { index = 0; listed = omega arith; none = k }))
+    (lt-or-ge (getD owners i 0) splines)
+
+module _ (t : Table) (s : Sight) (y : ℕ) where
+  pub row-fine-for : RowFactsFor t s y → rowGoodFor t s y ≡ true
+  unfolding rowGoodFor
+  row-fine-for f = rw (row-fine t y (f .table), f .all-owned)
+
+  bad-unfit-for : RowBadFor t s y → RowFactsFor t s y → ⊥
+  bad-unfit-for (codes.RowBadFor.in-table o) f = bad-unfit t y o (f .table)
+  bad-unfit-for (codes.no-spline j k h) f = omega (arith, h, owned-each (s .owners) (s .splines) (rowOf t y) (f .all-owned) j k)
+
+  pub row-bad-for : RowBadFor t s y → rowGoodFor t s y ≡ false
+  row-bad-for o = is-false (rowGoodFor t s y) (λ e. bad-unfit-for o (row-facts-for t s y e))
+
+  pub fine-or-bad-for : (rowGoodFor t s y ≡ true) ⊎ RowBadFor t s y
+  fine-or-bad-for =
+      ⊎-elim (λ e.
+      ⊎-elim (λ o. inl (row-fine-for (record { table = row-facts t y e; all-owned = o }))) (λ a. inr (codes.no-spline (a .index) (a .listed) (a .none)))
+      (owned-or-not (s .owners) (s .splines) (rowOf t y)))
+      (λ o. inr (codes.RowBadFor.in-table o))
+      (fine-or-bad t y)
 
 -- Assumes nothing.

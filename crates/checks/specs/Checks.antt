@@ -5,7 +5,8 @@ use Prim.Native.Nat.{ℕ, _+_, _*_, _^_}
 use lib.Dec.{leb, ltb}
 use lib.ListN.{length, getD}
 use Rattle.codes.specs.declared.Code.{Code}
-use Rattle.checks.specs.Tables.{Table, entriesOf}
+use Rattle.desks.specs.Desks.{Sight, deskGood, bytesGood, allOwned}
+use Rattle.checks.specs.Tables.{Table, entriesOf, rowOf}
 use Rattle.checks.specs.declared.Verdict.{Verdict}
 use Rattle.checks.specs.declared.Verdict.the-variants.{Fine, Fault}
 
@@ -17,6 +18,10 @@ countsGood t =
     && leb (t .entryCount) (length (t .entries))
     && leb (t .height) (2 ^ 23)
     && leb (t .height + 1) (length (t .rowStarts))
+
+-- and every segment in use has an owner in the buffer lent for them
+unfoldable pub countsGoodFor : Table → Sight → Bool
+countsGoodFor t s = countsGood t && leb (t .segmentCount) (length (s .owners))
 
 -- n pixels from column x0 on are in the widest image and in channels of these lengths
 unfoldable pub spanGood : ℕ → ℕ → ℕ → ℕ → ℕ → Bool
@@ -35,15 +40,22 @@ entriesGood entries entryCount rowStarts segmentCount y =
 abbrev pub rowGood : Table → ℕ → Bool
 rowGood t y = entriesGood (t .entries) (t .entryCount) (t .rowStarts) (t .segmentCount) y
 
+-- and the owners of the named segments are splines
+unfoldable pub rowGoodFor : Table → Sight → ℕ → Bool
+rowGoodFor t s y = rowGood t y && allOwned (s .owners) (s .splines) (rowOf t y)
+
 -- a check: where it fails its code is the answer, else what comes after it
 abbrev pub orFault : Bool → Code → Verdict → Verdict
 orFault true c after = after
 orFault false c after = Fault c
 
--- the checks of a row, in their order: the counts, the row, whether the span is good, and the row's entries
-abbrev pub judgeRow : Table → ℕ → Bool → Verdict
-judgeRow t y spanned =
-    orFault (countsGood t) Code.Table (orFault (ltb y (t .height)) Code.Row (orFault spanned Code.Span (orFault (rowGood t y) Code.Table Fine)))
+-- the checks of a row for a desk, in their order: the counts, the bytes, the row, whether the span is good, and the row's entries
+abbrev pub judgeRow : Table → Sight → ℕ → Bool → Verdict
+judgeRow t s y spanned =
+    orFault (countsGoodFor t s) Code.Table
+    (orFault (bytesGood s) Code.Trace
+    (orFault (ltb y (t .height)) Code.Row (orFault spanned Code.Span (orFault (rowGoodFor t s y) Code.Table Fine))))
 
-unfoldable pub judgeOf : Table → ℕ → ℕ → ℕ → ℕ → ℕ → ℕ → Verdict
-judgeOf t y x0 n l0 l1 l2 = judgeRow t y (spanGood x0 n l0 l1 l2)
+-- the checks of drawing: the desk, and those of a row
+unfoldable pub judgeOf : Table → Sight → ℕ → ℕ → ℕ → ℕ → ℕ → ℕ → Verdict
+judgeOf t s y x0 n l0 l1 l2 = orFault (deskGood s) Code.Desk (judgeRow t s y (spanGood x0 n l0 l1 l2))

@@ -2,6 +2,7 @@
 -- That a check fails exactly so is proofs/Refusals.antt.
 use Prim.Native.Nat.{ℕ, _+_, _*_, _^_, _≤_, _<_}
 use lib.ListN.{length, getD}
+use Rattle.desks.specs.Desks.{Sight, ownerIn}
 use Rattle.checks.specs.Tables.{Table, rowOf}
 
 -- ---- the counts of a table
@@ -23,6 +24,15 @@ pub record CountsFit (t : Table) : Type 0 where
   pub entries-fit : t .entryCount ≤ length (t .entries)
   pub low : t .height ≤ 2 ^ 23
   pub starts-fit : t .height + 1 ≤ length (t .rowStarts)
+
+-- a count of the table overruns, or fewer owners are lent than the segments in use
+pub data OverrunFor (t : Table) (s : Sight) : Type 0 where
+  in-table : Overrun t → OverrunFor t s
+  owners-short : length (s .owners) < t .segmentCount → OverrunFor t s
+
+pub record CountsFitFor (t : Table) (s : Sight) : Type 0 where
+  pub table : CountsFit t
+  pub owners-fit : t .segmentCount ≤ length (s .owners)
 
 -- ---- a part of a row: n pixels from column x0 on, in channels of three lengths
 
@@ -46,3 +56,14 @@ pub data RowBad (t : Table) (y : ℕ) : Type 0 where
   descends : getD (t .rowStarts) (y + 1) 0 < getD (t .rowStarts) y 0 → RowBad t y
   passes : t .entryCount < getD (t .rowStarts) (y + 1) 0 → RowBad t y
   names-none : (j : ℕ) → j < length (rowOf t y) → t .segmentCount ≤ getD (rowOf t y) j 0 → RowBad t y
+
+-- it is bad in the table, or the segment of entry j of it names no spline
+pub data RowBadFor (t : Table) (s : Sight) (y : ℕ) : Type 0 where
+  in-table : RowBad t y → RowBadFor t s y
+  no-spline : (j : ℕ) → j < length (rowOf t y) → s .splines ≤ ownerIn s (getD (rowOf t y) j 0) → RowBadFor t s y
+
+-- ---- what comes before the row: the desk is one of the two, the counts fit, and a byte is lent for each spline
+pub record Lent (t : Table) (s : Sight) : Type 0 where
+  pub desk : s .desk < 2
+  pub counts : CountsFitFor t s
+  pub bytes : s .splines ≤ length (s .bits)

@@ -13,6 +13,8 @@ use Rattle.segments.specs.Segment.{segmentAt}
 use Rattle.segments.specs.Ranges.{hasColumn}
 use Rattle.shade.specs.Edit.{edit, firstCells}
 use Rattle.shade.proofs.Edits.{is-edit, edit-cong, edit-edit}
+use Rattle.desks.specs.Desks.{Sight, hiddenIn, shown}
+use Rattle.desks.proofs.Shown.{shown-most}
 use Rattle.checks.proofs.Entries.{slice-next, slice-none}
 use Rattle.draw.specs.Draw.{shadedInColumn, pixel, count, updates}
 
@@ -30,15 +32,35 @@ updates-le segs x0 n [] = omega arith
 updates-le segs x0 n (s ∷ es) = rw (suc-mul (length es) n) (omega (arith, count-le (hasColumn (segmentAt segs s)) x0 n, updates-le segs x0 n es))
 
 -- and so no overflow
-pub updates-small : (segs : List Float) (x0 n b e : ℕ) (l : List ℕ) → n ≤ 2 ^ 23 → e ≤ length l → e ≤ 2 ^ 30 → updates segs x0 n (slice b e l) ≤ 2 ^ 53
-updates-small segs x0 n b e l h k g =
-    let w : length (slice b e l) ≤ 2 ^ 30 = rw (length-slice b e l k) (omega arith) in
-    le-trans (updates-le segs x0 n (slice b e l))
-    (le-trans (mul-le-mul-left (length (slice b e l)) h)
+pub updates-small : (s : Sight) (segs : List Float) (x0 n b e : ℕ) (l : List ℕ) → n ≤ 2 ^ 23 → e ≤ length l → e ≤ 2 ^ 30 → updates segs x0 n (shown s (slice b e l)) ≤ 2 ^ 53
+updates-small s segs x0 n b e l h k g =
+    let m : length (slice b e l) ≤ 2 ^ 30 = rw (length-slice b e l k) (omega arith) in
+    let w : length (shown s (slice b e l)) ≤ 2 ^ 30 = omega (arith, m, shown-most s (slice b e l)) in
+    le-trans (updates-le segs x0 n (shown s (slice b e l)))
+    (le-trans (mul-le-mul-left (length (shown s (slice b e l))) h)
     (mul-le-mul-right (2 ^ 23) w))
 
-pub total-next : (segs : List Float) (x0 n i e : ℕ) (l : List ℕ) (total r all : ℕ) → i < e → e ≤ length l → total + updates segs x0 n (slice i e l) ≡ all → r ≡ count (hasColumn (segmentAt segs (getD l i 0))) x0 n → total + r + updates segs x0 n (slice (i + 1) e l) ≡ all
-total-next segs x0 n i e l total r all h k p q = omega (arith, ap (updates segs x0 n) (slice-next i e l h k))
+-- ---- the first of listed segments, shown or not
+
+updates-first : (s : Sight) (segs : List Float) (x0 n i : ℕ) (l : List ℕ) → updates segs x0 n (shown s (i ∷ l)) ≡ updates segs x0 n (shown s (i ∷ [])) + updates segs x0 n (shown s l)
+updates-first s segs x0 n i l = go (hiddenIn s i)
+  where
+    go : (b : Bool) → updates segs x0 n (cond b (shown s l) (i ∷ shown s l)) ≡ updates segs x0 n (cond b [] (i ∷ [])) + updates segs x0 n (shown s l)
+    go true = omega arith
+    go false = omega arith
+
+pixel-first : (s : Sight) (c : ℕ) (segs : List Float) (y x i : ℕ) (l : List ℕ) (v : Float) → pixel c segs y x (shown s l) (pixel c segs y x (shown s (i ∷ [])) v) ≡ pixel c segs y x (shown s (i ∷ l)) v
+pixel-first s c segs y x i l v = go (hiddenIn s i)
+  where
+    go : (b : Bool) → pixel c segs y x (shown s l) (pixel c segs y x (cond b [] (i ∷ [])) v) ≡ pixel c segs y x (cond b (shown s l) (i ∷ shown s l)) v
+    go true = refl
+    go false = refl
+
+-- ---- from entry to entry
+
+pub total-next : (s : Sight) (segs : List Float) (x0 n i e : ℕ) (l : List ℕ) (total r all : ℕ) → i < e → e ≤ length l → total + updates segs x0 n (shown s (slice i e l)) ≡ all → r ≡ updates segs x0 n (shown s (getD l i 0 ∷ [])) → total + r + updates segs x0 n (shown s (slice (i + 1) e l)) ≡ all
+total-next s segs x0 n i e l total r all h k p q =
+    omega (arith, p, q, ap (λ (m : List ℕ). updates segs x0 n (shown s m)) (slice-next i e l h k), updates-first s segs x0 n (getD l i 0) (slice (i + 1) e l))
 
 twice-cond : (b : Bool) (g : Float → Float) (w v : Float) → cond b (g (cond b w v)) (cond b w v) ≡ cond b (g w) v
 twice-cond true g w v = refl
@@ -52,20 +74,39 @@ same-cond false v = refl
 abbrev pub rest : ℕ → List Float → ℕ → ℕ → ℕ → List ℕ → List Float → List Float
 rest c segs y x0 n es xs = edit (firstCells n (λ k v. pixel c segs y (x0 + k) es v)) xs
 
-pub rest-next : (c : ℕ) (segs : List Float) (y x0 n i e : ℕ) (l : List ℕ) (xs ys all : List Float) → i < e → e ≤ length l → rest c segs y x0 n (slice i e l) xs ≡ all → ys ≡ edit (firstCells n (λ k v. shadedInColumn c segs y (x0 + k) v (getD l i 0))) xs → rest c segs y x0 n (slice (i + 1) e l) ys ≡ all
-rest-next c segs y x0 n i e l xs ys all h k p q =
-    ap (rest c segs y x0 n (slice (i + 1) e l)) q
-    ∙ edit-edit (firstCells n (λ j v. shadedInColumn c segs y (x0 + j) v (getD l i 0))) (firstCells n (λ j v. pixel c segs y (x0 + j) (slice (i + 1) e l) v)) xs
-    ∙ edit-cong _ (firstCells n (λ j v. pixel c segs y (x0 + j) (getD l i 0 ∷ slice (i + 1) e l) v)) xs (λ j v m. twice-cond (ltb j n) (λ w. pixel c segs y (x0 + j) (slice (i + 1) e l) w) (shadedInColumn c segs y (x0 + j) v (getD l i 0)) v)
-    ∙ ap (λ (es : List ℕ). rest c segs y x0 n es xs) (sym (slice-next i e l h k))
+pub rest-next : (s : Sight) (c : ℕ) (segs : List Float) (y x0 n i e : ℕ) (l : List ℕ) (xs ys all : List Float) → i < e → e ≤ length l → rest c segs y x0 n (shown s (slice i e l)) xs ≡ all → ys ≡ rest c segs y x0 n (shown s (getD l i 0 ∷ [])) xs → rest c segs y x0 n (shown s (slice (i + 1) e l)) ys ≡ all
+rest-next s c segs y x0 n i e l xs ys all h k p q =
+    ap (rest c segs y x0 n (shown s (slice (i + 1) e l))) q
+    ∙ edit-edit (firstCells n (λ j v. pixel c segs y (x0 + j) (shown s (getD l i 0 ∷ [])) v)) (firstCells n (λ j v. pixel c segs y (x0 + j) (shown s (slice (i + 1) e l)) v)) xs
+    ∙ edit-cong _ (firstCells n (λ j v. pixel c segs y (x0 + j) (shown s (getD l i 0 ∷ slice (i + 1) e l)) v)) xs
+    (λ j v m.
+    twice-cond (ltb j n) (λ w. pixel c segs y (x0 + j) (shown s (slice (i + 1) e l)) w) (pixel c segs y (x0 + j) (shown s (getD l i 0 ∷ [])) v) v
+    ∙ ap (λ (w : Float). cond (ltb j n) w v) (pixel-first s c segs y (x0 + j) (getD l i 0) (slice (i + 1) e l) v))
+    ∙ ap (λ (es : List ℕ). rest c segs y x0 n (shown s es) xs) (sym (slice-next i e l h k))
     ∙ p
 
-pub rest-none : (c : ℕ) (segs : List Float) (y x0 n i e : ℕ) (l : List ℕ) (xs : List Float) → i ≤ e → e ≤ i → rest c segs y x0 n (slice i e l) xs ≡ xs
-rest-none c segs y x0 n i e l xs h k =
-    ap (λ (es : List ℕ). rest c segs y x0 n es xs) (slice-none i e l h k)
-    ∙ sym (is-edit (firstCells n (λ j v. v)) xs xs refl (λ j m. sym (same-cond (ltb j n) (getD xs j nan))))
+nothing-drawn : (n : ℕ) (xs : List Float) → xs ≡ edit (firstCells n (λ j v. v)) xs
+nothing-drawn n xs = is-edit (firstCells n (λ j v. v)) xs xs refl (λ j m. sym (same-cond (ltb j n) (getD xs j nan)))
 
-pub total-none : (segs : List Float) (x0 n i e : ℕ) (l : List ℕ) (total all : ℕ) → i ≤ e → e ≤ i → total + updates segs x0 n (slice i e l) ≡ all → total ≡ all
-total-none segs x0 n i e l total all h k p = omega (arith, ap (updates segs x0 n) (slice-none i e l h k))
+pub rest-none : (s : Sight) (c : ℕ) (segs : List Float) (y x0 n i e : ℕ) (l : List ℕ) (xs : List Float) → i ≤ e → e ≤ i → rest c segs y x0 n (shown s (slice i e l)) xs ≡ xs
+rest-none s c segs y x0 n i e l xs h k = ap (λ (es : List ℕ). rest c segs y x0 n (shown s es) xs) (slice-none i e l h k) ∙ sym (nothing-drawn n xs)
+
+pub total-none : (s : Sight) (segs : List Float) (x0 n i e : ℕ) (l : List ℕ) (total all : ℕ) → i ≤ e → e ≤ i → total + updates segs x0 n (shown s (slice i e l)) ≡ all → total ≡ all
+total-none s segs x0 n i e l total all h k p = omega (arith, p, ap (λ (m : List ℕ). updates segs x0 n (shown s m)) (slice-none i e l h k))
+
+-- ---- one segment, hidden or drawn
+
+module _ (s : Sight) (segs : List Float) (y x0 n i : ℕ) where
+  pub hidden-kept : (c : ℕ) (xs : List Float) → hiddenIn s i ≡ true → xs ≡ rest c segs y x0 n (shown s (i ∷ [])) xs
+  hidden-kept c xs e = rw e (nothing-drawn n xs)
+
+  pub hidden-counts : hiddenIn s i ≡ true → 0 ≡ updates segs x0 n (shown s (i ∷ []))
+  hidden-counts e = rw e
+
+  pub shown-drawn : (c : ℕ) (xs ys : List Float) → hiddenIn s i ≡ false → ys ≡ edit (firstCells n (λ k v. shadedInColumn c segs y (x0 + k) v i)) xs → ys ≡ rest c segs y x0 n (shown s (i ∷ [])) xs
+  shown-drawn c xs ys e q = rw e q
+
+  pub shown-counts : {r : ℕ} → hiddenIn s i ≡ false → r ≡ count (hasColumn (segmentAt segs i)) x0 n → r ≡ updates segs x0 n (shown s (i ∷ []))
+  shown-counts {r} e q = rw e (omega (arith, q))
 
 -- Assumes nothing.

@@ -12,7 +12,7 @@ use lib.Ieee.{Float}
 use borrow.Author.Tests.{lt-ltb, le-ltb, le-leb, lt-leb, eq-eqb, ne-eqb, eqb-true}
 use Rattle.shade.specs.Edit.{edit, inside}
 use Rattle.shade.proofs.Edits.{lt-or-ge, length-edit, is-edit, edit-cong, edit-edit}
-use Rattle.draw.specs.Draw.{pixel, updates, Table, rowOf, countsGood, rowGood, Channels}
+use Rattle.draw.specs.Draw.{pixel, updates, Table, Sight, shownOf, deskGood, bytesGood, countsGoodFor, rowGoodFor, Channels}
 use Rattle.draw.specs.Parts.{Part, cuts, total, Wide}
 use Rattle.draw.specs.Image.{Job, job, jobs, Each, Image, withRow, DrawnAll, none, more, pairs, mostPairs, WholeImage}
 use Rattle.draw.proofs.Entries.{updates-le}
@@ -41,8 +41,8 @@ has y j k = eqb y (j .row) && hasIn (j .part) k
 abbrev high : ℕ → Job → ℕ
 high H j = cond (ltb (j .row) H) 0 1
 
-abbrev work : Table → Job → ℕ
-work t j = updates (t .segments) (j .part .at) (j .part .wide) (rowOf t (j .row))
+abbrev work : Table → Sight → Job → ℕ
+work t s j = updates (t .segments) (j .part .at) (j .part .wide) (shownOf t s (j .row))
 
 -- ---- every pixel is in one job
 
@@ -83,21 +83,21 @@ high-jobs H y₀ (ws ∷ wss) h =
     low : sumBy (λ p. high H (job y₀ p)) (cuts 0 ws) ≡ 0
     low = rw (lt-ltb y₀ H (omega arith)) (sum-zero (cuts 0 ws))
 
-work-jobs : (t : Table) (W y₀ : ℕ) (wss : List (List ℕ)) → Each W wss → sumBy (work t) (jobs y₀ wss) ≡ pairs t W y₀ (length wss)
+work-jobs : (t : Table) (s : Sight) (W y₀ : ℕ) (wss : List (List ℕ)) → Each W wss → sumBy (work t s) (jobs y₀ wss) ≡ pairs t s W y₀ (length wss)
 unfolding sumBy
-work-jobs t W y₀ [] e = refl
-work-jobs t W y₀ (ws ∷ wss) e =
-    sum-append (work t) (map (job y₀) (cuts 0 ws)) (jobs (suc y₀) wss)
-    ∙ omega (arith, sum-map (work t) (job y₀) (cuts 0 ws), updates-cuts (t .segments) (rowOf t y₀) 0 ws, ap (λ (n : ℕ). updates (t .segments) 0 n (rowOf t y₀)) (e .0), work-jobs t W (suc y₀) wss (e .1))
+work-jobs t s W y₀ [] e = refl
+work-jobs t s W y₀ (ws ∷ wss) e =
+    sum-append (work t s) (map (job y₀) (cuts 0 ws)) (jobs (suc y₀) wss)
+    ∙ omega (arith, sum-map (work t s) (job y₀) (cuts 0 ws), updates-cuts (t .segments) (shownOf t s y₀) 0 ws, ap (λ (n : ℕ). updates (t .segments) 0 n (shownOf t s y₀)) (e .0), work-jobs t s W (suc y₀) wss (e .1))
 
 -- ---- at most W updates of each entry
 
 pub updates-most : (segs : List Float) (x n : ℕ) (es : List ℕ) → updates segs x n es ≤ n * length es
 updates-most segs x n es = rw (mul-comm n (length es)) (updates-le segs x n es)
 
-pub pairs-most : (t : Table) (W y n : ℕ) → pairs t W y n ≤ mostPairs t W y n
-pairs-most t W y zero = omega arith
-pairs-most t W y (suc n) = add-le-add (updates-most (t .segments) 0 W (rowOf t y)) (pairs-most t W (suc y) n)
+pub pairs-most : (t : Table) (s : Sight) (W y n : ℕ) → pairs t s W y n ≤ mostPairs t s W y n
+pairs-most t s W y zero = omega arith
+pairs-most t s W y (suc n) = add-le-add (updates-most (t .segments) 0 W (shownOf t s y)) (pairs-most t s W (suc y) n)
 
 -- ---- one call
 
@@ -106,8 +106,8 @@ either true = inl refl
 either false = inr refl
 
 -- a row's channel after a job: the job's own row is drawn, and every other is as it was
-at-row : (c : ℕ) (get : Channels → List Float) (t : Table) (a : Image) (y : ℕ) (p : Part) (b : Channels) → get b ≡ partly c t y p (get (a y)) → (i : ℕ) → get (withRow a y b i) ≡ edit (λ k v. cond (has i (job y p) k) (pixel c (t .segments) i k (rowOf t i) v) v) (get (a i))
-at-row c get t a y p b h i =
+at-row : (c : ℕ) (get : Channels → List Float) (t : Table) (s : Sight) (a : Image) (y : ℕ) (p : Part) (b : Channels) → get b ≡ partly c t s y p (get (a y)) → (i : ℕ) → get (withRow a y b i) ≡ edit (λ k v. cond (has i (job y p) k) (pixel c (t .segments) i k (shownOf t s i) v) v) (get (a i))
+at-row c get t s a y p b h i =
     ⊎-elim
     (λ q. rw (eqb-true i y q, eq-eqb y y refl) h)
     (λ q. rw q (is-edit (λ k v. v) (get (a i)) (get (a i)) refl (λ j l. refl)))
@@ -125,24 +125,24 @@ not-high : (H y : ℕ) (p : Part) (js : List Job) → sumBy (high H) (job y p �
 unfolding sumBy
 not-high H y p js h = ⊎-elim (λ l. (l, omega (arith, rw (lt-ltb y H l) at h))) (λ l. absurd (omega (arith, rw (le-ltb y H l) at h))) (lt-or-ge y H)
 
-record Onward (t : Table) (js : List Job) (a : Image) (sum : ℕ) (w : Image) : Type 0 where
-  o0 : (i : ℕ) → w i .r0 ≡ edit (through (has i) (λ k v. pixel 0 (t .segments) i k (rowOf t i) v) js) (a i .r0)
-  o1 : (i : ℕ) → w i .r1 ≡ edit (through (has i) (λ k v. pixel 1 (t .segments) i k (rowOf t i) v) js) (a i .r1)
-  o2 : (i : ℕ) → w i .r2 ≡ edit (through (has i) (λ k v. pixel 2 (t .segments) i k (rowOf t i) v) js) (a i .r2)
-  os : sum ≡ sumBy (work t) js
+record Onward (t : Table) (s : Sight) (js : List Job) (a : Image) (sum : ℕ) (w : Image) : Type 0 where
+  o0 : (i : ℕ) → w i .r0 ≡ edit (through (has i) (λ k v. pixel 0 (t .segments) i k (shownOf t s i) v) js) (a i .r0)
+  o1 : (i : ℕ) → w i .r1 ≡ edit (through (has i) (λ k v. pixel 1 (t .segments) i k (shownOf t s i) v) js) (a i .r1)
+  o2 : (i : ℕ) → w i .r2 ≡ edit (through (has i) (λ k v. pixel 2 (t .segments) i k (shownOf t s i) v) js) (a i .r2)
+  os : sum ≡ sumBy (work t s) js
 
-module _ (t : Table) (W H : ℕ) (g : countsGood t ≡ true) (hH : H ≤ t .height) (r : (y : ℕ) → y < H → rowGood t y ≡ true) (hW : W ≤ 2 ^ 23) where
-  onward : {js : List Job} {a w : Image} {sum : ℕ} → ((i : ℕ) → Wide W (a i)) → sumBy (high H) js ≡ 0 → DrawnAll t js a sum w → Onward t js a sum w
+module _ (t : Table) (s : Sight) (W H : ℕ) (d : deskGood s ≡ true) (g : countsGoodFor t s ≡ true) (b : bytesGood s ≡ true) (hH : H ≤ t .height) (r : (y : ℕ) → y < H → rowGoodFor t s y ≡ true) (hW : W ≤ 2 ^ 23) where
+  onward : {js : List Job} {a w : Image} {sum : ℕ} → ((i : ℕ) → Wide W (a i)) → sumBy (high H) js ≡ 0 → DrawnAll t s js a sum w → Onward t s js a sum w
   unfolding sumBy
   onward e h none = record { o0 = λ i. chan-none i _ _; o1 = λ i. chan-none i _ _; o2 = λ i. chan-none i _ _; os = refl }
-  onward e h (more {y = y} {p = p} {js = js} {a = a} {w = w} {b = b} {count = count} {rest = rest} d n) =
-      let s = not-high H y p js h in
-      let low : y < t .height = omega (arith, s .0) in
-      let k = came t y W g low (r y (s .0)) hW (e y) d in
-      let k0 = at-row 0 (λ v. v .r0) t a y p b (k .b0) in
-      let k1 = at-row 1 (λ v. v .r1) t a y p b (k .b1) in
-      let k2 = at-row 2 (λ v. v .r2) t a y p b (k .b2) in
-      let o = onward (λ i. record { w0 = ap length (k0 i) ∙ length-edit _ _ ∙ e i .w0; w1 = ap length (k1 i) ∙ length-edit _ _ ∙ e i .w1; w2 = ap length (k2 i) ∙ length-edit _ _ ∙ e i .w2 }) (s .1) n in
+  onward e h (more {y = y} {p = p} {js = js} {a = a} {w = w} {b = z} {count = count} {rest = rest} q n) =
+      let m = not-high H y p js h in
+      let low : y < t .height = omega (arith, m .0) in
+      let k = came t s y W d g b low (r y (m .0)) hW (e y) q in
+      let k0 = at-row 0 (λ v. v .r0) t s a y p z (k .b0) in
+      let k1 = at-row 1 (λ v. v .r1) t s a y p z (k .b1) in
+      let k2 = at-row 2 (λ v. v .r2) t s a y p z (k .b2) in
+      let o = onward (λ i. record { w0 = ap length (k0 i) ∙ length-edit _ _ ∙ e i .w0; w1 = ap length (k1 i) ∙ length-edit _ _ ∙ e i .w1; w2 = ap length (k2 i) ∙ length-edit _ _ ∙ e i .w2 }) (m .1) n in
       record {
         o0 = λ i. chan-more i _ (job y p) js (a i .r0) _ (w i .r0) (k0 i) (o .o0 i);
         o1 = λ i. chan-more i _ (job y p) js (a i .r1) _ (w i .r1) (k1 i) (o .o1 i);
@@ -151,15 +151,15 @@ module _ (t : Table) (W H : ℕ) (g : countsGood t ≡ true) (hH : H ≤ t .heig
       }
 
   -- all parts of all rows, in any order
-  pub image-in-parts : (wss : List (List ℕ)) (js : List Job) (a w : Image) (sum : ℕ) → length wss ≡ H → Each W wss → List·Permᴰ (jobs 0 wss) js → ((i : ℕ) → Wide W (a i)) → DrawnAll t js a sum w → WholeImage t W H a sum w
-  image-in-parts wss js a w sum e each perm wide d =
+  pub image-in-parts : (wss : List (List ℕ)) (js : List Job) (a w : Image) (sum : ℕ) → length wss ≡ H → Each W wss → List·Permᴰ (jobs 0 wss) js → ((i : ℕ) → Wide W (a i)) → DrawnAll t s js a sum w → WholeImage t s W H a sum w
+  image-in-parts wss js a w sum e each perm wide drawn =
       record {
         each-row = λ y h. record { channel0 = o .o0 y ∙ once y h _ (a y .r0) (wide y .w0); channel1 = o .o1 y ∙ once y h _ (a y .r1) (wide y .w1); channel2 = o .o2 y ∙ once y h _ (a y .r2) (wide y .w2); pairs = refl };
-        all-pairs = o .os ∙ sym (sum-perm (work t) perm) ∙ work-jobs t W 0 wss each ∙ rw e;
+        all-pairs = o .os ∙ sym (sum-perm (work t s) perm) ∙ work-jobs t s W 0 wss each ∙ rw e;
       }
     where
-      o : Onward t js a sum w
-      o = onward wide (sym (sum-perm (high H) perm) ∙ high-jobs H 0 wss (omega arith)) d
+      o : Onward t s js a sum w
+      o = onward wide (sym (sum-perm (high H) perm) ∙ high-jobs H 0 wss (omega arith)) drawn
 
       one : (y k : ℕ) → y < H → k < W → sumBy (λ j. cond (has y j k) 1 0) js ≡ 1
       one y k h l = sym (sum-perm (λ j. cond (has y j k) 1 0) perm) ∙ has-jobs W y k l 0 wss each ∙ rw (le-leb 0 y (omega arith), lt-ltb y (0 + length wss) (omega arith))

@@ -16,7 +16,7 @@ use Rattle.shade.proofs.Edits.{lt-or-ge, length-edit, getD-edit}
 use Rattle.checks.specs.declared.Verdict.{Verdict}
 use Rattle.checks.specs.declared.Verdict.the-variants.{Fine, Fault}
 use Rattle.checks.proofs.Refusals.{is-false}
-use Rattle.draw.specs.Draw.{pixel, updates, Table, rowOf, judgeOf, Channels, drawnChannel, DrawOutcome, outcome, drawOf}
+use Rattle.draw.specs.Draw.{pixel, updates, Table, Sight, shownOf, judgeOf, Channels, drawnChannel, DrawOutcome, outcome, drawOf}
 use Rattle.draw.specs.Keeps.{Updates, SameCell, SameLengths}
 use Rattle.draw.specs.Parts.{Wide, Whole}
 
@@ -35,44 +35,44 @@ cell-kept : (f : ℕ → Float → Float) (n : ℕ) (xs : List Float) (k : ℕ) 
 cell-kept f n xs k h = edit-kept (firstCells n f) xs k (λ l v. ⊎-elim (λ m. rw (lt-ltb k n m) (h m v)) (λ m. rw (le-ltb k n m)) (lt-or-ge k n))
 
 -- a cell of the part that is not updated
-idle-kept : (t : Table) (y x0 n k : ℕ) → (Updates t y x0 n k → ⊥) → k < n → (c : ℕ) (v : Float) → pixel c (t .segments) y (x0 + k) (rowOf t y) v ≡ v
-idle-kept t y x0 n k idle l c v =
-    pixel-kept c (t .segments) y (x0 + k) (rowOf t y) v
-    (λ j m. is-false (hasColumn (segmentAt (t .segments) (getD (rowOf t y) j 0)) (x0 + k)) (λ e. idle (record { in-part = l; entry = j; in-row = m; has = e })))
+idle-kept : (t : Table) (s : Sight) (y x0 n k : ℕ) → (Updates t s y x0 n k → ⊥) → k < n → (c : ℕ) (v : Float) → pixel c (t .segments) y (x0 + k) (shownOf t s y) v ≡ v
+idle-kept t s y x0 n k idle l c v =
+    pixel-kept c (t .segments) y (x0 + k) (shownOf t s y) v
+    (λ j m. is-false (hasColumn (segmentAt (t .segments) (getD (shownOf t s y) j 0)) (x0 + k)) (λ e. idle (record { in-part = l; entry = j; in-row = m; has = e })))
 
-module _ (t : Table) (y x0 n : ℕ) (a : Channels) where
-  channel-kept : (k : ℕ) → (Updates t y x0 n k → ⊥) → (c : ℕ) (xs : List Float) → getD (drawnChannel c t y x0 n xs) k nan ≡ getD xs k nan
-  channel-kept k idle c xs = cell-kept (λ j v. pixel c (t .segments) y (x0 + j) (rowOf t y) v) n xs k (λ l v. idle-kept t y x0 n k idle l c v)
+module _ (t : Table) (s : Sight) (y x0 n : ℕ) (a : Channels) where
+  channel-kept : (k : ℕ) → (Updates t s y x0 n k → ⊥) → (c : ℕ) (xs : List Float) → getD (drawnChannel c t s y x0 n xs) k nan ≡ getD xs k nan
+  channel-kept k idle c xs = cell-kept (λ j v. pixel c (t .segments) y (x0 + j) (shownOf t s y) v) n xs k (λ l v. idle-kept t s y x0 n k idle l c v)
 
-  pub keeps-cells : (o : DrawOutcome) → o ≡ drawOf t y x0 n a → (k : ℕ) → (Updates t y x0 n k → ⊥) → SameCell k a (o .channels)
+  pub keeps-cells : (o : DrawOutcome) → o ≡ drawOf t s y x0 n a → (k : ℕ) → (Updates t s y x0 n k → ⊥) → SameCell k a (o .channels)
   unfolding drawOf
-  keeps-cells o e k idle = go (judgeOf t y x0 n (length (a .r0)) (length (a .r1)) (length (a .r2))) (ap (λ (q : DrawOutcome). q .channels) e)
+  keeps-cells o e k idle = go (judgeOf t s y x0 n (length (a .r0)) (length (a .r1)) (length (a .r2))) (ap (λ (q : DrawOutcome). q .channels) e)
     where
-      go : (v : Verdict) → o .channels ≡ outcome v t y x0 n a .channels → SameCell k a (o .channels)
+      go : (v : Verdict) → o .channels ≡ outcome v t s y x0 n a .channels → SameCell k a (o .channels)
       go (Fault c) q = rw q (record { cell0 = refl; cell1 = refl; cell2 = refl })
       go Fine q = rw q (record { cell0 = channel-kept k idle 0 (a .r0); cell1 = channel-kept k idle 1 (a .r1); cell2 = channel-kept k idle 2 (a .r2) })
 
-  pub keeps-lengths : (o : DrawOutcome) → o ≡ drawOf t y x0 n a → SameLengths a (o .channels)
+  pub keeps-lengths : (o : DrawOutcome) → o ≡ drawOf t s y x0 n a → SameLengths a (o .channels)
   unfolding drawOf
-  keeps-lengths o e = go (judgeOf t y x0 n (length (a .r0)) (length (a .r1)) (length (a .r2))) (ap (λ (q : DrawOutcome). q .channels) e)
+  keeps-lengths o e = go (judgeOf t s y x0 n (length (a .r0)) (length (a .r1)) (length (a .r2))) (ap (λ (q : DrawOutcome). q .channels) e)
     where
-      go : (v : Verdict) → o .channels ≡ outcome v t y x0 n a .channels → SameLengths a (o .channels)
+      go : (v : Verdict) → o .channels ≡ outcome v t s y x0 n a .channels → SameLengths a (o .channels)
       go (Fault c) q = rw q (record { length0 = refl; length1 = refl; length2 = refl })
       go Fine q = rw q (record { length0 = length-edit _ (a .r0); length1 = length-edit _ (a .r1); length2 = length-edit _ (a .r2) })
 
 -- ---- a row drawn whole
 
-pub whole-keeps : {t : Table} {y W : ℕ} {a w : Channels} {sum : ℕ} → Wide W a → Whole t y W a sum w → (x : ℕ) → (Updates t y 0 W x → ⊥) → SameCell x a w
-whole-keeps {t} {y} {W} {a} {w} wide z x idle = record {
+pub whole-keeps : {t : Table} {s : Sight} {y W : ℕ} {a w : Channels} {sum : ℕ} → Wide W a → Whole t s y W a sum w → (x : ℕ) → (Updates t s y 0 W x → ⊥) → SameCell x a w
+whole-keeps {t} {s} {y} {W} {a} {w} wide z x idle = record {
   cell0 = ap (λ (l : List Float). getD l x nan) (z .channel0) ∙ kept 0 (a .r0) (wide .w0);
   cell1 = ap (λ (l : List Float). getD l x nan) (z .channel1) ∙ kept 1 (a .r1) (wide .w1);
   cell2 = ap (λ (l : List Float). getD l x nan) (z .channel2) ∙ kept 2 (a .r2) (wide .w2);
 }
   where
-    kept : (c : ℕ) (xs : List Float) → length xs ≡ W → getD (edit (λ k v. pixel c (t .segments) y k (rowOf t y) v) xs) x nan ≡ getD xs x nan
+    kept : (c : ℕ) (xs : List Float) → length xs ≡ W → getD (edit (λ k v. pixel c (t .segments) y k (shownOf t s y) v) xs) x nan ≡ getD xs x nan
     kept c xs e =
-        edit-kept (λ k v. pixel c (t .segments) y k (rowOf t y) v) xs x
-        (λ l v. rw (zero-add x) at (idle-kept t y 0 W x idle (omega (arith, l, e)) c v))
+        edit-kept (λ k v. pixel c (t .segments) y k (shownOf t s y) v) xs x
+        (λ l v. rw (zero-add x) at (idle-kept t s y 0 W x idle (omega (arith, l, e)) c v))
 
 -- ---- one cell drawn alone counts its updates
 
@@ -82,7 +82,7 @@ counts-one segs x [] j h e = absurd (omega (arith, h))
 counts-one segs x (i ∷ l) zero h e = rw (add-zero x, e) (omega arith)
 counts-one segs x (i ∷ l) (suc j) h e = omega (arith, counts-one segs x l j (omega (arith, h)) e)
 
-pub updated-counts : (t : Table) (y x W : ℕ) → Updates t y 0 W x → 0 < updates (t .segments) x 1 (rowOf t y)
-updated-counts t y x W u = counts-one (t .segments) x (rowOf t y) (u .entry) (u .in-row) (rw (zero-add x) at (u .has))
+pub updated-counts : (t : Table) (s : Sight) (y x W : ℕ) → Updates t s y 0 W x → 0 < updates (t .segments) x 1 (shownOf t s y)
+updated-counts t s y x W u = counts-one (t .segments) x (shownOf t s y) (u .entry) (u .in-row) (rw (zero-add x) at (u .has))
 
 -- Assumes nothing.

@@ -16,7 +16,7 @@ use Rattle.shade.specs.Edit.{edit, firstCells, inside}
 use Rattle.shade.proofs.Edits.{lt-or-ge, length-edit, getD-edit, is-edit, edit-cong, edit-edit, edit-part}
 use Rattle.checks.specs.declared.Verdict.{Verdict}
 use Rattle.checks.specs.declared.Verdict.the-variants.{Fine}
-use Rattle.draw.specs.Draw.{pixel, count, updates, Table, rowOf, countsGood, spanGood, rowGood, judgeOf, Channels, DrawOutcome, leaves, drawnChannel, outcome, drawOf}
+use Rattle.draw.specs.Draw.{pixel, count, updates, Table, Sight, shownOf, deskGood, bytesGood, countsGoodFor, spanGood, rowGoodFor, judgeOf, Channels, DrawOutcome, leaves, drawnChannel, outcome, drawOf}
 use Rattle.draw.specs.Parts.{Part, cuts, total, cells, placed, cellsOf, Wide, Draws, Drawn, none, more, Whole}
 use Rattle.draw.specs.declared.DrawAnswer.{DrawAnswer}
 
@@ -113,27 +113,29 @@ take-edit f n xs =
     getD-take n (edit (firstCells n f) xs) i nan l ∙ getD-edit (firstCells n f) xs i m ∙ rw (lt-ltb i n l) (ap (f i) (sym (getD-take n xs i nan l))))
 
 -- a part that came back drawn, by colour: its own columns are drawn, and all others as they were
-abbrev pub partly : ℕ → Table → ℕ → Part → List Float → List Float
-partly c t y p xs = edit (λ k v. cond (hasIn p k) (pixel c (t .segments) y k (rowOf t y) v) v) xs
+abbrev pub partly : ℕ → Table → Sight → ℕ → Part → List Float → List Float
+partly c t s y p xs = edit (λ k v. cond (hasIn p k) (pixel c (t .segments) y k (shownOf t s y) v) v) xs
 
-pub record Came (t : Table) (y : ℕ) (p : Part) (a : Channels) (count : ℕ) (b : Channels) : Type 0 where
-  pub b0 : b .r0 ≡ partly 0 t y p (a .r0)
-  pub b1 : b .r1 ≡ partly 1 t y p (a .r1)
-  pub b2 : b .r2 ≡ partly 2 t y p (a .r2)
-  pub work : count ≡ updates (t .segments) (p .at) (p .wide) (rowOf t y)
+pub record Came (t : Table) (s : Sight) (y : ℕ) (p : Part) (a : Channels) (count : ℕ) (b : Channels) : Type 0 where
+  pub b0 : b .r0 ≡ partly 0 t s y p (a .r0)
+  pub b1 : b .r1 ≡ partly 1 t s y p (a .r1)
+  pub b2 : b .r2 ≡ partly 2 t s y p (a .r2)
+  pub work : count ≡ updates (t .segments) (p .at) (p .wide) (shownOf t s y)
 
-module _ (t : Table) (y W : ℕ) (g : countsGood t ≡ true) (hy : y < t .height) (r : rowGood t y ≡ true) (hW : W ≤ 2 ^ 23) where
+module _ (t : Table) (s : Sight) (y W : ℕ) (d : deskGood s ≡ true) (g : countsGoodFor t s ≡ true) (b : bytesGood s ≡ true) (hy : y < t .height) (r : rowGoodFor t s y ≡ true) (hW : W ≤ 2 ^ 23) where
   -- a part inside the image is drawn, for each slice is as long as the part
-  judged : (p : Part) (a l : Channels) → p .at + p .wide ≤ W → Wide W a → cellsOf 0 (p .wide) l ≡ cellsOf (p .at) (p .wide) a → judgeOf t y (p .at) (p .wide) (length (l .r0)) (length (l .r1)) (length (l .r2)) ≡ Fine
+  judged : (p : Part) (a l : Channels) → p .at + p .wide ≤ W → Wide W a → cellsOf 0 (p .wide) l ≡ cellsOf (p .at) (p .wide) a → judgeOf t s y (p .at) (p .wide) (length (l .r0)) (length (l .r1)) (length (l .r2)) ≡ Fine
   unfolding judgeOf spanGood
-  judged p a l h e b =
+  judged p a l h e q =
       rw (
+        d,
         g,
+        b,
         lt-ltb y (t .height) hy,
         le-leb (p .at + p .wide) (2 ^ 23) (omega arith),
-        le-leb (p .wide) (length (l .r0)) (long (l .r0) (a .r0) (e .w0) (ap (λ (c : Channels). c .r0) b)),
-        le-leb (p .wide) (length (l .r1)) (long (l .r1) (a .r1) (e .w1) (ap (λ (c : Channels). c .r1) b)),
-        le-leb (p .wide) (length (l .r2)) (long (l .r2) (a .r2) (e .w2) (ap (λ (c : Channels). c .r2) b)),
+        le-leb (p .wide) (length (l .r0)) (long (l .r0) (a .r0) (e .w0) (ap (λ (c : Channels). c .r0) q)),
+        le-leb (p .wide) (length (l .r1)) (long (l .r1) (a .r1) (e .w1) (ap (λ (c : Channels). c .r1) q)),
+        le-leb (p .wide) (length (l .r2)) (long (l .r2) (a .r2) (e .w2) (ap (λ (c : Channels). c .r2) q)),
         r,
       )
     where
@@ -142,26 +144,26 @@ module _ (t : Table) (y W : ℕ) (g : countsGood t ≡ true) (hy : y < t .height
           let m : length (cells 0 (p .wide) ls) ≡ length (cells (p .at) (p .wide) xs) = ap length q in
           omega (arith, m, length-take (p .wide) ls, length-take (p .wide) (drop (p .at) xs), length-drop (p .at) xs, w, h)
 
-  pub came : {p : Part} {a b : Channels} {count : ℕ} → Wide W a → Draws t y p a count b → Came t y p a count b
+  pub came : {p : Part} {a z : Channels} {count : ℕ} → Wide W a → Draws t s y p a count z → Came t s y p a count z
   unfolding drawOf
-  came {p} {a} {b} {count} e d =
-      let h : p .at + p .wide ≤ W = omega (arith, d .in-row, e .w0) in
-      let o : leaves (d .answer) (d .left) ≡ outcome Fine t y (p .at) (p .wide) (d .lent) = d .outcome ∙ ap (λ (v : Verdict). outcome v t y (p .at) (p .wide) (d .lent)) (judged p a (d .lent) h e (d .begins)) in
+  came {p} {a} {z} {count} e w =
+      let h : p .at + p .wide ≤ W = omega (arith, w .in-row, e .w0) in
+      let o : leaves (w .answer) (w .left) ≡ outcome Fine t s y (p .at) (p .wide) (w .lent) = w .outcome ∙ ap (λ (v : Verdict). outcome v t s y (p .at) (p .wide) (w .lent)) (judged p a (w .lent) h e (w .begins)) in
       record {
-        b0 = ap (λ (c : Channels). c .r0) (d .comes-back) ∙ step 0 (a .r0) (d .lent .r0) (d .left .r0) (e .w0) (ap (λ (c : Channels). c .r0) (d .begins)) (ap (λ (q : DrawOutcome). q .channels .r0) o);
-        b1 = ap (λ (c : Channels). c .r1) (d .comes-back) ∙ step 1 (a .r1) (d .lent .r1) (d .left .r1) (e .w1) (ap (λ (c : Channels). c .r1) (d .begins)) (ap (λ (q : DrawOutcome). q .channels .r1) o);
-        b2 = ap (λ (c : Channels). c .r2) (d .comes-back) ∙ step 2 (a .r2) (d .lent .r2) (d .left .r2) (e .w2) (ap (λ (c : Channels). c .r2) (d .begins)) (ap (λ (q : DrawOutcome). q .channels .r2) o);
-        work = d .counted ∙ ap (λ (q : DrawOutcome). q .told .updates) o;
+        b0 = ap (λ (c : Channels). c .r0) (w .comes-back) ∙ step 0 (a .r0) (w .lent .r0) (w .left .r0) (e .w0) (ap (λ (c : Channels). c .r0) (w .begins)) (ap (λ (q : DrawOutcome). q .channels .r0) o);
+        b1 = ap (λ (c : Channels). c .r1) (w .comes-back) ∙ step 1 (a .r1) (w .lent .r1) (w .left .r1) (e .w1) (ap (λ (c : Channels). c .r1) (w .begins)) (ap (λ (q : DrawOutcome). q .channels .r1) o);
+        b2 = ap (λ (c : Channels). c .r2) (w .comes-back) ∙ step 2 (a .r2) (w .lent .r2) (w .left .r2) (e .w2) (ap (λ (c : Channels). c .r2) (w .begins)) (ap (λ (q : DrawOutcome). q .channels .r2) o);
+        work = w .counted ∙ ap (λ (q : DrawOutcome). q .told .updates) o;
       }
     where
-      step : (c : ℕ) (xs ls zs : List Float) → length xs ≡ W → cells 0 (p .wide) ls ≡ cells (p .at) (p .wide) xs → zs ≡ drawnChannel c t y (p .at) (p .wide) ls
-          → placed (p .at) (p .wide) xs (cells 0 (p .wide) zs) ≡ partly c t y p xs
-      step c xs ls zs w q z =
-          let f : ℕ → Float → Float = λ k v. pixel c (t .segments) y k (rowOf t y) v in
-          ap (placed (p .at) (p .wide) xs) (ap (cells 0 (p .wide)) z ∙ take-edit (λ k v. f (p .at + k) v) (p .wide) ls ∙ ap (edit (λ k v. f (p .at + k) v)) q)
-          ∙ edit-part f xs (p .at) (p .wide) (omega (arith, d .in-row, e .w0, w))
+      step : (c : ℕ) (xs ls zs : List Float) → length xs ≡ W → cells 0 (p .wide) ls ≡ cells (p .at) (p .wide) xs → zs ≡ drawnChannel c t s y (p .at) (p .wide) ls
+          → placed (p .at) (p .wide) xs (cells 0 (p .wide) zs) ≡ partly c t s y p xs
+      step c xs ls zs l q v =
+          let f : ℕ → Float → Float = λ k v. pixel c (t .segments) y k (shownOf t s y) v in
+          ap (placed (p .at) (p .wide) xs) (ap (cells 0 (p .wide)) v ∙ take-edit (λ k v. f (p .at + k) v) (p .wide) ls ∙ ap (edit (λ k v. f (p .at + k) v)) q)
+          ∙ edit-part f xs (p .at) (p .wide) (omega (arith, w .in-row, e .w0, l))
 
-pub still-wide : {W : ℕ} {t : Table} {y : ℕ} {p : Part} {a b : Channels} {count : ℕ} → Wide W a → Came t y p a count b → Wide W b
+pub still-wide : {W : ℕ} {t : Table} {s : Sight} {y : ℕ} {p : Part} {a b : Channels} {count : ℕ} → Wide W a → Came t s y p a count b → Wide W b
 still-wide e k = record { w0 = ap length (k .b0) ∙ length-edit _ _ ∙ e .w0; w1 = ap length (k .b1) ∙ length-edit _ _ ∙ e .w1; w2 = ap length (k .b2) ∙ length-edit _ _ ∙ e .w2 }
 
 -- ---- all the parts
@@ -176,38 +178,38 @@ unfolding through
 chan-none f xs = is-edit (λ k v. v) xs xs refl (λ i k. refl)
 
 -- what the parts of ps do to the three channels, and the sum of the updates
-record Onward (t : Table) (y : ℕ) (ps : List Part) (a : Channels) (sum : ℕ) (w : Channels) : Type 0 where
-  o0 : w .r0 ≡ edit (through hasIn (λ k v. pixel 0 (t .segments) y k (rowOf t y) v) ps) (a .r0)
-  o1 : w .r1 ≡ edit (through hasIn (λ k v. pixel 1 (t .segments) y k (rowOf t y) v) ps) (a .r1)
-  o2 : w .r2 ≡ edit (through hasIn (λ k v. pixel 2 (t .segments) y k (rowOf t y) v) ps) (a .r2)
-  os : sum ≡ sumBy (λ p. updates (t .segments) (p .at) (p .wide) (rowOf t y)) ps
+record Onward (t : Table) (s : Sight) (y : ℕ) (ps : List Part) (a : Channels) (sum : ℕ) (w : Channels) : Type 0 where
+  o0 : w .r0 ≡ edit (through hasIn (λ k v. pixel 0 (t .segments) y k (shownOf t s y) v) ps) (a .r0)
+  o1 : w .r1 ≡ edit (through hasIn (λ k v. pixel 1 (t .segments) y k (shownOf t s y) v) ps) (a .r1)
+  o2 : w .r2 ≡ edit (through hasIn (λ k v. pixel 2 (t .segments) y k (shownOf t s y) v) ps) (a .r2)
+  os : sum ≡ sumBy (λ p. updates (t .segments) (p .at) (p .wide) (shownOf t s y)) ps
 
-module _ (t : Table) (y W : ℕ) (g : countsGood t ≡ true) (hy : y < t .height) (r : rowGood t y ≡ true) (hW : W ≤ 2 ^ 23) where
-  onward : {ps : List Part} {a w : Channels} {sum : ℕ} → Wide W a → Drawn t y ps a sum w → Onward t y ps a sum w
+module _ (t : Table) (s : Sight) (y W : ℕ) (d : deskGood s ≡ true) (g : countsGoodFor t s ≡ true) (b : bytesGood s ≡ true) (hy : y < t .height) (r : rowGoodFor t s y ≡ true) (hW : W ≤ 2 ^ 23) where
+  onward : {ps : List Part} {a w : Channels} {sum : ℕ} → Wide W a → Drawn t s y ps a sum w → Onward t s y ps a sum w
   unfolding sumBy
   onward e none = record { o0 = chan-none _ _; o1 = chan-none _ _; o2 = chan-none _ _; os = refl }
-  onward e (more {p = p} {ps = ps} {a = a} {b = b} {w = w} {count = count} {rest = rest} d n) =
-      let k = came t y W g hy r hW e d in
+  onward e (more {p = p} {ps = ps} {a = a} {b = z} {w = w} {count = count} {rest = rest} w1 n) =
+      let k = came t s y W d g b hy r hW e w1 in
       let o = onward (still-wide e k) n in
       record {
-        o0 = chan-more _ p ps (a .r0) (b .r0) (w .r0) (k .b0) (o .o0);
-        o1 = chan-more _ p ps (a .r1) (b .r1) (w .r1) (k .b1) (o .o1);
-        o2 = chan-more _ p ps (a .r2) (b .r2) (w .r2) (k .b2) (o .o2);
+        o0 = chan-more _ p ps (a .r0) (z .r0) (w .r0) (k .b0) (o .o0);
+        o1 = chan-more _ p ps (a .r1) (z .r1) (w .r1) (k .b1) (o .o1);
+        o2 = chan-more _ p ps (a .r2) (z .r2) (w .r2) (k .b2) (o .o2);
         os = omega (arith, k .work, o .os);
       }
 
   -- all parts of a row, in any order
-  pub row-in-parts : (ws : List ℕ) (ps : List Part) (a w : Channels) (sum : ℕ) → total ws ≡ W → List·Permᴰ (cuts 0 ws) ps → Wide W a → Drawn t y ps a sum w → Whole t y W a sum w
-  row-in-parts ws ps a w sum e perm wide d =
+  pub row-in-parts : (ws : List ℕ) (ps : List Part) (a w : Channels) (sum : ℕ) → total ws ≡ W → List·Permᴰ (cuts 0 ws) ps → Wide W a → Drawn t s y ps a sum w → Whole t s y W a sum w
+  row-in-parts ws ps a w sum e perm wide drawn =
       record {
         channel0 = o .o0 ∙ once _ (a .r0) (wide .w0);
         channel1 = o .o1 ∙ once _ (a .r1) (wide .w1);
         channel2 = o .o2 ∙ once _ (a .r2) (wide .w2);
-        pairs = o .os ∙ sym (sum-perm (λ p. updates (t .segments) (p .at) (p .wide) (rowOf t y)) perm) ∙ updates-cuts (t .segments) (rowOf t y) 0 ws ∙ rw e;
+        pairs = o .os ∙ sym (sum-perm (λ p. updates (t .segments) (p .at) (p .wide) (shownOf t s y)) perm) ∙ updates-cuts (t .segments) (shownOf t s y) 0 ws ∙ rw e;
       }
     where
-      o : Onward t y ps a sum w
-      o = onward wide d
+      o : Onward t s y ps a sum w
+      o = onward wide drawn
 
       one : (k : ℕ) → k < W → sumBy (held k) ps ≡ 1
       one k h = sym (sum-perm (held k) perm) ∙ held-cuts 0 ws k ∙ rw (le-leb 0 k (omega arith), lt-ltb k (0 + total ws) (omega arith))
@@ -217,7 +219,7 @@ module _ (t : Table) (y W : ℕ) (g : countsGood t ≡ true) (hy : y < t .height
 
 -- ---- any two outcomes are equal
 
-pub one-outcome : (t : Table) (y x0 n : ℕ) (a : Channels) {r r′ : DrawAnswer} {z z′ : Channels} → leaves r z ≡ drawOf t y x0 n a → leaves r′ z′ ≡ drawOf t y x0 n a → leaves r z ≡ leaves r′ z′
-one-outcome t y x0 n a p q = p ∙ sym q
+pub one-outcome : (t : Table) (s : Sight) (y x0 n : ℕ) (a : Channels) {r r′ : DrawAnswer} {z z′ : Channels} → leaves r z ≡ drawOf t s y x0 n a → leaves r′ z′ ≡ drawOf t s y x0 n a → leaves r z ≡ leaves r′ z′
+one-outcome t s y x0 n a p q = p ∙ sym q
 
 -- Assumes nothing.

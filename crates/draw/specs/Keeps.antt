@@ -6,14 +6,14 @@ use lib.ListN.{length, getD}
 use lib.Ieee.{nan}
 use Rattle.segments.specs.Segment.{segmentAt}
 use Rattle.segments.specs.Ranges.{hasColumn}
-use Rattle.draw.specs.Draw.{Table, rowOf, Channels}
+use Rattle.draw.specs.Draw.{Table, Sight, shownOf, Channels}
 
--- a drawing of n pixels of row y from column x0 on updates cell k: the cell is in the part, and the segment of an entry of the row has its column
-pub record Updates (t : Table) (y x0 n k : ℕ) : Type 0 where
+-- a desk's drawing of n pixels of row y from column x0 on updates cell k: the cell is in the part, and the segment of a shown entry of the row has its column
+pub record Updates (t : Table) (s : Sight) (y x0 n k : ℕ) : Type 0 where
   pub in-part : k < n
   pub entry : ℕ
-  pub in-row : entry < length (rowOf t y)
-  pub has : hasColumn (segmentAt (t .segments) (getD (rowOf t y) entry 0)) (x0 + k) ≡ true
+  pub in-row : entry < length (shownOf t s y)
+  pub has : hasColumn (segmentAt (t .segments) (getD (shownOf t s y) entry 0)) (x0 + k) ≡ true
 
 -- cell k is the same in three channels before and after
 pub record SameCell (k : ℕ) (a b : Channels) : Type 0 where

@@ -5,7 +5,7 @@ use Prim.Native.Nat.{ℕ, _+_, _≤_}
 use lib.ListN.{length, take, drop}
 use lib.Ieee.{Float}
 use Rattle.shade.specs.Edit.{edit}
-use Rattle.draw.specs.Draw.{pixel, updates, Table, rowOf, toldOf, Channels, three, leaves, drawOf}
+use Rattle.draw.specs.Draw.{pixel, updates, Table, Sight, shownOf, toldOf, Channels, three, leaves, drawOf}
 use Rattle.draw.specs.declared.DrawAnswer.{DrawAnswer}
 
 -- a part of a row: its first column and how many columns it has
@@ -45,24 +45,24 @@ pub record Wide (W : ℕ) (a : Channels) : Type 0 where
 
 -- a part of row y drawn by an outcome that the contract allows: from the row's channels a to b, with a count of updates. The row may be stored anywhere: three slices are lent that
 -- begin with the part's cells of the row, as `&mut plane[y * stride + x0..]` or a strip in a buffer of its own, whatever stands behind; and the row has the cells that come back
-pub record Draws (t : Table) (y : ℕ) (p : Part) (a : Channels) (count : ℕ) (b : Channels) : Type 0 where
+pub record Draws (t : Table) (s : Sight) (y : ℕ) (p : Part) (a : Channels) (count : ℕ) (b : Channels) : Type 0 where
   pub lent : Channels
   pub answer : DrawAnswer
   pub left : Channels
   pub in-row : p .at + p .wide ≤ length (a .r0)
   pub begins : cellsOf 0 (p .wide) lent ≡ cellsOf (p .at) (p .wide) a
-  pub outcome : leaves answer left ≡ drawOf t y (p .at) (p .wide) lent
+  pub outcome : leaves answer left ≡ drawOf t s y (p .at) (p .wide) lent
   pub counted : count ≡ toldOf answer .updates
   pub comes-back : b ≡ placedIn (p .at) (p .wide) a (cellsOf 0 (p .wide) left)
 
--- parts of row y drawn one after another: from the channels a to w, with the updates summed
-pub data Drawn (t : Table) (y : ℕ) : List Part → Channels → ℕ → Channels → Type 0 where
-  none : {a : Channels} → Drawn t y [] a 0 a
-  more : {p : Part} {ps : List Part} {a b w : Channels} {count rest : ℕ} → Draws t y p a count b → Drawn t y ps b rest w → Drawn t y (p ∷ ps) a (count + rest) w
+-- parts of row y drawn one after another for a desk, whose bits stay meanwhile: from the channels a to w, with the updates summed
+pub data Drawn (t : Table) (s : Sight) (y : ℕ) : List Part → Channels → ℕ → Channels → Type 0 where
+  none : {a : Channels} → Drawn t s y [] a 0 a
+  more : {p : Part} {ps : List Part} {a b w : Channels} {count rest : ℕ} → Draws t s y p a count b → Drawn t s y ps b rest w → Drawn t s y (p ∷ ps) a (count + rest) w
 
--- the row drawn whole: each pixel has exactly the listed segments added that have its column, and the updates are the pairs of a listed segment and a column that it has
-pub record Whole (t : Table) (y W : ℕ) (a : Channels) (sum : ℕ) (w : Channels) : Type 0 where
-  pub channel0 : w .r0 ≡ edit (λ x v. pixel 0 (t .segments) y x (rowOf t y) v) (a .r0)
-  pub channel1 : w .r1 ≡ edit (λ x v. pixel 1 (t .segments) y x (rowOf t y) v) (a .r1)
-  pub channel2 : w .r2 ≡ edit (λ x v. pixel 2 (t .segments) y x (rowOf t y) v) (a .r2)
-  pub pairs : sum ≡ updates (t .segments) 0 W (rowOf t y)
+-- the row drawn whole: each pixel has exactly the listed segments added that are not hidden for the desk and have its column, and the updates are the pairs of such a segment and a column that it has
+pub record Whole (t : Table) (s : Sight) (y W : ℕ) (a : Channels) (sum : ℕ) (w : Channels) : Type 0 where
+  pub channel0 : w .r0 ≡ edit (λ x v. pixel 0 (t .segments) y x (shownOf t s y) v) (a .r0)
+  pub channel1 : w .r1 ≡ edit (λ x v. pixel 1 (t .segments) y x (shownOf t s y) v) (a .r1)
+  pub channel2 : w .r2 ≡ edit (λ x v. pixel 2 (t .segments) y x (shownOf t s y) v) (a .r2)
+  pub pairs : sum ≡ updates (t .segments) 0 W (shownOf t s y)

@@ -1,14 +1,16 @@
-// Drawing a part of a row.
-// `draw` checks the counts, the row, the span, and the row's starts and entries; only then is a pixel written.
+// Drawing a part of a row for a desk.
+// `draw` checks the desk, the counts, the bytes, the row, the span, and the row's starts and entries; only then is a pixel written.
 ghost use mathlib.Core.Path.{_≡_};
 ghost use mathlib.Core.Bool.{true, cond};
+ghost use mathlib.Core.List.{[], _∷_};
 ghost use Prim.Native.Nat.{_+_, _-_, _*_, _^_, _<_, _≤_, min, max};
-ghost use lib.ListN.{length};
+ghost use lib.ListN.{length, getD};
 ghost use lib.Seq.{slice};
 ghost use Rattle.segments.specs.Segment.{segmentAt};
 ghost use Rattle.segments.specs.Ranges.{hasColumn};
 ghost use Rattle.shade.specs.Edit.{edit, firstCells};
 ghost use Rattle.shade.specs.Shade.{shaded};
+ghost use Rattle.desks.specs.Desks.{sightOf, shown, allOwned};
 ghost use Rattle.checks.specs.Tables.{tableOf};
 ghost use Rattle.checks.specs.Checks.{allBelow};
 ghost use Rattle.draw.specs.Draw.{shadedInColumn, pixel, between, count, updates, three, leaves, drawOf};
@@ -109,13 +111,49 @@ fn draw_segment(
     )
 }
 
-// Adds the segments of the entries from b up to e, in their order, and counts the updates.
+// Adds segment i as draw_segment does, unless it is hidden for the desk.
+fn draw_shown(
+    segments: &[f32],
+    owners: &[u64],
+    splines: u64,
+    bits: &[u8],
+    desk: u32,
+    i: usize,
+    y: u32,
+    x0: u32,
+    n: u32,
+    r0: &mut [f32],
+    r1: &mut [f32],
+    r2: &mut [f32],
+    table: &[u64; 128],
+) -> u32
+    requires { ⌜ (8 * i + 8 ≤ length (now segments)) × (i < length (now owners)) × (getD (now owners) i 0 < length (now bits)) × (desk < 2) ⌝ }
+    requires { ⌜ (x0 + n ≤ 2 ^ 23) × (y ≤ 2 ^ 23) ⌝ }
+    requires { ⌜ (n ≤ length (now r0)) × (n ≤ length (now r1)) × (n ≤ length (now r2)) ⌝ }
+    ensures { λ r. ⌜ r ≡ updates (now (segments .entry)) x0 n (shown (sightOf (now (owners .entry)) splines (now (bits .entry)) desk) (i ∷ [])) ⌝ }
+    ensures { λ _. ⌜ now (r0 .exit) ≡ edit (firstCells n (λ k v. pixel 0 (now (segments .entry)) y (x0 + k) (shown (sightOf (now (owners .entry)) splines (now (bits .entry)) desk) (i ∷ [])) v)) (now (r0 .entry)) ⌝ }
+    ensures { λ _. ⌜ now (r1 .exit) ≡ edit (firstCells n (λ k v. pixel 1 (now (segments .entry)) y (x0 + k) (shown (sightOf (now (owners .entry)) splines (now (bits .entry)) desk) (i ∷ [])) v)) (now (r1 .entry)) ⌝ }
+    ensures { λ _. ⌜ now (r2 .exit) ≡ edit (firstCells n (λ k v. pixel 2 (now (segments .entry)) y (x0 + k) (shown (sightOf (now (owners .entry)) splines (now (bits .entry)) desk) (i ∷ [])) v)) (now (r2 .entry)) ⌝ }
+{
+    let hides = desks::hidden(owners, splines, bits, desk, i);
+    if hides {
+        0
+    } else {
+        draw_segment(segments, i, y, x0, n, r0, r1, r2, table)
+    }
+}
+
+// Adds the segments of the entries from b up to e that are not hidden for the desk, in their order, and counts the updates.
 fn draw_entries(
     segments: &[f32],
+    owners: &[u64],
     segment_count: u32,
     entries: &[u32],
     b: usize,
     e: usize,
+    splines: u64,
+    bits: &[u8],
+    desk: u32,
     y: u32,
     x0: u32,
     n: u32,
@@ -124,33 +162,51 @@ fn draw_entries(
     r2: &mut [f32],
     table: &[u64; 128],
 ) -> u64
-    requires { ⌜ (b ≤ e) × (e ≤ length (now entries)) × (e ≤ 2 ^ 30) × (8 * «segment_count» ≤ length (now segments)) ⌝ }
-    requires { ⌜ allBelow «segment_count» (slice b e (now entries)) ≡ true ⌝ }
+    requires { ⌜ (b ≤ e) × (e ≤ length (now entries)) × (e ≤ 2 ^ 30) × (8 * «segment_count» ≤ length (now segments)) × («segment_count» ≤ length (now owners)) × (splines ≤ length (now bits)) × (desk < 2) ⌝ }
+    requires { ⌜ (allBelow «segment_count» (slice b e (now entries)) ≡ true) × (allOwned (now owners) splines (slice b e (now entries)) ≡ true) ⌝ }
     requires { ⌜ (x0 + n ≤ 2 ^ 23) × (y ≤ 2 ^ 23) ⌝ }
     requires { ⌜ (n ≤ length (now r0)) × (n ≤ length (now r1)) × (n ≤ length (now r2)) ⌝ }
-    ensures { λ r. ⌜ r ≡ updates (now (segments .entry)) x0 n (slice b e (now (entries .entry))) ⌝ }
-    ensures { λ _. ⌜ now (r0 .exit) ≡ edit (firstCells n (λ k v. pixel 0 (now (segments .entry)) y (x0 + k) (slice b e (now (entries .entry))) v)) (now (r0 .entry)) ⌝ }
-    ensures { λ _. ⌜ now (r1 .exit) ≡ edit (firstCells n (λ k v. pixel 1 (now (segments .entry)) y (x0 + k) (slice b e (now (entries .entry))) v)) (now (r1 .entry)) ⌝ }
-    ensures { λ _. ⌜ now (r2 .exit) ≡ edit (firstCells n (λ k v. pixel 2 (now (segments .entry)) y (x0 + k) (slice b e (now (entries .entry))) v)) (now (r2 .entry)) ⌝ }
+    ensures { λ r. ⌜ r ≡ updates (now (segments .entry)) x0 n (shown (sightOf (now (owners .entry)) splines (now (bits .entry)) desk) (slice b e (now (entries .entry)))) ⌝ }
+    ensures { λ _. ⌜ now (r0 .exit) ≡ edit (firstCells n (λ k v. pixel 0 (now (segments .entry)) y (x0 + k) (shown (sightOf (now (owners .entry)) splines (now (bits .entry)) desk) (slice b e (now (entries .entry)))) v)) (now (r0 .entry)) ⌝ }
+    ensures { λ _. ⌜ now (r1 .exit) ≡ edit (firstCells n (λ k v. pixel 1 (now (segments .entry)) y (x0 + k) (shown (sightOf (now (owners .entry)) splines (now (bits .entry)) desk) (slice b e (now (entries .entry)))) v)) (now (r1 .entry)) ⌝ }
+    ensures { λ _. ⌜ now (r2 .exit) ≡ edit (firstCells n (λ k v. pixel 2 (now (segments .entry)) y (x0 + k) (shown (sightOf (now (owners .entry)) splines (now (bits .entry)) desk) (slice b e (now (entries .entry)))) v)) (now (r2 .entry)) ⌝ }
 {
     let mut total: u64 = 0;
     let mut j = b;
     while j < e {
         let i = entries[j] as usize;
-        total += draw_segment(segments, i, y, x0, n, r0, r1, r2, table) as u64;
+        total += draw_shown(
+            segments,
+            owners,
+            splines,
+            bits,
+            desk,
+            i,
+            y,
+            x0,
+            n,
+            r0,
+            r1,
+            r2,
+            table,
+        ) as u64;
         j += 1;
     }
     total
 }
 
-// Draws n pixels of row y, from column x0 on, into three channels that begin at column x0.
+// Draws n pixels of row y for a desk, from column x0 on, into three channels that begin at column x0.
 pub fn draw(
     segments: &[f32],
+    owners: &[u64],
     segment_count: u32,
     entries: &[u32],
     entry_count: u32,
     row_starts: &[u32],
     height: u32,
+    splines: u64,
+    bits: &[u8],
+    desk: u32,
     y: u32,
     x0: u32,
     n: u32,
@@ -159,15 +215,19 @@ pub fn draw(
     r2: &mut [f32],
 ) -> DrawAnswer
     ensures { λ r. ⌜ leaves r (three (now (r0 .exit)) (now (r1 .exit)) (now (r2 .exit)))
-        ≡ drawOf (tableOf (now (segments .entry)) «segment_count» (now (entries .entry)) «entry_count» (now («row_starts» .entry)) height) y x0 n (three (now (r0 .entry)) (now (r1 .entry)) (now (r2 .entry))) ⌝ }
+        ≡ drawOf (tableOf (now (segments .entry)) «segment_count» (now (entries .entry)) «entry_count» (now («row_starts» .entry)) height) (sightOf (now (owners .entry)) splines (now (bits .entry)) desk) y x0 n (three (now (r0 .entry)) (now (r1 .entry)) (now (r2 .entry))) ⌝ }
 {
     match checks::judge(
         segments,
+        owners,
         segment_count,
         entries,
         entry_count,
         row_starts,
         height,
+        splines,
+        bits,
+        desk,
         y,
         x0,
         n,
@@ -183,10 +243,14 @@ pub fn draw(
             let table = numbers::ROOTS;
             DrawAnswer::Done(draw_entries(
                 segments,
+                owners,
                 segment_count,
                 entries,
                 b,
                 e,
+                splines,
+                bits,
+                desk,
                 y,
                 x0,
                 n,

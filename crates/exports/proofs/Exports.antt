@@ -27,6 +27,7 @@ use Rattle.rows.specs.Rows as rows
 use Rattle.table.specs.Table.{Setting, settingOf, BuildRooms, BuildOutcome, givenOf, refusedWith, verdictOf, afterRows, afterPaint, afterJudge, buildOf}
 use Rattle.table.specs.Refusals.{painted}
 use Rattle.table.specs.Table as building
+use Rattle.desks.specs.Desks.{Sight}
 use Rattle.draw.specs.Draw.{Table, tableOf, Channels, three, DrawOutcome, drawOf, judgeOf}
 use Rattle.draw.specs.Draw as drawing
 use Rattle.checks.specs.declared.Verdict.{Verdict as DrawVerdict}
@@ -88,17 +89,17 @@ build-whole d i r = judge-whole r (i .height) (verdictOf d (givenOf i) (i .width
 abbrev DrawWhole : DrawOutcome → Type 0
 DrawWhole o = drawing.leaves (o .answer) (o .channels) ≡ o
 
-drawn-whole : (v : DrawVerdict) (t : Table) (y x0 n : ℕ) (a : Channels) → DrawWhole (drawing.outcome v t y x0 n a)
-drawn-whole drawn.Fine t y x0 n a = refl
-drawn-whole (drawn.Fault c) t y x0 n a = refl
+drawn-whole : (v : DrawVerdict) (t : Table) (s : Sight) (y x0 n : ℕ) (a : Channels) → DrawWhole (drawing.outcome v t s y x0 n a)
+drawn-whole drawn.Fine t s y x0 n a = refl
+drawn-whole (drawn.Fault c) t s y x0 n a = refl
 
-draw-whole : (t : Table) (y x0 n : ℕ) (a : Channels) → DrawWhole (drawOf t y x0 n a)
+draw-whole : (t : Table) (s : Sight) (y x0 n : ℕ) (a : Channels) → DrawWhole (drawOf t s y x0 n a)
 unfolding drawOf
-draw-whole t y x0 n a = drawn-whole (judgeOf t y x0 n (length (a .r0)) (length (a .r1)) (length (a .r2))) t y x0 n a
+draw-whole t s y x0 n a = drawn-whole (judgeOf t s y x0 n (length (a .r0)) (length (a .r1)) (length (a .r2))) t s y x0 n a
 
-reach-whole : (t : Table) (y W : ℕ) → reaching.tells (reachOf t y W .answer) ≡ reachOf t y W
+reach-whole : (t : Table) (s : Sight) (y W : ℕ) → reaching.tells (reachOf t s y W .answer) ≡ reachOf t s y W
 unfolding reachOf
-reach-whole t y W = refl
+reach-whole t s y W = refl
 
 -- ---- the calls behind the exports
 
@@ -127,24 +128,29 @@ tells-write ns ss ds cs a configured pixels room x
       is = p ∙ ap writeExport (sym same);
     }
 
-tells-draw : (t : Table) (y x0 n : ℕ) (a : Channels) (x : DrawExport) → DrawExportCall t y x0 n a x → Tells (calls.DrawCall t y x0 n a) drawExport x
-tells-draw t y x0 n a x
-    (draws κs segments segmentCount entries entryCount rowStarts height _ _ _ r0 r1 r2 answer r segments′ segmentCount′ entries′ entryCount′ rowStarts′ height′ y′ x0′ n′ r0′ r1′ r2′ answer′ p) =
-    let o = drawOf t y x0 n a in
+tells-draw : (t : Table) (s : Sight) (y x0 n : ℕ) (a : Channels) (x : DrawExport) → DrawExportCall t s y x0 n a x → Tells (calls.DrawCall t s y x0 n a) drawExport x
+tells-draw t s y x0 n a x
+    (draws κs segments owners segmentCount entries entryCount rowStarts height splines bits desk _ _ _ r0 r1 r2 answer r
+    segments′ owners′ segmentCount′ entries′ entryCount′ rowStarts′ height′ splines′ bits′ desk′ y′ x0′ n′ r0′ r1′ r2′ answer′ p) =
+    let o = drawOf t s y x0 n a in
     let same : drawing.leaves (o .answer) (three (now r0′) (now r1′) (now r2′)) ≡ o
-    = ap (λ (c : Channels). drawing.leaves (o .answer) c) (ap (λ (u : DrawExport). u .channels) p) ∙ draw-whole t y x0 n a in
+    = ap (λ (c : Channels). drawing.leaves (o .answer) c) (ap (λ (u : DrawExport). u .channels) p) ∙ draw-whole t s y x0 n a in
     record {
       outcome = drawing.leaves (o .answer) (three (now r0′) (now r1′) (now r2′));
-      called = calls.draws (κs .1) segments segmentCount entries entryCount rowStarts height y x0 n r0 r1 r2 (o .answer) segments′ segmentCount′ entries′ entryCount′ rowStarts′ height′ y′ x0′ n′ r0′ r1′ r2′ same;
+      called = calls.draws (κs .1) segments owners segmentCount entries entryCount rowStarts height splines bits desk y x0 n r0 r1 r2 (o .answer)
+          segments′ owners′ segmentCount′ entries′ entryCount′ rowStarts′ height′ splines′ bits′ desk′ y′ x0′ n′ r0′ r1′ r2′ same;
       is = p ∙ ap drawExport (sym same);
     }
 
-tells-reach : (t : Table) (y W : ℕ) (x : ReachExport) → ReachExportCall t y W x → Tells (calls.ReachCall t y W) reachExport x
-tells-reach t y W x (reaches κs segments segmentCount entries entryCount rowStarts height _ _ answer r segments′ segmentCount′ entries′ entryCount′ rowStarts′ height′ y′ width′ answer′ p) =
-    let same = reach-whole t y W in
+tells-reach : (t : Table) (s : Sight) (y W : ℕ) (x : ReachExport) → ReachExportCall t s y W x → Tells (calls.ReachCall t s y W) reachExport x
+tells-reach t s y W x
+    (reaches κs segments owners segmentCount entries entryCount rowStarts height splines bits desk _ _ answer r
+    segments′ owners′ segmentCount′ entries′ entryCount′ rowStarts′ height′ splines′ bits′ desk′ y′ width′ answer′ p) =
+    let same = reach-whole t s y W in
     record {
-      outcome = reaching.tells (reachOf t y W .answer);
-      called = calls.reaches (κs .1) segments segmentCount entries entryCount rowStarts height y W (reachOf t y W .answer) segments′ segmentCount′ entries′ entryCount′ rowStarts′ height′ y′ width′ same;
+      outcome = reaching.tells (reachOf t s y W .answer);
+      called = calls.reaches (κs .1) segments owners segmentCount entries entryCount rowStarts height splines bits desk y W (reachOf t s y W .answer)
+          segments′ owners′ segmentCount′ entries′ entryCount′ rowStarts′ height′ splines′ bits′ desk′ y′ width′ same;
       is = p ∙ ap reachExport (sym same);
     }
 
@@ -188,11 +194,11 @@ write-equation ns ss ds cs a configured pixels room x (writes κs _ _ _ _ _ _ _ 
 build-equation : (d : Description) (i : Setting) (r : BuildRooms) (x : BuildExport) → BuildExportCall d i r x → x ≡ buildExport (buildOf d i r)
 build-equation d i r x (builds κs _ _ _ _ _ _ _ _ _ _ _ _ _ _ _ _ _ _ _ _ _ _ _ _ _ _ _ _ _ _ _ _ _ _ _ _ _ p) = p
 
-draw-equation : (t : Table) (y x0 n : ℕ) (a : Channels) (x : DrawExport) → DrawExportCall t y x0 n a x → x ≡ drawExport (drawOf t y x0 n a)
-draw-equation t y x0 n a x (draws κs _ _ _ _ _ _ _ _ _ _ _ _ _ _ _ _ _ _ _ _ _ _ _ _ _ _ _ p) = p
+draw-equation : (t : Table) (s : Sight) (y x0 n : ℕ) (a : Channels) (x : DrawExport) → DrawExportCall t s y x0 n a x → x ≡ drawExport (drawOf t s y x0 n a)
+draw-equation t s y x0 n a x (draws κs _ _ _ _ _ _ _ _ _ _ _ _ _ _ _ _ _ _ _ _ _ _ _ _ _ _ _ _ _ _ _ _ _ _ _ p) = p
 
-reach-equation : (t : Table) (y W : ℕ) (x : ReachExport) → ReachExportCall t y W x → x ≡ reachExport (reachOf t y W)
-reach-equation t y W x (reaches κs _ _ _ _ _ _ _ _ _ _ _ _ _ _ _ _ _ _ _ p) = p
+reach-equation : (t : Table) (s : Sight) (y W : ℕ) (x : ReachExport) → ReachExportCall t s y W x → x ≡ reachExport (reachOf t s y W)
+reach-equation t s y W x (reaches κs _ _ _ _ _ _ _ _ _ _ _ _ _ _ _ _ _ _ _ _ _ _ _ _ _ _ _ p) = p
 
 ln-equation : (x r : Float) → LnExportCall x r → r ≡ lnOf x
 ln-equation x r (logs κs _ _ _ p) = p
@@ -203,8 +209,8 @@ one-outcome-exported = record {
   write = λ ns ss ds cs n configured pixels room x z a b.
       write-equation ns ss ds cs n configured pixels room x a ∙ sym (write-equation ns ss ds cs n configured pixels room z b);
   build = λ d i r x z a b. build-equation d i r x a ∙ sym (build-equation d i r z b);
-  draw = λ t y x0 n c x z a b. draw-equation t y x0 n c x a ∙ sym (draw-equation t y x0 n c z b);
-  reach = λ t y W x z a b. reach-equation t y W x a ∙ sym (reach-equation t y W z b);
+  draw = λ t s y x0 n c x z a b. draw-equation t s y x0 n c x a ∙ sym (draw-equation t s y x0 n c z b);
+  reach = λ t s y W x z a b. reach-equation t s y W x a ∙ sym (reach-equation t s y W z b);
   ln = λ x r q a b. ln-equation x r a ∙ sym (ln-equation x q b);
 }
 

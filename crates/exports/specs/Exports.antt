@@ -15,6 +15,7 @@ use Rattle.write_laws.specs.Floats.{Floats}
 use Rattle.dequantize.specs.Judge.{Description, descriptionOf}
 use Rattle.table.specs.Table.{Setting, settingOf}
 use Rattle.table.specs.Table as building
+use Rattle.desks.specs.Desks.{Sight, sightOf}
 use Rattle.draw.specs.Draw.{Table, tableOf, Channels, three}
 use Rattle.aktyrbuz.specs.Exported.{ReadExport, readLeaves, readExport, WriteExport, writeLeaves, writeExport, BuildExport, buildLeaves, buildExport, DrawExport, drawLeaves, drawExport, ReachExport, reachLeaves, reachExport}
 use Rattle.aktyrbuz.specs.Calls.{ReadCall, WriteCall, BuildCall, DrawCall, ReachCall, LnCall}
@@ -54,22 +55,22 @@ pub data BuildExportCall : Description → Setting → building.BuildRooms → B
       (building.roomsOf (now path) (now walk) (now segments) (now owners) (now rowStarts) (now entries))
       (buildLeaves r (now answer′) (now path′) (now walk′) (now segments′) (now owners′) (now rowStarts′) (now entries′))
 
--- of row y of a table, n pixels from column x0 on, with channels lent that begin there
-pub data DrawExportCall : Table → ℕ → ℕ → ℕ → Channels → DrawExport → Type 0 where
-  draws : (κs : Lfts 7) (segments : _) (segmentCount : _) (entries : _) (entryCount : _) (rowStarts : _) (height : _) (y : _) (x0 : _) (n : _) (r0 : _) (r1 : _) (r2 : _) (answer : _) (r : _)
-      (segments′ : _) (segmentCount′ : _) (entries′ : _) (entryCount′ : _) (rowStarts′ : _) (height′ : _) (y′ : _) (x0′ : _) (n′ : _) (r0′ : _) (r1′ : _) (r2′ : _) (answer′ : _)
-      → draw-contract.Post κs (segments, (segmentCount, (entries, (entryCount, (rowStarts, (height, (y, (x0, (n, (r0, (r1, (r2, (answer, tt))))))))))))) r
-      (segments′, (segmentCount′, (entries′, (entryCount′, (rowStarts′, (height′, (y′, (x0′, (n′, (r0′, (r1′, (r2′, (answer′, tt)))))))))))))
-      → DrawExportCall (tableOf (now segments) segmentCount (now entries) entryCount (now rowStarts) height)
+-- of row y of a table for a desk, n pixels from column x0 on, with channels lent that begin there
+pub data DrawExportCall : Table → Sight → ℕ → ℕ → ℕ → Channels → DrawExport → Type 0 where
+  draws : (κs : Lfts 9) (segments : _) (owners : _) (segmentCount : _) (entries : _) (entryCount : _) (rowStarts : _) (height : _) (splines : _) (bits : _) (desk : _) (y : _) (x0 : _) (n : _) (r0 : _) (r1 : _) (r2 : _) (answer : _) (r : _)
+      (segments′ : _) (owners′ : _) (segmentCount′ : _) (entries′ : _) (entryCount′ : _) (rowStarts′ : _) (height′ : _) (splines′ : _) (bits′ : _) (desk′ : _) (y′ : _) (x0′ : _) (n′ : _) (r0′ : _) (r1′ : _) (r2′ : _) (answer′ : _)
+      → draw-contract.Post κs (segments, (owners, (segmentCount, (entries, (entryCount, (rowStarts, (height, (splines, (bits, (desk, (y, (x0, (n, (r0, (r1, (r2, (answer, tt))))))))))))))))) r
+      (segments′, (owners′, (segmentCount′, (entries′, (entryCount′, (rowStarts′, (height′, (splines′, (bits′, (desk′, (y′, (x0′, (n′, (r0′, (r1′, (r2′, (answer′, tt)))))))))))))))))
+      → DrawExportCall (tableOf (now segments) segmentCount (now entries) entryCount (now rowStarts) height) (sightOf (now owners) splines (now bits) desk)
       y x0 n (three (now r0) (now r1) (now r2)) (drawLeaves r (now answer′) (three (now r0′) (now r1′) (now r2′)))
 
--- of row y of a table, for a width
-pub data ReachExportCall : Table → ℕ → ℕ → ReachExport → Type 0 where
-  reaches : (κs : Lfts 4) (segments : _) (segmentCount : _) (entries : _) (entryCount : _) (rowStarts : _) (height : _) (y : _) (width : _) (answer : _) (r : _)
-      (segments′ : _) (segmentCount′ : _) (entries′ : _) (entryCount′ : _) (rowStarts′ : _) (height′ : _) (y′ : _) (width′ : _) (answer′ : _)
-      → reach-contract.Post κs (segments, (segmentCount, (entries, (entryCount, (rowStarts, (height, (y, (width, (answer, tt))))))))) r
-      (segments′, (segmentCount′, (entries′, (entryCount′, (rowStarts′, (height′, (y′, (width′, (answer′, tt)))))))))
-      → ReachExportCall (tableOf (now segments) segmentCount (now entries) entryCount (now rowStarts) height) y width (reachLeaves r (now answer′))
+-- of row y of a table for a desk, for a width
+pub data ReachExportCall : Table → Sight → ℕ → ℕ → ReachExport → Type 0 where
+  reaches : (κs : Lfts 6) (segments : _) (owners : _) (segmentCount : _) (entries : _) (entryCount : _) (rowStarts : _) (height : _) (splines : _) (bits : _) (desk : _) (y : _) (width : _) (answer : _) (r : _)
+      (segments′ : _) (owners′ : _) (segmentCount′ : _) (entries′ : _) (entryCount′ : _) (rowStarts′ : _) (height′ : _) (splines′ : _) (bits′ : _) (desk′ : _) (y′ : _) (width′ : _) (answer′ : _)
+      → reach-contract.Post κs (segments, (owners, (segmentCount, (entries, (entryCount, (rowStarts, (height, (splines, (bits, (desk, (y, (width, (answer, tt))))))))))))) r
+      (segments′, (owners′, (segmentCount′, (entries′, (entryCount′, (rowStarts′, (height′, (splines′, (bits′, (desk′, (y′, (width′, (answer′, tt)))))))))))))
+      → ReachExportCall (tableOf (now segments) segmentCount (now entries) entryCount (now rowStarts) height) (sightOf (now owners) splines (now bits) desk) y width (reachLeaves r (now answer′))
 
 -- of a number
 pub data LnExportCall : Float → Float → Type 0 where
@@ -90,8 +91,8 @@ pub record ExportsTellTheCalls : Type 0 where
   pub write : (ns : List ℕ) (ss : List Float) (ds cs : List ℤ) (a : ℤ) (configured pixels room : ℕ) (x : WriteExport)
       → WriteExportCall ns ss ds cs a configured pixels room x → Tells (WriteCall ns ss ds cs a configured pixels room) writeExport x
   pub build : (d : Description) (i : Setting) (r : building.BuildRooms) (x : BuildExport) → BuildExportCall d i r x → Tells (BuildCall d i r) buildExport x
-  pub draw : (t : Table) (y x0 n : ℕ) (a : Channels) (x : DrawExport) → DrawExportCall t y x0 n a x → Tells (DrawCall t y x0 n a) drawExport x
-  pub reach : (t : Table) (y W : ℕ) (x : ReachExport) → ReachExportCall t y W x → Tells (ReachCall t y W) reachExport x
+  pub draw : (t : Table) (s : Sight) (y x0 n : ℕ) (a : Channels) (x : DrawExport) → DrawExportCall t s y x0 n a x → Tells (DrawCall t s y x0 n a) drawExport x
+  pub reach : (t : Table) (s : Sight) (y W : ℕ) (x : ReachExport) → ReachExportCall t s y W x → Tells (ReachCall t s y W) reachExport x
   pub ln : (x r : Float) → LnExportCall x r → LnCall x r
 
 -- any two outcomes that an export's contract allows are equal
@@ -101,6 +102,6 @@ pub record OneOutcomeExported : Type 0 where
   pub write : (ns : List ℕ) (ss : List Float) (ds cs : List ℤ) (a : ℤ) (configured pixels room : ℕ) (x z : WriteExport)
       → WriteExportCall ns ss ds cs a configured pixels room x → WriteExportCall ns ss ds cs a configured pixels room z → x ≡ z
   pub build : (d : Description) (i : Setting) (r : building.BuildRooms) (x z : BuildExport) → BuildExportCall d i r x → BuildExportCall d i r z → x ≡ z
-  pub draw : (t : Table) (y x0 n : ℕ) (a : Channels) (x z : DrawExport) → DrawExportCall t y x0 n a x → DrawExportCall t y x0 n a z → x ≡ z
-  pub reach : (t : Table) (y W : ℕ) (x z : ReachExport) → ReachExportCall t y W x → ReachExportCall t y W z → x ≡ z
+  pub draw : (t : Table) (s : Sight) (y x0 n : ℕ) (a : Channels) (x z : DrawExport) → DrawExportCall t s y x0 n a x → DrawExportCall t s y x0 n a z → x ≡ z
+  pub reach : (t : Table) (s : Sight) (y W : ℕ) (x z : ReachExport) → ReachExportCall t s y W x → ReachExportCall t s y W z → x ≡ z
   pub ln : (x r q : Float) → LnExportCall x r → LnExportCall x q → r ≡ q

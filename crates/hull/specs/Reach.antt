@@ -1,4 +1,4 @@
--- The reach of a row: the hull of the columns below W that drawing the row would touch. Definitions only.
+-- The reach of a row for a desk: the hull of the columns below W that drawing the row would touch. Definitions only.
 use mathlib.Core.Bool.{Bool, true, false, cond, _||_}
 use mathlib.Core.List.{List, [], _∷_}
 use Prim.Native.Nat.{ℕ, zero, suc, _^_, min, max}
@@ -10,7 +10,8 @@ use Rattle.segments.specs.Segment.{segmentAt}
 use Rattle.segments.specs.Ranges.{hasColumn, columnFirst, columnPast}
 use Rattle.segments.specs.declared.Segment.{Segment}
 use Rattle.segments.specs.declared.Range.{Range}
-use Rattle.checks.specs.Tables.{Table, rowOf}
+use Rattle.desks.specs.Desks.{Sight, deskGood}
+use Rattle.checks.specs.Tables.{Table, shownOf}
 use Rattle.checks.specs.Checks.{orFault, judgeRow}
 use Rattle.checks.specs.declared.Verdict.{Verdict}
 use Rattle.checks.specs.declared.Verdict.the-variants.{Fine, Fault}
@@ -61,9 +62,9 @@ abbrev pub toldOf : ReachAnswer → ReachTold
 toldOf (Done a e) = record { number = 0; place = 0; first = a; past = e }
 toldOf (Refused c p) = record { number = numberOf c; place = p; first = 0; past = 0 }
 
--- the width, then the checks of drawing but for the span
-unfoldable pub judgeReachOf : Table → ℕ → ℕ → Verdict
-judgeReachOf t y W = orFault (leb W (2 ^ 23)) Code.Size (judgeRow t y true)
+-- the desk, the width, then the checks of drawing but for the span
+unfoldable pub judgeReachOf : Table → Sight → ℕ → ℕ → Verdict
+judgeReachOf t s y W = orFault (deskGood s) Code.Desk (orFault (leb W (2 ^ 23)) Code.Size (judgeRow t s y true))
 
 abbrev pub reachAnswer : Verdict → Range → ReachAnswer
 reachAnswer Fine r = Done (r .first) (r .past)
@@ -78,5 +79,5 @@ abbrev pub tells : ReachAnswer → ReachOutcome
 tells r = record { answer = r; told = toldOf r }
 
 -- what `reach` answers
-unfoldable pub reachOf : Table → ℕ → ℕ → ReachOutcome
-reachOf t y W = tells (reachAnswer (judgeReachOf t y W) (reachOver (t .segments) W (rowOf t y)))
+unfoldable pub reachOf : Table → Sight → ℕ → ℕ → ReachOutcome
+reachOf t s y W = tells (reachAnswer (judgeReachOf t s y W) (reachOver (t .segments) W (shownOf t s y)))

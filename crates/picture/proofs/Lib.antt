@@ -1,5 +1,6 @@
 -- The laws of the crate `picture`.
 pub mod Flat
+pub mod Shown
 pub mod Pixels
 pub mod Accepted
 pub mod Tables
@@ -9,3 +10,4 @@ pub mod Pictures
 pub mod Makes
 pub mod Owners
 pub mod Skips
+pub mod Sights

@@ -1,13 +1,14 @@
--- A built table passes the checks of drawing for every row, and each row lists the segments that have it: the laws of the row table, over the segments that were drawn.
+-- A built table passes the checks of drawing for every row, and each row lists the segments that have it, of which a desk is shown those that are not hidden: the laws of the row table, over the segments that were drawn.
 use mathlib.Core.Path.{_≡_, refl, sym, ap, _∙_}
-use mathlib.Core.Bool.{Bool, true}
+use mathlib.Core.Bool.{Bool, true, not, _&&_}
 use mathlib.Core.Logic.{⊎-elim}
 use mathlib.Core.List.{List, [], _∷_, _++_}
 use Prim.Native.Nat.{ℕ, zero, suc, _+_, _-_, _*_, _^_, _≤_, _<_}
 use native.Mathlib.Omega.{arith}
 use native.Mathlib.Numerals.{add-one}
 use lib.Dec.{ltb}
-use lib.ListN.{length, getD, length-append}
+use lib.ListN.{length, getD, take, length-append}
+use lib.Seq.{getD-take}
 use lib.Ieee.{Float}
 use borrow.Author.Tests.{lt-ltb, le-leb}
 use Rattle.dequantize.specs.Judge.{Description}
@@ -25,9 +26,14 @@ use Rattle.rows.proofs.Table.{rest-same}
 use Rattle.rows.proofs.Users as users
 use Rattle.table.specs.Table.{BuildRooms, Setting, BuildOutcome, zeros, padded}
 use Rattle.checks.proofs.Entries.{and-left, and-right}
-use Rattle.draw.specs.Draw.{pixel, updates, rowOf, allBelow, countsGood, entriesGood, rowGood}
+use Rattle.desks.specs.Desks.{Sight, ownerIn, shown}
+use Rattle.checks.specs.Tables.{rowOf, shownOf}
+use Rattle.checks.specs.Checks.{allBelow, countsGood, entriesGood, rowGood}
+use Rattle.draw.specs.Draw.{pixel, updates}
 use Rattle.picture.specs.Picture.{Built, built, BuiltTable, segmentsOf, pixelOf, rowPairs}
+use Rattle.picture.specs.Sights.{hides, notHidden}
 use Rattle.picture.proofs.Flat.{segment-at}
+use Rattle.picture.proofs.Shown.{seen, shown-listed}
 use Rattle.picture.proofs.Pixels.{pixel-is, pairs-are}
 use Rattle.picture.proofs.Accepted.{Accepted, accepted}
 
@@ -143,9 +149,6 @@ module _ {d : Description} {i : Setting} {r : BuildRooms} {o : BuildOutcome} {s 
     pub row-listed : rowOf (built i o s e) y ≡ listed (inRow (o .segments)) y s
     row-listed = rw (add-one y) (checks .row)
 
-    row-is : rowOf (built i o s e) y ≡ listed (inRow (o .segments)) y (length (facts .segs))
-    row-is = row-listed ∙ ap (listed (inRow (o .segments)) y) (sym (facts .size))
-
     pub row-good : rowGood (built i o s e) y ≡ true
     unfolding entriesGood
     row-good =
@@ -156,18 +159,37 @@ module _ {d : Description} {i : Setting} {r : BuildRooms} {o : BuildOutcome} {s 
           n,
         )
 
-    -- a pixel of the row, drawn by its entries, and the updates of its first W pixels
-    pub row-pixel : (c x : ℕ) (v : Float) → pixel c (o .segments) y x (rowOf (built i o s e) y) v ≡ pixelOf c (segmentsOf d i r) y x v
-    row-pixel c x v =
-        ap (λ (l : List ℕ). pixel c (o .segments) y x l v) row-is
-        ∙ pixel-is (o .segments) (facts .segs) none (λ k l. segment-is k none l) (inRow (o .segments)) in-row c y x v
-        ∙ ap (λ (l : List Segment). pixelOf c l y x v) segments-are
+  -- what a desk is shown of a row, with the owners of the segments lent
+  module _ (z : Sight) (owners : List ℕ) (owned : length owners ≡ length (segmentsOf d i r)) (lent : take (length owners) (z .owners) ≡ owners) where
+    as-many : length owners ≡ length (facts .segs)
+    as-many = owned ∙ ap length (sym segments-are)
 
-    pub row-pairs : (W : ℕ) → updates (o .segments) 0 W (rowOf (built i o s e) y) ≡ rowPairs (segmentsOf d i r) W y
-    row-pairs W =
-        ap (updates (o .segments) 0 W) row-is
-        ∙ pairs-are (o .segments) (facts .segs) none (λ k l. segment-is k none l) (inRow (o .segments)) in-row W y
-        ∙ ap (λ (l : List Segment). rowPairs l W y) segments-are
+    pub owner-is : (k : ℕ) → k < length owners → ownerIn z k ≡ getD owners k 0
+    owner-is k h = sym (getD-take (length owners) (z .owners) k 0 h) ∙ ap (λ (l : List ℕ). getD l k 0) lent
+
+    shown-in : (k y : ℕ) → k < length (facts .segs) → seen z (inRow (o .segments)) k y ≡ (hasRow (getD (facts .segs) k none) y && not (hides z (getD owners k 0)))
+    unfolding seen
+    shown-in k y l = rw (in-row k y l, owner-is k (omega (arith, l, as-many)))
+
+    module _ (y : ℕ) (h : y < i .height) where
+      pub row-shown : shownOf (built i o s e) z y ≡ listed (seen z (inRow (o .segments))) y s
+      row-shown = ap (shown z) (row-listed y h) ∙ shown-listed z (inRow (o .segments)) y s
+
+      shown-is : shownOf (built i o s e) z y ≡ listed (seen z (inRow (o .segments))) y (length (facts .segs))
+      shown-is = row-shown ∙ ap (listed (seen z (inRow (o .segments))) y) (sym (facts .size))
+
+      -- a pixel of the row, drawn by what is shown of it, and the updates of its first W pixels
+      pub row-pixel : (c x : ℕ) (v : Float) → pixel c (o .segments) y x (shownOf (built i o s e) z y) v ≡ pixelOf c (notHidden z owners (segmentsOf d i r)) y x v
+      row-pixel c x v =
+          ap (λ (l : List ℕ). pixel c (o .segments) y x l v) shown-is
+          ∙ pixel-is (o .segments) (facts .segs) none (λ k l. segment-is k none l) z owners as-many (seen z (inRow (o .segments))) shown-in c y x v
+          ∙ ap (λ (l : List Segment). pixelOf c (notHidden z owners l) y x v) segments-are
+
+      pub row-pairs : (W : ℕ) → updates (o .segments) 0 W (shownOf (built i o s e) z y) ≡ rowPairs (notHidden z owners (segmentsOf d i r)) W y
+      row-pairs W =
+          ap (updates (o .segments) 0 W) shown-is
+          ∙ pairs-are (o .segments) (facts .segs) none (λ k l. segment-is k none l) z owners as-many (seen z (inRow (o .segments))) shown-in W y
+          ∙ ap (λ (l : List Segment). rowPairs (notHidden z owners l) W y) segments-are
 
   pub built-table : BuiltTable d i r (segmentsOf d i r) o s e estimate
   built-table = record {

@@ -1,7 +1,7 @@
 -- What drawing one segment answers and leaves, by its checks. A segment is the first of its own eight floats, so the laws of drawing from a flat list speak of it.
 use mathlib.Core.Path.{_≡_, refl, sym, ap, _∙_}
-use mathlib.Core.Bool.{Bool, true, false, _&&_}
-use mathlib.Core.List.{List}
+use mathlib.Core.Bool.{Bool, true, false, cond, _&&_}
+use mathlib.Core.List.{List, [], _∷_}
 use Prim.Native.Nat.{ℕ, _+_, _-_, _*_, _/_, _^_, _<_, _≤_}
 use native.Mathlib.Nat.{zero-add}
 use native.Mathlib.Omega.{arith}
@@ -20,10 +20,14 @@ use Rattle.segments.specs.declared.Range.{Range}
 use Rattle.shade.specs.Edit.{edit}
 use Rattle.shade.specs.Shade.{shaded}
 use Rattle.draw.specs.declared.DrawAnswer.the-variants.{Done, Refused}
-use Rattle.draw.specs.Draw.{between, count, spanGood, three, Channels, leaves}
+use Rattle.checks.specs.declared.Verdict.{Verdict}
+use Rattle.checks.specs.declared.Verdict.the-variants.{Fine, Fault}
+use Rattle.desks.specs.Desks.{Sight, sightOf, ownerIn, hiddenIn, deskGood, bytesGood}
+use Rattle.checks.proofs.Checks.{passed-check}
+use Rattle.draw.specs.Draw.{between, count, spanGood, three, Channels, leaves, DrawOutcome}
 use Rattle.checks.proofs.Entries.{and-left, and-right}
 use Rattle.draw.proofs.Columns.{ranged, count-columns, draw-columns}
-use Rattle.records.specs.Records.{segmentOf, joinedOf, zeroRecord, recordOf, recordsOf, drawnChannelAlone, judgeRecord, drawAlone, drawRecordOf, isKnown, drawNumberOf}
+use Rattle.records.specs.Records.{segmentOf, joinedOf, zeroRecord, recordOf, recordsOf, drawnChannelAlone, judgeRecord, drawAlone, drawRecordOf, isKnown, drawNumberOf, judgeFor, outcomeFor, drawFor}
 use Rattle.records.proofs.Fills.{length-listFrom, listFrom-at}
 
 module _ (s : Segment) (x0 n : ℕ) (r : Range) (q : r ≡ columnsOf s) (h : x0 + n ≤ 2 ^ 23) where
@@ -52,6 +56,42 @@ module _ (known : Bool) (s : Segment) (y x0 n : ℕ) (a : Channels) where
       → z0 ≡ drawnChannelAlone 0 s y x0 n (a .r0) → z1 ≡ drawnChannelAlone 1 s y x0 n (a .r1) → z2 ≡ drawnChannelAlone 2 s y x0 n (a .r2) → leaves (Done k) (three z0 z1 z2) ≡ drawAlone known s y x0 n a
   unfolding judgeRecord
   drawn-alone e l g p q0 q1 q2 = rw (p, q0, q1, q2) (rw (e, lt-ltb y (2 ^ 23) l, g) refl)
+
+-- ---- a record for a desk
+
+-- every check of a record for a desk passed
+pub record PassedFor (s : Sight) : Type 0 where
+  pub desk : s .desk < 2
+  pub bytes : s .splines ≤ length (s .bits)
+  pub owned : ownerIn s 0 < s .splines
+
+pub judged-for : (known : Bool) (s : Sight) (y : ℕ) (spanned : Bool) → judgeFor known s y spanned ≡ Fine → PassedFor s
+unfolding judgeFor
+judged-for known s y spanned h =
+    let s1 = passed-check (deskGood s) Code.Desk _ h in
+    let s2 = passed-check known Code.Table _ (s1 .1) in
+    let s3 = passed-check (bytesGood s) Code.Trace _ (s2 .1) in
+    let s4 = passed-check (ltb y (2 ^ 23)) Code.Row _ (s3 .1) in
+    let s5 = passed-check spanned Code.Span _ (s4 .1) in
+    let s6 = passed-check (ltb (ownerIn s 0) (s .splines)) Code.Table _ (s5 .1) in
+    record { desk = ltb-true (s .desk) 2 (s1 .0); bytes = leb-true (s .splines) (length (s .bits)) (s3 .0); owned = ltb-true (ownerIn s 0) (s .splines) (s6 .0) }
+
+module _ (known : Bool) (r : SegmentRecord) (splines : ℕ) (bits : List ℕ) (desk y x0 n : ℕ) (a : Channels) {spanned : Bool} (w : spanned ≡ spanGood x0 n (length (a .r0)) (length (a .r1)) (length (a .r2))) where
+  abbrev sight : Sight
+  sight = sightOf (r .owner ∷ []) splines bits desk
+
+  judged-as : {v : Verdict} → judgeFor known sight y spanned ≡ v → drawFor known r splines bits desk y x0 n a ≡ outcomeFor v (hiddenIn sight 0) (drawAlone known (segmentOf r) y x0 n a) a
+  unfolding drawFor
+  judged-as e = ap (λ (v : Verdict). outcomeFor v (hiddenIn sight 0) (drawAlone known (segmentOf r) y x0 n a) a) (sym (ap (judgeFor known sight y) w) ∙ e)
+
+  pub for-fault : {c : Code} → judgeFor known sight y spanned ≡ Fault c → leaves (Refused c 0) a ≡ drawFor known r splines bits desk y x0 n a
+  for-fault e = sym (judged-as e)
+
+  pub for-hidden : judgeFor known sight y spanned ≡ Fine → hiddenIn sight 0 ≡ true → leaves (Done 0) a ≡ drawFor known r splines bits desk y x0 n a
+  for-hidden e h = sym (judged-as e ∙ ap (λ (b : Bool). cond b (leaves (Done 0) a) (drawAlone known (segmentOf r) y x0 n a)) h)
+
+  pub for-drawn : {o : DrawOutcome} → judgeFor known sight y spanned ≡ Fine → hiddenIn sight 0 ≡ false → o ≡ drawAlone known (segmentOf r) y x0 n a → o ≡ drawFor known r splines bits desk y x0 n a
+  for-drawn e h d = d ∙ sym (judged-as e ∙ ap (λ (b : Bool). cond b (leaves (Done 0) a) (drawAlone known (segmentOf r) y x0 n a)) h)
 
 -- ---- a record that was filled
 

@@ -16,6 +16,7 @@ use Rattle.shade.specs.Shade.{shaded}
 use Rattle.checks.specs.declared.Verdict.{Verdict}
 use Rattle.checks.specs.declared.Verdict.the-variants.{Fine, Fault}
 use Rattle.draw.specs.declared.DrawAnswer.the-variants.{Done, Refused}
+use Rattle.desks.specs.Desks.{Sight, sightOf, ownerIn, hiddenIn, deskGood, bytesGood}
 use Rattle.draw.specs.Draw.{count, spanGood, orFault, three, Channels, leaves, DrawOutcome}
 
 -- the segment of a record, and a segment and its owner as a record
@@ -104,3 +105,24 @@ isKnown xs c i = ltb i c && leb (8 * c) (length xs)
 -- what drawing number i of c flat segments answers and leaves
 abbrev pub drawNumberOf : List Float → ℕ → ℕ → ℕ → ℕ → ℕ → Channels → DrawOutcome
 drawNumberOf xs c i y x0 n a = drawAlone (isKnown xs c i) (segmentAt xs i) y x0 n a
+
+-- ---- a record for a desk
+
+-- DESK, TABLE for a number that names no record, TRACE, ROW, SPAN, and TABLE for an owner that is no spline; the sight's one owner is the record's ninth field
+unfoldable pub judgeFor : Bool → Sight → ℕ → Bool → Verdict
+judgeFor known s y spanned =
+    orFault (deskGood s) Code.Desk
+    (orFault known Code.Table
+    (orFault (bytesGood s) Code.Trace
+    (orFault (ltb y (2 ^ 23)) Code.Row (orFault spanned Code.Span (orFault (ltb (ownerIn s 0) (s .splines)) Code.Table Fine)))))
+
+-- a refusal, nothing where the record is hidden, and else what drawing it comes to
+abbrev pub outcomeFor : Verdict → Bool → DrawOutcome → Channels → DrawOutcome
+outcomeFor Fine hidden drawn a = cond hidden (leaves (Done 0) a) drawn
+outcomeFor (Fault c) hidden drawn a = leaves (Refused c 0) a
+
+-- what drawing a record for a desk answers and leaves
+unfoldable pub drawFor : Bool → SegmentRecord → ℕ → List ℕ → ℕ → ℕ → ℕ → ℕ → Channels → DrawOutcome
+drawFor known r splines bits desk y x0 n a =
+    let s = sightOf (r .owner ∷ []) splines bits desk in
+    outcomeFor (judgeFor known s y (spanGood x0 n (length (a .r0)) (length (a .r1)) (length (a .r2)))) (hiddenIn s 0) (drawAlone known (segmentOf r) y x0 n a) a

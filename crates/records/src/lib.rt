@@ -1,8 +1,11 @@
-// Segments with their owners as a lent slice of records, over the flat core: filled by copying, read by number, and drawn one by one.
+// Segments with their owners as a lent slice of records, over the flat core: filled by copying, read by number, and drawn one by one, for a desk or whatever is hidden.
 ghost use mathlib.Core.Path.{_≡_};
+ghost use mathlib.Core.List.{[], _∷_};
 ghost use lib.ListN.{length, getD};
+ghost use Rattle.desks.specs.Desks.{sightOf};
 ghost use Rattle.draw.specs.Draw.{three, leaves};
-ghost use Rattle.records.specs.Records.{segmentOf, joinedOf, zeroRecord, recordOf, recordsOf, drawAlone, drawRecordOf, isKnown, drawNumberOf};
+ghost use Rattle.records.specs.Records.{segmentOf, joinedOf, zeroRecord, recordOf, recordsOf, drawAlone, drawRecordOf, isKnown, drawNumberOf, judgeFor, drawFor};
+use checks::Verdict;
 use codes::Code;
 use draw::DrawAnswer;
 use segments::Segment;
@@ -127,6 +130,73 @@ fn draw_alone(
             &table,
         ) as u64,
     )
+}
+
+// ---- a record for a desk
+
+// The checks of a record for a desk, in their order.
+fn judge_for(
+    known: bool,
+    owner: u64,
+    splines: u64,
+    bits: &[u8],
+    desk: u32,
+    y: u32,
+    spanned: bool,
+) -> Verdict
+    ensures { λ r. ⌜ r ≡ judgeFor known (sightOf (owner ∷ []) splines (now (bits .entry)) desk) y spanned ⌝ }
+{
+    if 2 <= desk {
+        return Verdict::Fault(Code::Desk);
+    }
+    if !known {
+        return Verdict::Fault(Code::Table);
+    }
+    if bits.len() < splines as usize {
+        return Verdict::Fault(Code::Trace);
+    }
+    if 8388608 <= y {
+        return Verdict::Fault(Code::Row);
+    }
+    if !spanned {
+        return Verdict::Fault(Code::Span);
+    }
+    if splines <= owner {
+        return Verdict::Fault(Code::Table);
+    }
+    Verdict::Fine
+}
+
+// Draws a record for a desk, unless its ninth field names a spline that is hidden there; `known` says that there is such a record.
+pub fn draw_for_desk(
+    known: bool,
+    whole: SegmentRecord,
+    splines: u64,
+    bits: &[u8],
+    desk: u32,
+    y: u32,
+    x0: u32,
+    n: u32,
+    r0: &mut [f32],
+    r1: &mut [f32],
+    r2: &mut [f32],
+) -> DrawAnswer
+    ensures { λ r. ⌜ leaves r (three (now (r0 .exit)) (now (r1 .exit)) (now (r2 .exit)))
+        ≡ drawFor known whole splines (now (bits .entry)) desk y x0 n (three (now (r0 .entry)) (now (r1 .entry)) (now (r2 .entry))) ⌝ }
+{
+    let owner = whole.owner;
+    let spanned = checks::span_good(x0, n, r0.len(), r1.len(), r2.len());
+    match judge_for(known, owner, splines, bits, desk, y, spanned) {
+        Verdict::Fault(code) => DrawAnswer::Refused(code, 0),
+        Verdict::Fine => {
+            let owners = [owner; 1];
+            if desks::hidden(&owners, splines, bits, desk, 0) {
+                DrawAnswer::Done(0)
+            } else {
+                draw_alone(known, whole, y, x0, n, r0, r1, r2)
+            }
+        }
+    }
 }
 
 // ---- the slice of records

@@ -22,7 +22,7 @@ use Rattle.walk.specs.Walk.{Walk, More, Ended, walkIn, walkedOf, WalkedOn}
 use Rattle.draw.specs.declared.DrawAnswer.{DrawAnswer}
 use Rattle.draw.specs.Draw.{Channels, three, leaves, Table, tableOf, drawOf, DrawOutcome}
 use Rattle.stored.specs.Stored.{floatIn, Begins}
-use Rattle.replay_layers.specs.Agreed.{part, TransformAgrees, MadeAgrees, WalkAgrees, ChannelsAgree, DrawAgrees, channelsIn, pathIn, tableIn, startsEnd}
+use Rattle.replay_layers.specs.Agreed.{part, TransformAgrees, MadeAgrees, WalkAgrees, ChannelsAgree, DrawAgrees, bare, channelsIn, pathIn, tableIn, startsEnd}
 
 pub transform-agrees : (input output : List ℕ) (s : Spline) {sums : Sums} {row : List Float} {t : Float} → sums ≡ sumsOf s t → s .x ≡ row → row ≡ table (floatIn input) 32 → t ≡ floatIn input 32 → sums .x ≡ floatIn output 0 → TransformAgrees input output
 unfolding sumsOf
@@ -78,8 +78,8 @@ pub from-channels : (n : ℕ) (before : List ℕ) {z0 z1 z2 : List Float} → z0
 from-channels n before p q r = λ i. three (p i) (q i) (r i)
 
 -- and after it
-pub drawn-agrees : (t : Table) (y x0 n : ℕ) (before after : List ℕ) {r : DrawAnswer} {a z : Channels} → a ≡ channelsIn n before → leaves r z ≡ drawOf t y x0 n a → ChannelsAgree n z after → DrawAgrees t y x0 n before after
-drawn-agrees t y x0 n before after {r} {a} {z} p q c = subst (λ (v : DrawOutcome). ChannelsAgree n (v .channels) after) (q ∙ ap (drawOf t y x0 n) p) c
+pub drawn-agrees : (t : Table) (y x0 n : ℕ) (before after : List ℕ) {r : DrawAnswer} {a z : Channels} → a ≡ channelsIn n before → leaves r z ≡ drawOf t bare y x0 n a → ChannelsAgree n z after → DrawAgrees t y x0 n before after
+drawn-agrees t y x0 n before after {r} {a} {z} p q c = subst (λ (v : DrawOutcome). ChannelsAgree n (v .channels) after) (q ∙ ap (drawOf t bare y x0 n) p) c
 
 -- a case of drawing: its table and channels are where its first words say
 module _ (input output : List ℕ) (y x0 n : ℕ) where

@@ -12,7 +12,7 @@ use Rattle.segments.specs.declared.Added.{Added}
 use Rattle.segments.specs.declared.Added.the-variants.{Made, Nothing}
 use Rattle.numbers.specs.Arith.{f}
 use Rattle.walk.specs.Walk.{Walk, More, Ended, flat}
-use Rattle.draw.specs.Draw.{Channels, three, Table, tableOf, drawOf}
+use Rattle.draw.specs.Draw.{Channels, three, Table, tableOf, Sight, sightOf, drawOf}
 use Rattle.stored.specs.Stored.{floatIn, Begins}
 
 -- the words from a up to b
@@ -47,9 +47,13 @@ pub record ChannelsAgree (n : ℕ) (channels : Channels) (words : List ℕ) : Ty
 abbrev pub channelsIn : ℕ → List ℕ → Channels
 channelsIn n words = three (table (floatIn (part 0 n words)) 64) (table (floatIn (part n (2 * n) words)) 64) (table (floatIn (part (2 * n) (3 * n) words)) 64)
 
+-- the sight of a case, which hides nothing: every segment is of spline 0, whose byte is 0, seen from desk 0
+abbrev pub bare : Sight
+bare = sightOf (replicate 64 0) 1 (replicate 1 0) 0
+
 -- n pixels of row y from column x0 on, drawn from a table
 abbrev pub DrawAgrees : Table → ℕ → ℕ → ℕ → List ℕ → List ℕ → Type 0
-DrawAgrees t y x0 n before after = ChannelsAgree n (drawOf t y x0 n (channelsIn n before) .channels) after
+DrawAgrees t y x0 n before after = ChannelsAgree n (drawOf t bare y x0 n (channelsIn n before) .channels) after
 
 -- where the segments, the entries and the row starts of a case end
 abbrev pub segmentsEnd : List ℕ → ℕ

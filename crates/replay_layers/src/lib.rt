@@ -215,13 +215,19 @@ fn draws(
     stored::floats(&before[0..k], &mut r0);
     stored::floats(&before[k..2 * k], &mut r1);
     stored::floats(&before[2 * k..3 * k], &mut r2);
+    let owners = [0u64; 64];
+    let bits = [0u8; 1];
     match draw::draw(
         segments,
+        &owners,
         segment_count,
         entries,
         entry_count,
         row_starts,
         height,
+        1,
+        &bits,
+        0,
         y,
         x0,
         n,

@@ -58,6 +58,7 @@ fn perform(
     match asked {
         Asked::Picture => canvas::draw(
             segments,
+            owners,
             segment_count,
             entries,
             entry_count,
@@ -66,6 +67,7 @@ fn perform(
         ),
         _ => canvas::rows(
             segments,
+            owners,
             segment_count,
             entries,
             entry_count,

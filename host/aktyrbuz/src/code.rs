@@ -43,7 +43,9 @@ pub enum Code {
     /// A trace file of another version or with an offset that is not its part's; writing: a count or offset of 2^32 or more.
     Header = 17,
     Text = 18,
+    /// A desk other than 0 and 1.
     Desk = 19,
+    /// Fewer shared bytes than the description had splines, or a bit of a spline without a byte.
     Trace = 20,
     Profile = 21,
     Edition = 22,
@@ -183,7 +185,7 @@ mod tests {
             assert_eq!(code.number() as usize, index + 1);
             assert_eq!(Code::of(code.number()), Some(code));
         }
-        assert_eq!((Code::of(0), Code::of(18)), (None, None));
+        assert_eq!((Code::of(0), Code::of(24)), (None, None));
     }
 
     #[test]

@@ -1,7 +1,7 @@
 //! JPEG XL splines, from a list of decoded values to pixel rows: the proved library behind owned types.
 //!
 //! A [`Description`] is read from a list or a trace file, or written as one; a [`Table`] is built from it for an image; rows of the image are then drawn,
-//! whole or in parts, in any order. No input makes a call panic or take more memory than it may: what cannot be done is a [`Refusal`] with its
+//! whole or in parts, in any order, for either of two desks without what it has [`Hidden`]. No input makes a call panic or take more memory than it may: what cannot be done is a [`Refusal`] with its
 //! code and place.
 //!
 //! ```
@@ -26,11 +26,13 @@
 mod cells;
 mod code;
 mod description;
+mod desk;
 mod rooms;
 mod table;
 
 pub use code::{Code, Refusal};
 pub use description::{Description, Limit};
+pub use desk::{Desk, Hidden};
 pub use port::Image;
 pub use rooms::Rooms;
 pub use table::{Counts, Near, Table};

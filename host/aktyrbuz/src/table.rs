@@ -2,7 +2,7 @@
 
 use crate::cells::{first, zeros};
 use crate::code::{judged, Code, Refusal};
-use crate::{Description, Rooms};
+use crate::{Description, Desk, Hidden, Rooms};
 use port::Image;
 use std::ops::Range;
 
@@ -49,6 +49,7 @@ impl Buffers {
             owners: first(self.owners, made as usize),
             row_starts: self.row_starts,
             entries: first(self.entries, listed as usize),
+            open: Hidden::nothing(description.counts.len())?,
             image: *image,
             counts: Counts {
                 segments: made as u32,
@@ -87,6 +88,8 @@ pub struct Table {
     owners: Vec<u64>,
     row_starts: Vec<u32>,
     entries: Vec<u32>,
+    /// Nothing hidden of any spline of the description.
+    open: Hidden,
     image: Image,
     counts: Counts,
 }
@@ -169,7 +172,8 @@ impl Table {
             ..self.lent()
         };
         let [mut r0, mut r1, mut r2] = [[0.0]; 3];
-        let (code, answer) = port::draw(&alone, 0, x, 1, [&mut r0, &mut r1, &mut r2]);
+        let sight = self.open.seen_by(Desk::Operator, self.splines());
+        let (code, answer) = port::draw(&alone, &sight, 0, x, 1, [&mut r0, &mut r1, &mut r2]);
         x < self.image.width && code == 0 && answer[1] == 1
     }
 
@@ -196,9 +200,26 @@ impl Table {
         self.listed(y).len() as u32
     }
 
+    /// How many splines the description had.
+    pub fn splines(&self) -> u64 {
+        self.open.bytes().len() as u64
+    }
+
     /// Adds the segments of row y to channels that begin at pixel x0, and answers how many updates that took, one for each segment at each pixel.
     /// Parts of a row may be drawn in any order. Channels of different lengths are refused with [`Code::Span`]; a refusal changes no pixel.
     pub fn draw_row(&self, y: u32, x0: u32, channels: [&mut [f32]; 3]) -> Result<u64, Refusal> {
+        self.draw_row_for(Desk::Operator, &self.open, y, x0, channels)
+    }
+
+    /// The same without what the desk has hidden. Fewer bytes than the description had splines are refused with [`Code::Trace`].
+    pub fn draw_row_for(
+        &self,
+        desk: Desk,
+        hidden: &Hidden,
+        y: u32,
+        x0: u32,
+        channels: [&mut [f32]; 3],
+    ) -> Result<u64, Refusal> {
         let n = channels[0].len();
         let Some(n) = u32::try_from(n)
             .ok()
@@ -209,19 +230,28 @@ impl Table {
                 place: 0,
             });
         };
-        judged(port::draw(&self.lent(), y, x0, n, channels)).map(|[updates, ..]| updates as u64)
+        let sight = hidden.seen_by(desk, self.splines());
+        judged(port::draw(&self.lent(), &sight, y, x0, n, channels))
+            .map(|[updates, ..]| updates as u64)
     }
 
     /// The columns that drawing row y touches, from the first to the last: none outside is updated, and both ends are. What lies wholly left of
     /// the image touches column 0. 0..0 if drawing touches none.
     pub fn reach(&self, y: u32) -> Result<Range<u32>, Refusal> {
-        judged(port::reach(&self.lent(), y, self.image.width))
+        self.reach_for(Desk::Operator, &self.open, y)
+    }
+
+    /// The same without what the desk has hidden.
+    pub fn reach_for(&self, desk: Desk, hidden: &Hidden, y: u32) -> Result<Range<u32>, Refusal> {
+        let sight = hidden.seen_by(desk, self.splines());
+        judged(port::reach(&self.lent(), &sight, y, self.image.width))
             .map(|[first, past, ..]| first as u32..past as u32)
     }
 
     fn lent(&self) -> port::Table<'_> {
         port::Table {
             segments: &self.segments,
+            owners: &self.owners,
             segment_count: self.counts.segments,
             entries: &self.entries,
             entry_count: self.counts.entries,
@@ -338,6 +368,40 @@ mod tests {
         let of = |trace| owners.iter().filter(|&&owner| owner == trace).count();
         assert_eq!([of(0), of(1), of(2)], [32, 0, 14]);
         assert_eq!(table.owner(table.counts().segments), None);
+    }
+
+    /// What both desks are drawn and told of row 8, the operator's first.
+    fn seen(table: &Table, hidden: &Hidden) -> [(Vec<f32>, u64, Range<u32>); 2] {
+        [Desk::Operator, Desk::Checker].map(|desk| {
+            let mut row = [(); 3].map(|()| vec![0.0; 64]);
+            let [r0, r1, r2] = &mut row;
+            let updates = table.draw_row_for(desk, hidden, 8, 0, [r0, r1, r2]);
+            let reach = table.reach_for(desk, hidden, 8);
+            (row.concat(), updates.expect("a row"), reach.expect("a row"))
+        })
+    }
+
+    #[test]
+    fn a_desk_is_not_drawn_what_it_hides() {
+        let table = Table::build(&three(), &Image::new(64, 16)).expect("a good description");
+        let mut hidden = Hidden::nothing(3).expect("three bytes");
+        let [all, same] = seen(&table, &hidden);
+        assert_eq!(all, same);
+        assert_eq!((all.0, all.1), row(&table, 8, &[0, 64]));
+        hidden.hide(Desk::Checker, 2).expect("a spline");
+        let [operator, checker] = seen(&table, &hidden);
+        assert_eq!(operator, same);
+        // Without the fibre that goes down at column 50 the row is that of the first one alone.
+        let alone = self::table();
+        assert_eq!((checker.0, checker.1), row(&alone, 8, &[0, 64]));
+        assert_eq!(Ok(checker.2), alone.reach(8));
+        hidden.hide(Desk::Operator, 0).expect("a spline");
+        hidden.show(Desk::Checker, 2).expect("a spline");
+        let [operator, checker] = seen(&table, &hidden);
+        assert!(checker == same && operator.1 < same.1);
+        let few = Hidden::nothing(2).expect("two bytes");
+        let refused = table.reach_for(Desk::Operator, &few, 8);
+        assert_eq!(refused.expect_err("a byte too few").code, Code::Trace);
     }
 
     #[test]

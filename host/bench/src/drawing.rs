@@ -1,4 +1,5 @@
-//! A picture drawn, every row whole: once all of it, which is more than the caches hold, or a strip of it again and again, which stays in them.
+//! A picture drawn, every row whole: once all of it, which is more than the caches hold, or a strip of it again and again, which stays in them; or once with every
+//! second spline hidden, where spline.rs draws the whole all the same.
 
 use crate::picture::{description, given, SIDE};
 use crate::Work;
@@ -13,6 +14,8 @@ const ROWS: u32 = 16;
 pub struct Drawing {
     loaded: Loaded,
     flat: FlatTable,
+    /// The shared bytes.
+    bits: Vec<u8>,
     times: u32,
     cells: [Vec<f32>; 3],
 }
@@ -23,6 +26,13 @@ impl Drawing {
         Drawing::new(&table(sigmas), 1)
     }
 
+    /// The whole picture, once, every second spline of it hidden for the desk.
+    pub fn half(sigmas: &[i32]) -> Drawing {
+        let mut half = Drawing::of(sigmas);
+        half.bits.iter_mut().step_by(2).for_each(|byte| *byte = 1);
+        half
+    }
+
     /// A strip, so often that as many rows are drawn as the picture has.
     pub fn strip(sigmas: &[i32]) -> Drawing {
         Drawing::new(&cut(table(sigmas)), SIDE / ROWS)
@@ -31,9 +41,11 @@ impl Drawing {
     fn new(table: &Table, times: u32) -> Drawing {
         let flat = FlatTable::from(table);
         let cells = [(); 3].map(|()| vec![0.0; (SIDE * flat.height) as usize]);
+        let splines = flat.owners.last().map_or(0, |&last| last as usize + 1);
         Drawing {
             loaded: oracle::load(table),
             flat,
+            bits: vec![0; splines],
             times,
             cells,
         }
@@ -59,11 +71,17 @@ impl Drawing {
     fn rows_by_port(&mut self) -> i64 {
         let table = port::Table {
             segments: &self.flat.segments,
+            owners: &self.flat.owners,
             segment_count: self.flat.segment_count,
             entries: &self.flat.entries,
             entry_count: self.flat.entry_count,
             row_starts: &self.flat.row_starts,
             height: self.flat.height,
+        };
+        let sight = port::Sight {
+            splines: self.bits.len() as u64,
+            bits: &self.bits,
+            desk: 0,
         };
         let side = SIDE as usize;
         let [r0, r1, r2] = &mut self.cells;
@@ -71,7 +89,7 @@ impl Drawing {
         let rows = rows.zip(r2.chunks_exact_mut(side));
         let mut updates = 0;
         for (y, ((r0, r1), r2)) in rows.enumerate() {
-            let (code, answer) = port::draw(&table, y as u32, 0, SIDE, [r0, r1, r2]);
+            let (code, answer) = port::draw(&table, &sight, y as u32, 0, SIDE, [r0, r1, r2]);
             assert_eq!(code, 0, "the port draws the pictures");
             updates += answer[1];
         }

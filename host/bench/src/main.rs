@@ -1,4 +1,4 @@
-//! What drawing a picture, drawing a strip again and again, and building cost, against spline.rs on the same prepared input: processor time of the thread, runs by turns; or
+//! What drawing a picture, drawing it for a desk that has hidden half of its splines, drawing a strip again and again, and building cost, against spline.rs on the same prepared input: processor time of the thread, runs by turns; or
 //! under an emulator, where times say nothing, instructions.
 //!
 //! `bench` prints the table of times, `bench counts` that of instructions (started by tools/counts). `bench CALL SIDE WIDTH`
@@ -52,7 +52,7 @@ fn main() -> ExitCode {
 }
 
 fn usage() -> ExitCode {
-    refuse("usage: bench [counts | CALL SIDE WIDTH]: draw, strip or build, rust or port, 5 or 17 or 48")
+    refuse("usage: bench [counts | CALL SIDE WIDTH]: draw, half, strip or build, rust or port, 5 or 17 or 48")
 }
 
 fn refuse(why: &str) -> ExitCode {
@@ -67,7 +67,7 @@ fn one_run(call: &str, side: &str, width: &str) -> ExitCode {
         "port" => Side::Port,
         _ => return usage(),
     };
-    let (Some((_, sigmas)), "draw" | "strip" | "build") = (picture, call) else {
+    let (Some((_, sigmas)), "draw" | "half" | "strip" | "build") = (picture, call) else {
         return usage();
     };
     let mut work = work_of(call, sigmas);
@@ -94,6 +94,7 @@ fn counted_run(work: &mut dyn Work, side: Side) -> Option<i64> {
 fn work_of(call: &str, sigmas: &[i32]) -> Box<dyn Work> {
     match call {
         "draw" => Box::new(Drawing::of(sigmas)),
+        "half" => Box::new(Drawing::half(sigmas)),
         "strip" => Box::new(Drawing::strip(sigmas)),
         _ => Box::new(Building::of(sigmas)),
     }
@@ -110,7 +111,7 @@ fn pictures() {
 
 /// Each call on each picture, with its line's first words.
 fn each(mut measure: impl FnMut(&str, &mut dyn Work)) {
-    for call in ["draw", "strip", "build"] {
+    for call in ["draw", "half", "strip", "build"] {
         for (width, sigmas) in WIDTHS {
             measure(
                 &format!("{call:<6} {width:>5}"),

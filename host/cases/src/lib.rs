@@ -3,6 +3,7 @@
 //! A case is given by the name of its kind and a seed, and is the same on every machine.
 
 pub mod descriptions;
+pub mod desks;
 pub mod lists;
 pub mod random;
 pub mod segments;
@@ -191,6 +192,8 @@ pub fn bits(x: f32) -> u32 {
 pub struct FlatTable {
     /// Eight numbers a segment.
     pub segments: Vec<f32>,
+    /// The number of each segment's spline.
+    pub owners: Vec<u64>,
     pub segment_count: u32,
     pub entries: Vec<u32>,
     pub entry_count: u32,
@@ -212,6 +215,7 @@ impl From<&Table> for FlatTable {
     fn from(table: &Table) -> FlatTable {
         FlatTable {
             segments: table.segments.concat(),
+            owners: table.owners.clone(),
             segment_count: table.segments.len() as u32,
             entries: table.entries.clone(),
             entry_count: table.entries.len() as u32,

@@ -25,13 +25,31 @@ pub fn table(kind: &str, seed: u64) -> FlatTable {
     let mut random = Random::new(kind, seed);
     let r = &mut random;
     let mut table = sound(r);
+    let segments = table.segment_count;
     match kind {
         "sound" => {}
         "strange" => strange(r, &mut table),
         "hostile" => hostile(r, &mut table),
         _ => panic!("no kind of table is called {kind}"),
     }
+    table.owners = owners(kind, seed, segments);
     table
+}
+
+/// An owner a segment from a stream of its own: never falling, in a strange table in any order and more than segments, in a hostile one
+/// sometimes one too few.
+fn owners(kind: &str, seed: u64, segments: u32) -> Vec<u64> {
+    let r = &mut Random::new("owners", seed);
+    let splines = r.pick(&[1, 2, 5]);
+    let mut owners: Vec<u64> = (0..segments).map(|_| r.below(splines)).collect();
+    match kind {
+        "strange" => owners.push(u64::MAX),
+        "hostile" if r.once_in(7) => {
+            owners.pop();
+        }
+        _ => owners.sort_unstable(),
+    }
+    owners
 }
 
 /// Ordinary segments, each row listing some of them, ascending.
@@ -108,6 +126,7 @@ pub fn edge_row(kind: &str, seed: u64) -> (FlatTable, u32) {
     let y = r.below(height.into()) as u32;
     let row_starts = (0..=height).map(|row| if row > y { segment_count } else { 0 });
     let mut table = FlatTable {
+        owners: (0..segment_count.into()).collect(),
         segment_count,
         entries: (0..segment_count).collect(),
         entry_count: segment_count,

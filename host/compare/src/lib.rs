@@ -3,6 +3,7 @@
 pub mod build;
 pub mod curve;
 pub mod dequantize;
+pub mod desks;
 pub mod draw;
 pub mod numbers;
 #[cfg(feature = "port")]

@@ -5,14 +5,14 @@
 
 use compare::tally::Tally;
 use compare::{
-    build, curve, dequantize, draw, numbers, reach, read, segments, trace, transform, write,
+    build, curve, dequantize, desks, draw, numbers, reach, read, segments, trace, transform, write,
 };
 use std::process::ExitCode;
 
 /// A layer's name, and what runs its cases.
 type Layer = (&'static str, fn(&mut Tally));
 
-const LAYERS: [Layer; 14] = [
+const LAYERS: [Layer; 15] = [
     ("numbers", numbers::compare),
     ("read", read::compare),
     ("write", write::compare),
@@ -26,6 +26,7 @@ const LAYERS: [Layer; 14] = [
     ("build", build::compare),
     ("draw", draw::compare),
     ("reach", reach::compare),
+    ("desks", desks::compare),
     ("trace", trace::compare),
 ];
 

@@ -1,11 +1,13 @@
 //! The proved port, through its C interface, against spline.rs where that decides and against the second reading everywhere.
 
 pub mod build;
+pub mod desks;
 pub mod draw;
 pub mod fuzz;
 pub mod great;
 pub mod guarded;
 pub mod lent;
+pub mod limits;
 pub mod ln;
 pub mod null;
 pub mod pages;

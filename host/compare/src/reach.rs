@@ -1,8 +1,9 @@
-//! The reach of a row against the columns that spline.rs itself touches when it draws the row.
+//! The reach of a row for a desk against the columns that spline.rs itself touches when it draws the row without what is hidden.
 
-use crate::draw::{entries, unflattened};
+use crate::draw::{entries, sight_by_turns, unflattened, without_hidden};
 use crate::tally::Tally;
 use crate::verdict::{equal, Verdict};
+use cases::desks::Sight;
 use cases::tables::{
     edge_row, request, table, EDGE_KINDS, REACH_WIDTHS, REQUEST_KINDS, TABLE_KINDS,
 };
@@ -102,18 +103,20 @@ pub fn compare(tally: &mut Tally) {
 }
 
 fn add(tally: &mut Tally, kind: &str, seed: u64, table: &FlatTable, y: u32) {
-    tally.add(kind, seed, &(table, y), against_oracle(table, y));
+    let sight = sight_by_turns(seed, table);
+    let verdict = against_oracle(table, &sight, y);
+    tally.add(kind, seed, &(table, &sight, y), verdict);
 }
 
 /// A row in every width.
-fn against_oracle(table: &FlatTable, y: u32) -> Verdict {
+fn against_oracle(table: &FlatTable, sight: &Sight, y: u32) -> Verdict {
     let mut probe = None;
     for width in REACH_WIDTHS {
-        let reach = match model::reach(table, y, width) {
+        let reach = match model::reach(table, sight, y, width) {
             Err(refusal) => return Verdict::Outside(refusal.code),
             Ok(reach) => reach,
         };
-        let probe = probe.get_or_insert_with(|| Probe::of(table, y));
+        let probe = probe.get_or_insert_with(|| Probe::of(&without_hidden(table, sight, y), y));
         if let Some(words) = probe.wrong(width, reach) {
             return equal(false, &(width, reach), &words);
         }

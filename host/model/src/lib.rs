@@ -1,5 +1,5 @@
 //! A second reading of the scope, written from its words alone and without a look at spline.rs: the whole of reading,
-//! writing, building, drawing and reach on plain slices, and the trace file. It is slow and plain on purpose, and shares no code with the oracle.
+//! writing, building, drawing and reach on plain slices, the trace file, and what a desk hides. It is slow and plain on purpose, and shares no code with the oracle.
 //! What the words leave to the Rust stands in one file, `left_open`.
 //!
 //! Lent buffers appear as rooms, their lengths in floats or u32s; what would be stored in them is returned.
@@ -8,6 +8,7 @@
 
 pub mod curve;
 pub mod dequantize;
+pub mod desk;
 pub mod draw;
 mod left_open;
 pub mod list;
@@ -19,6 +20,7 @@ pub mod trace;
 pub mod transform;
 pub mod walk;
 
+pub use desk::hide;
 pub use draw::{draw, reach};
 pub use list::{read, write, ListRooms};
 pub use numbers::set_ln;

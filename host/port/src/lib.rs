@@ -207,6 +207,7 @@ pub fn build_into(parts: &Parts, image: &Image, lent: Buffers, answer: &mut Answ
 #[derive(Clone, Copy, Debug)]
 pub struct Table<'a> {
     pub segments: &'a [f32],
+    pub owners: &'a [u64],
     pub segment_count: u32,
     pub entries: &'a [u32],
     pub entry_count: u32,
@@ -214,14 +215,31 @@ pub struct Table<'a> {
     pub height: u32,
 }
 
-/// Draws n pixels of row y from x0 on into channels that begin there: the code's number and the answer.
-pub fn draw(table: &Table, y: u32, x0: u32, n: u32, channels: [&mut [f32]; 3]) -> (u32, Answer) {
-    answered(|answer| draw_into(table, y, x0, n, channels, answer))
+/// A desk, 0 or 1, with the shared bytes: bit 0 of a spline's byte hides it for desk 0, bit 1 for desk 1.
+#[derive(Clone, Copy, Debug)]
+pub struct Sight<'a> {
+    /// How many splines the description had.
+    pub splines: u64,
+    pub bits: &'a [u8],
+    pub desk: u32,
+}
+
+/// Draws for a desk n pixels of row y from x0 on into channels that begin there: the code's number and the answer.
+pub fn draw(
+    table: &Table,
+    sight: &Sight,
+    y: u32,
+    x0: u32,
+    n: u32,
+    channels: [&mut [f32]; 3],
+) -> (u32, Answer) {
+    answered(|answer| draw_into(table, sight, y, x0, n, channels, answer))
 }
 
 /// The same, with an answer that is lent too.
 pub fn draw_into(
     table: &Table,
+    sight: &Sight,
     y: u32,
     x0: u32,
     n: u32,
@@ -234,6 +252,8 @@ pub fn draw_into(
         symbols::aktyrbuz_draw(
             table.segments.as_ptr(),
             table.segments.len(),
+            table.owners.as_ptr(),
+            table.owners.len(),
             table.segment_count,
             table.entries.as_ptr(),
             table.entries.len(),
@@ -241,6 +261,10 @@ pub fn draw_into(
             table.row_starts.as_ptr(),
             table.row_starts.len(),
             table.height,
+            sight.splines,
+            sight.bits.as_ptr(),
+            sight.bits.len(),
+            sight.desk,
             y,
             x0,
             n,
@@ -255,18 +279,20 @@ pub fn draw_into(
     }
 }
 
-/// The columns that drawing row y touches in an image of this width: the code's number and the answer.
-pub fn reach(table: &Table, y: u32, width: u32) -> (u32, Answer) {
-    answered(|answer| reach_into(table, y, width, answer))
+/// The columns that drawing row y for a desk touches in an image of this width: the code's number and the answer.
+pub fn reach(table: &Table, sight: &Sight, y: u32, width: u32) -> (u32, Answer) {
+    answered(|answer| reach_into(table, sight, y, width, answer))
 }
 
 /// The same, with an answer that is lent too.
-pub fn reach_into(table: &Table, y: u32, width: u32, answer: &mut Answer) -> u32 {
+pub fn reach_into(table: &Table, sight: &Sight, y: u32, width: u32, answer: &mut Answer) -> u32 {
     // SAFETY: each pointer comes with its slice's length.
     unsafe {
         symbols::aktyrbuz_reach(
             table.segments.as_ptr(),
             table.segments.len(),
+            table.owners.as_ptr(),
+            table.owners.len(),
             table.segment_count,
             table.entries.as_ptr(),
             table.entries.len(),
@@ -274,11 +300,32 @@ pub fn reach_into(table: &Table, y: u32, width: u32, answer: &mut Answer) -> u32
             table.row_starts.as_ptr(),
             table.row_starts.len(),
             table.height,
+            sight.splines,
+            sight.bits.as_ptr(),
+            sight.bits.len(),
+            sight.desk,
             y,
             width,
             answer,
         )
     }
+}
+
+/// Hides or shows a spline for a desk by its bit in the shared bytes: the code's number and the answer.
+pub fn hide(bits: &mut [u8], desk: u32, spline: u64, hidden: bool) -> (u32, Answer) {
+    answered(|answer| hide_into(bits, desk, spline, hidden, answer))
+}
+
+/// The same, with an answer that is lent too.
+pub fn hide_into(
+    bits: &mut [u8],
+    desk: u32,
+    spline: u64,
+    hidden: bool,
+    answer: &mut Answer,
+) -> u32 {
+    // SAFETY: the pointer comes with its slice's length.
+    unsafe { symbols::aktyrbuz_hide(bits.as_mut_ptr(), bits.len(), desk, spline, hidden, answer) }
 }
 
 /// Reads a trace file into the lent buffers: the code's number and the answer.

@@ -70,6 +70,8 @@ extern "C" {
     pub fn aktyrbuz_draw(
         segments: *const f32,
         segments_len: usize,
+        owners: *const u64,
+        owners_len: usize,
         segment_count: u32,
         entries: *const u32,
         entries_len: usize,
@@ -77,6 +79,10 @@ extern "C" {
         row_starts: *const u32,
         row_starts_len: usize,
         height: u32,
+        splines: u64,
+        bits: *const u8,
+        bits_len: usize,
+        desk: u32,
         y: u32,
         x0: u32,
         n: u32,
@@ -92,6 +98,8 @@ extern "C" {
     pub fn aktyrbuz_reach(
         segments: *const f32,
         segments_len: usize,
+        owners: *const u64,
+        owners_len: usize,
         segment_count: u32,
         entries: *const u32,
         entries_len: usize,
@@ -99,8 +107,21 @@ extern "C" {
         row_starts: *const u32,
         row_starts_len: usize,
         height: u32,
+        splines: u64,
+        bits: *const u8,
+        bits_len: usize,
+        desk: u32,
         y: u32,
         width: u32,
+        answer: *mut [i64; 5],
+    ) -> u32;
+
+    pub fn aktyrbuz_hide(
+        bits: *mut u8,
+        bits_len: usize,
+        desk: u32,
+        spline: u64,
+        hidden: bool,
         answer: *mut [i64; 5],
     ) -> u32;
 

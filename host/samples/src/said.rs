@@ -3,18 +3,24 @@
 use crate::judged::{Judged, Size};
 use crate::picture;
 use crate::FILE;
+use cases::desks::Sight;
 use cases::{Description, FlatTable, Segment, Table};
 use model::segments::{all_rows, columns};
 use std::collections::BTreeMap;
 
+/// The operator's, who has hidden nothing.
+fn open(judged: &Judged) -> Sight {
+    Sight::open(judged.description.counts.len() as u64)
+}
+
 /// One update for each segment at each pixel, by the second reading.
-fn updates(table: &Table, size: Size) -> Result<u64, String> {
-    let flat = FlatTable::from(table);
+fn updates(judged: &Judged, size: Size) -> Result<u64, String> {
+    let (flat, sight) = (FlatTable::from(&judged.table), open(judged));
     let mut row = [(); 3].map(|()| vec![0.0; size.width as usize]);
     let mut updates = 0;
     for y in 0..size.height {
         let [r0, r1, r2] = &mut row;
-        updates += model::draw(&flat, y, 0, size.width, [r0, r1, r2])
+        updates += model::draw(&flat, &sight, y, 0, size.width, [r0, r1, r2])
             .map_err(|refusal| format!("row {y} is refused: {refusal:?}"))?;
     }
     Ok(updates)
@@ -68,7 +74,7 @@ pub fn examples(judged: &Judged, size: Size) -> Result<String, String> {
         "read: {}\nbuild: {}\ndraw: {} updates, the brightest Y is {brightest:.3}\ntouch: column {x}, row {y} is of trace {trace}\n",
         counts(&judged.description),
         built(&judged.table),
-        updates(&judged.table, size)?
+        updates(judged, size)?
     ))
 }
 
@@ -153,10 +159,10 @@ fn numbers(name: &str, numbers: &[i32]) -> String {
 
 /// `gauge rows`: the entries by the table of spline.rs, the reach of them by the second reading, since the Rust has none.
 pub fn rows(judged: &Judged, size: Size) -> Result<String, String> {
-    let flat = FlatTable::from(&judged.table);
+    let (flat, sight) = (FlatTable::from(&judged.table), open(judged));
     let mut text = built(&judged.table) + "\n";
     for (y, entries) in (0..).zip(held(&judged.table)).filter(|&(_, held)| held > 0) {
-        let (first, past) = model::reach(&flat, y, size.width)
+        let (first, past) = model::reach(&flat, &sight, y, size.width)
             .map_err(|refusal| format!("the reach of row {y} is refused: {refusal:?}"))?;
         text += &format!("row {y}: {entries} entries, columns from {first} up to {past}\n");
     }
@@ -169,7 +175,7 @@ pub fn draw(judged: &Judged, size: Size) -> Result<String, String> {
     Ok(format!(
         "{}\n{} updates, {rows} rows that hold anything\n",
         built(&judged.table),
-        updates(&judged.table, size)?
+        updates(judged, size)?
     ))
 }
 

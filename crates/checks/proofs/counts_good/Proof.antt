@@ -46,11 +46,15 @@ returns-6 c = rw (le-leb _ _ (c .before .before .before .before .before .if1 .le
 
 returns-7 : tie.Need-returns-7
 unfolding countsGood
-returns-7 c = rw (le-leb _ _ (c .before .before .before .before .before .if1 .left), le-leb _ _ (c .before .before .before .before .if2 .left), le-leb _ _ (c .before .before .before .if3 .left), le-leb _ _ (c .before .before .if4 .left), le-leb _ _ (c .before .if5 .left), le-leb _ _ (c .if6 .left))
+returns-7 c = rw (le-leb _ _ (c .before .before .before .before .before .before .if1 .left), le-leb _ _ (c .before .before .before .before .before .if2 .left), le-leb _ _ (c .before .before .before .before .if3 .left), le-leb _ _ (c .before .before .before .if4 .left), le-leb _ _ (c .before .before .if5 .left), le-leb _ _ (c .before .if6 .left), lt-leb (c .before .before .before .before .before .before .before .args .segment-count) (length (c .before .before .before .before .before .before .before .args .owners .now)) (omega arith))
+
+returns-8 : tie.Need-returns-8
+unfolding countsGood
+returns-8 c = rw (le-leb _ _ (c .before .before .before .before .before .before .if1 .left), le-leb _ _ (c .before .before .before .before .before .if2 .left), le-leb _ _ (c .before .before .before .before .if3 .left), le-leb _ _ (c .before .before .before .if4 .left), le-leb _ _ (c .before .before .if5 .left), le-leb _ _ (c .before .if6 .left), le-leb (c .before .before .before .before .before .before .before .args .segment-count) (length (c .before .before .before .before .before .before .before .args .owners .now)) (omega arith))
 
 pub counts-good-spec : {M : Type 1} → statement M
 counts-good-spec =
     tie.close
-    (tie.spec returns mul-if2 returns-2 returns-3 returns-4 returns-5 add-if6 returns-6 returns-7)
+    (tie.spec returns mul-if2 returns-2 returns-3 returns-4 returns-5 add-if6 returns-6 returns-7 returns-8)
 
 -- Assumes nothing.

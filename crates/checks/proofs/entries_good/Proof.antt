@@ -14,7 +14,7 @@ shared-slice-read-b : tie.Need-shared-slice-read-b
 shared-slice-read-b c = search needs
 
 cast-b : tie.Need-cast-b
-cast-b c = omega (arith, c .shared-slice-known3 .given (c .before .before .before .args .y))
+cast-b c = omega (arith, c .shared-slice-known4 .given (c .before .before .before .before .args .y))
 
 add-e : tie.Need-add-e
 add-e c = search needs
@@ -26,7 +26,7 @@ shared-slice-read-e : tie.Need-shared-slice-read-e
 shared-slice-read-e c = search needs
 
 cast-e : tie.Need-cast-e
-cast-e c = omega (arith, c .shared-slice-known4 .given (c .before .before .before .before .args .y + 1))
+cast-e c = omega (arith, c .shared-slice-known5 .given (c .before .before .before .before .before .args .y + 1))
 
 returns : tie.Need-returns
 unfolding entriesGood
@@ -36,12 +36,12 @@ returns-2 : tie.Need-returns-2
 unfolding entriesGood
 returns-2 c = rw (le-leb _ _ (c .before .if1 .left), lt-leb _ _ (c .if2 .taken))
 
-all-below-requires : tie.Need-all-below-requires
-all-below-requires c κs = search needs
+all-owned-requires : tie.Need-all-owned-requires
+all-owned-requires c κs = search needs
 
 returns-3 : tie.Need-returns-3
 unfolding entriesGood
-returns-3 c = rw (le-leb _ _ (c .before .before .if1 .left), le-leb _ _ (c .before .if2 .left)) (c .all-below .ensures)
+returns-3 c = rw (le-leb _ _ (c .before .before .if1 .left), le-leb _ _ (c .before .if2 .left)) (search (c .all-owned .ensures))
 
 pub entries-good-spec : {M : Type 1} → statement M
 entries-good-spec =
@@ -56,7 +56,7 @@ entries-good-spec =
     cast-e
     returns
     returns-2
-    all-below-requires
+    all-owned-requires
     returns-3)
 
 -- Assumes nothing.

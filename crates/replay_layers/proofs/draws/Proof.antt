@@ -75,6 +75,12 @@ slice-aggregate-draw-2 c = search needs
 slice-aggregate-draw-3 : tie.Need-slice-aggregate-draw-3
 slice-aggregate-draw-3 c = search needs
 
+slice-aggregate-draw-4 : tie.Need-slice-aggregate-draw-4
+slice-aggregate-draw-4 c = search needs
+
+slice-aggregate-draw-5 : tie.Need-slice-aggregate-draw-5
+slice-aggregate-draw-5 c = search needs
+
 draw-requires : tie.Need-draw-requires
 draw-requires c κs = search needs
 
@@ -94,16 +100,16 @@ slice-aggregate-channels-agree-3 : tie.Need-slice-aggregate-channels-agree-3
 slice-aggregate-channels-agree-3 c = search needs
 
 channels-agree-requires : tie.Need-channels-agree-requires
-channels-agree-requires c κs = search needs
+channels-agree-requires c κs = c .before .before .before .before .before .before .before .before .before .before .before .before .before .before .before .before .before .before .before .before .before .before .before .before .before .before .before .before .before .before .before .pre .1
 
 returns : tie.Need-returns
 returns c = λ e. absurd (no-true e)
 
 returns-2 : tie.Need-returns-2
 returns-2 c =
-    let A = c .before .before .before .before .before .before .before .before .before .before .before .before .before .before .before .before .before .before .before .before .before .before .before .before .before .before .before .before .before .before .args in
+    let A = c .before .before .before .before .before .before .before .before .before .before .before .before .before .before .before .before .before .before .before .before .before .before .before .before .before .before .before .before .before .before .before .before .args in
     λ e. drawn-agrees (tableOf (A .segments .now) (A .segment-count) (A .entries .now) (A .entry-count) (A .row-starts .now) (A .height)) (A .y) (A .x0) (A .n) (A .before .now) (A .after .now)
-    (from-channels (A .n) (A .before .now) (c .before .before .before .before .before .before .before .before .before .before .before .before .before .before .before .before .before .before .before .before .before .before .floats .ensures) (c .before .before .before .before .before .before .before .before .before .before .before .before .before .before .before .before .before .before .floats2 .ensures) (c .before .before .before .before .before .before .before .before .before .before .before .before .before .before .floats3 .ensures)) (c .before .before .before .before .before .before .before .before .before .draw .ensures) (c .channels-agree .ensures e)
+    (from-channels (A .n) (A .before .now) (c .before .before .before .before .before .before .before .before .before .before .before .before .before .before .before .before .before .before .before .before .before .before .before .before .floats .ensures) (c .before .before .before .before .before .before .before .before .before .before .before .before .before .before .before .before .before .before .before .before .floats2 .ensures) (c .before .before .before .before .before .before .before .before .before .before .before .before .before .before .before .before .floats3 .ensures)) (c .before .before .before .before .before .before .before .before .before .draw .ensures) (c .channels-agree .ensures e)
 
 pub draws-spec : {M : Type 1} → statement M
 draws-spec =
@@ -132,6 +138,8 @@ draws-spec =
     slice-aggregate-draw
     slice-aggregate-draw-2
     slice-aggregate-draw-3
+    slice-aggregate-draw-4
+    slice-aggregate-draw-5
     draw-requires
     enum-told
     enum-told-2

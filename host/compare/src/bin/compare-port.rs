@@ -1,23 +1,26 @@
 //! The port through its C interface on fixed cases: reading and writing with both round trips, building, drawing whole and in parts,
-//! reach, trace files with both round trips, and the logarithm; every cell of every lent buffer, and each buffer against an inaccessible page. Before that, empty buffers by NULL.
+//! reach, two desks that hide and draw by turns, trace files with both round trips, and the logarithm; every cell of every lent buffer, and each buffer against an inaccessible page. Before that, empty buffers by NULL.
 //!
 //! `compare-port` runs the standing cases, `compare-port --long` more than a million of other seeds, with lines of progress, and
 //! `compare-port --one-in N` the first N-th of each kind's standing cases. Names of calls behind that leave the others out.
 //! Prints a table; ends with 1, and the smallest input, where an answer differs.
 
 use compare::port::tally::Tally;
-use compare::port::{build, draw, ln, null, pages, reach, read, trace, write};
+use compare::port::{build, desks, draw, limits, ln, null, pages, reach, read, trace, write};
 use std::process::ExitCode;
 
 /// A call's name, and what runs its cases.
 type Call = (&'static str, fn(&mut Tally));
 
-const CALLS: [Call; 8] = [
+const CALLS: [Call; 11] = [
     ("read", read::compare),
     ("write", write::compare),
     ("build", build::compare),
     ("draw", draw::compare),
     ("reach", reach::compare),
+    ("desks", desks::compare),
+    ("hide", desks::compare_hide),
+    ("limits", limits::compare),
     ("trace-in", trace::compare_read),
     ("trace-out", trace::compare_write),
     ("ln", ln::compare),

@@ -1,15 +1,15 @@
-//! Drawing: sound, strange and hostile tables and requests as they come, and rows of built tables cut into parts that are drawn in any order.
-//! Every accepted part is drawn by spline.rs too: its cells, and its updates as the pixels that it touches segment by segment.
+//! Drawing: sound, strange and hostile tables, sights and requests as they come, and rows of built tables cut into parts that are drawn in any order.
+//! Every accepted part is drawn by spline.rs too, without what is hidden: its cells, and its updates as the pixels that it touches segment by segment.
 
 use super::tally::Tally;
 use super::{guarded, told_refusal};
-use crate::draw::{touched_in_all, unflattened};
+use crate::draw::{sight_by_turns, without_hidden, Channels, Judge};
 use crate::verdict::same_floats;
 use cases::descriptions::build_case;
+use cases::desks::Sight;
 use cases::random::Random;
 use cases::tables::{request, table, REQUEST_KINDS, TABLE_KINDS};
 use cases::{each, seeds, FlatTable, Refusal};
-use oracle::{Loaded, Outcome};
 use port::Answer;
 
 const CASES_A_KIND: u64 = 16_000;
@@ -20,27 +20,23 @@ const BUILT_KINDS: [&str; 5] = ["fibres", "straight", "sigma", "colours", "corre
 
 /// Rows drawn of a built table, and the width that they are drawn to.
 const ROWS: u64 = 12;
-const WIDTH: u32 = 160;
-
-type Channels = [Vec<f32>; 3];
+pub const WIDTH: u32 = 160;
 
 pub fn compare(tally: &mut Tally) {
     for (kind, seed) in each(&TABLE_KINDS, CASES_A_KIND) {
         let table = table(kind, seed);
+        let sight = sight_by_turns(seed, &table);
         let request = request(REQUEST_KINDS[seed as usize % 3], seed, table.height.max(1));
         tally.cases += 1;
         let (y, x0, n) = (request.y, request.x0, request.n);
-        let expected = expected_part(&table, y, x0, n, &request.channels);
-        let drawn = drawn_part(&table, y, x0, n, &request.channels);
-        check(tally, &expected, &drawn, || {
-            format!("{kind}, seed {seed}: {table:?} {request:?}")
-        });
+        let expected = expected_part(&table, &sight, y, x0, n, &request.channels);
+        let drawn = drawn_part(&table, &sight, y, x0, n, &request.channels);
+        let words = || format!("{kind}, seed {seed}: {table:?} {sight:?} {request:?}");
+        check(tally, &expected, &drawn, words);
         if expected.0.is_ok() {
-            let loaded = oracle::load(&unflattened(&table));
-            let theirs = rust_part(&loaded, &table, y, x0, n, &request.channels);
-            check_with_rust(tally, &theirs, &drawn, || {
-                format!("{kind}, seed {seed}: {table:?} {request:?}")
-            });
+            let judge = Judge::of(without_hidden(&table, &sight, y));
+            let theirs = judge.draw(y, x0, n, &request.channels);
+            check_with_rust(tally, &theirs, &drawn, words);
         }
     }
     for seed in seeds(BUILT_TABLES) {
@@ -48,47 +44,76 @@ pub fn compare(tally: &mut Tally) {
         let case = build_case(kind, seed);
         if let Ok(built) = model::build(&case.description, &case.given, &model::AMPLE) {
             tally.cases += 1;
-            rows_in_parts(tally, kind, seed, &FlatTable::from(&built));
+            rows_in_parts(
+                tally,
+                kind,
+                seed,
+                &FlatTable::from(&built),
+                case.description.counts.len() as u64,
+            );
         }
     }
 }
 
-/// Rows of one table, each cut into parts that are drawn in any order: part after part as spline.rs draws it, in the end cell by cell as spline.rs draws the row whole,
-/// and the updates sum to the row's.
-fn rows_in_parts(tally: &mut Tally, kind: &str, seed: u64, table: &FlatTable) {
+/// Rows of one table with nothing hidden.
+fn rows_in_parts(tally: &mut Tally, kind: &str, seed: u64, table: &FlatTable, splines: u64) {
     let mut r = Random::new("parts", seed);
-    let loaded = oracle::load(&unflattened(table));
+    let judge = Judge::of(table.clone());
+    let mut sight = Sight::open(splines);
     for _ in 0..ROWS.min(table.height.into()) {
         let y = r.below(table.height.into()) as u32;
-        let before: Channels =
-            [0, 1, 2].map(|_| (0..WIDTH).map(|_| r.between(-1.0, 1.0)).collect());
-        let whole = rust_part(&loaded, table, y, 0, WIDTH, &before);
-        let mut cells = before.clone();
-        let mut updates = 0;
-        for (x0, n) in cut(&mut r) {
-            let part = cells
-                .each_ref()
-                .map(|channel| channel[x0 as usize..].to_vec());
-            let expected = expected_part(table, y, x0, n, &part);
-            let drawn = drawn_part(table, y, x0, n, &part);
-            let words = || format!("{kind}, seed {seed}, row {y}, part {x0}, {n}");
-            check(tally, &expected, &drawn, words);
-            let theirs = rust_part(&loaded, table, y, x0, n, &part);
-            check_with_rust(tally, &theirs, &drawn, words);
-            updates += drawn.1[1];
-            for (channel, new) in cells.iter_mut().zip(&drawn.2) {
-                channel[x0 as usize..].copy_from_slice(new);
-            }
+        let words = format!("{kind}, seed {seed}, row {y}");
+        row_in_parts(
+            tally,
+            &words,
+            table,
+            &mut sight,
+            &judge,
+            y,
+            &mut r,
+            |_, _| (),
+        );
+    }
+}
+
+/// One row cut into parts that are drawn in any order, with something done to the sight between them that is nothing to the desk: part after part as spline.rs draws what the
+/// desk has not hidden, in the end cell by cell as spline.rs draws the row whole, and the updates sum to the row's.
+pub fn row_in_parts(
+    tally: &mut Tally,
+    case: &str,
+    table: &FlatTable,
+    sight: &mut Sight,
+    judge: &Judge,
+    y: u32,
+    r: &mut Random,
+    mut between: impl FnMut(&mut Sight, &mut Random),
+) {
+    let before: Channels = [0, 1, 2].map(|_| (0..WIDTH).map(|_| r.between(-1.0, 1.0)).collect());
+    let whole = judge.draw(y, 0, WIDTH, &before);
+    let mut cells = before.clone();
+    let mut updates = 0;
+    for (x0, n) in cut(r) {
+        between(sight, r);
+        let part = cells
+            .each_ref()
+            .map(|channel| channel[x0 as usize..].to_vec());
+        let expected = expected_part(table, sight, y, x0, n, &part);
+        let drawn = drawn_part(table, sight, y, x0, n, &part);
+        let words = || format!("{case}, part {x0}, {n}, {sight:?}");
+        check(tally, &expected, &drawn, words);
+        let theirs = judge.draw(y, x0, n, &part);
+        check_with_rust(tally, &theirs, &drawn, words);
+        updates += drawn.1[1];
+        for (channel, new) in cells.iter_mut().zip(&drawn.2) {
+            channel[x0 as usize..].copy_from_slice(new);
         }
-        same_cells(tally, &whole.1, &cells, || {
-            format!("{kind}, seed {seed}, row {y} in parts")
-        });
-        if whole.0 != Some(updates as u64) {
-            tally.differs(format!(
-                "{kind}, seed {seed}, row {y}: updates {updates} in parts, {:?} whole",
-                whole.0
-            ));
-        }
+    }
+    same_cells(tally, &whole.1, &cells, || format!("{case} in parts"));
+    if whole.0 != Some(updates as u64) {
+        tally.differs(format!(
+            "{case}: updates {updates} in parts, {:?} whole",
+            whole.0
+        ));
     }
 }
 
@@ -163,6 +188,7 @@ fn same_cells(
 
 fn expected_part(
     table: &FlatTable,
+    sight: &Sight,
     y: u32,
     x0: u32,
     n: u32,
@@ -170,11 +196,12 @@ fn expected_part(
 ) -> (Result<u64, Refusal>, Channels) {
     let mut after = before.clone();
     let [r0, r1, r2] = &mut after;
-    (model::draw(table, y, x0, n, [r0, r1, r2]), after)
+    (model::draw(table, sight, y, x0, n, [r0, r1, r2]), after)
 }
 
 fn drawn_part(
     table: &FlatTable,
+    sight: &Sight,
     y: u32,
     x0: u32,
     n: u32,
@@ -182,37 +209,27 @@ fn drawn_part(
 ) -> (u32, Answer, Channels) {
     let mut after = before.clone();
     let [r0, r1, r2] = &mut after;
-    let (code, answer) = guarded::draw(&lent(table), y, x0, n, [r0, r1, r2]);
+    let (code, answer) = guarded::draw(&lent(table), &seen(sight), y, x0, n, [r0, r1, r2]);
     (code, answer, after)
-}
-
-/// The updates of spline.rs, and the channels as it leaves them; it draws as many pixels as its channels have.
-fn rust_part(
-    loaded: &Loaded,
-    table: &FlatTable,
-    y: u32,
-    x0: u32,
-    n: u32,
-    before: &Channels,
-) -> (Option<u64>, Channels) {
-    let mut after = before.clone();
-    let [r0, r1, r2] = &mut after;
-    let part = n as usize;
-    let drawn = loaded.draw(y, x0, [&mut r0[..part], &mut r1[..part], &mut r2[..part]]);
-    assert!(
-        drawn == Outcome::Done(()),
-        "spline.rs draws every accepted part"
-    );
-    (touched_in_all(table, y, x0, n), after)
 }
 
 pub fn lent(table: &FlatTable) -> port::Table<'_> {
     port::Table {
         segments: &table.segments,
+        owners: &table.owners,
         segment_count: table.segment_count,
         entries: &table.entries,
         entry_count: table.entry_count,
         row_starts: &table.row_starts,
         height: table.height,
+    }
+}
+
+/// A desk's sight as the port takes it.
+pub fn seen(sight: &Sight) -> port::Sight<'_> {
+    port::Sight {
+        splines: sight.splines,
+        bits: &sight.bits,
+        desk: sight.desk,
     }
 }

@@ -25,6 +25,7 @@ pub fn run(input: &[u8]) {
         BUILD => build::build(&mut bytes),
         DRAW => table::draw(&mut bytes),
         REACH => table::reach(&mut bytes),
+        HIDE => table::hide(&mut bytes),
         TRACE_READ => trace::read(&mut bytes),
         TRACE_WRITE => trace::write(&mut bytes),
         _ => table::ln(&mut bytes),
@@ -39,4 +40,5 @@ const REACH: u8 = 4;
 const LN: u8 = 5;
 const TRACE_READ: u8 = 6;
 const TRACE_WRITE: u8 = 7;
-const CALLS: u8 = 8;
+const HIDE: u8 = 8;
+const CALLS: u8 = 9;

@@ -3,7 +3,7 @@
 
 use super::lent::Cell;
 use super::pages::Guarded;
-use port::{Answer, Buffers, Image, Parts, Table};
+use port::{Answer, Buffers, Image, Parts, Sight, Table};
 
 /// What stands in an answer before a call, so that a number that is not filled shows.
 const UNFILLED: Answer = [i64::MIN; 5];
@@ -202,48 +202,70 @@ pub fn build(parts: &Parts, image: &Image, lent: Buffers) -> (u32, Answer) {
     told
 }
 
-/// The slices of a table.
+/// The slices of a table and of a desk's sight of it.
 struct GuardedTable<'a> {
     table: Table<'a>,
+    sight: Sight<'a>,
     segments: Guarded<f32>,
+    owners: Guarded<u64>,
     entries: Guarded<u32>,
     row_starts: Guarded<u32>,
+    bits: Guarded<u8>,
 }
 
 impl<'a> GuardedTable<'a> {
-    fn of(table: &Table<'a>) -> GuardedTable<'a> {
+    fn of(table: &Table<'a>, sight: &Sight<'a>) -> GuardedTable<'a> {
         GuardedTable {
             table: *table,
+            sight: *sight,
             segments: Guarded::of(table.segments),
+            owners: Guarded::of(table.owners),
             entries: Guarded::of(table.entries),
             row_starts: Guarded::of(table.row_starts),
+            bits: Guarded::of(sight.bits),
         }
     }
 
-    fn lent(&self) -> Table<'_> {
-        Table {
+    fn lent(&self) -> (Table<'_>, Sight<'_>) {
+        let table = Table {
             segments: self.segments.lent(),
+            owners: self.owners.lent(),
             entries: self.entries.lent(),
             row_starts: self.row_starts.lent(),
             ..self.table
-        }
+        };
+        let sight = Sight {
+            bits: self.bits.lent(),
+            ..self.sight
+        };
+        (table, sight)
     }
 
     fn is_still(self) {
         self.segments.is_still(self.table.segments);
+        self.owners.is_still(self.table.owners);
         self.entries.is_still(self.table.entries);
         self.row_starts.is_still(self.table.row_starts);
+        self.bits.is_still(self.sight.bits);
     }
 }
 
-pub fn draw(table: &Table, y: u32, x0: u32, n: u32, channels: [&mut [f32]; 3]) -> (u32, Answer) {
-    let guarded = GuardedTable::of(table);
+pub fn draw(
+    table: &Table,
+    sight: &Sight,
+    y: u32,
+    x0: u32,
+    n: u32,
+    channels: [&mut [f32]; 3],
+) -> (u32, Answer) {
+    let guarded = GuardedTable::of(table, sight);
     let [r0, r1, r2] = channels;
     let mut lent = [&*r0, &*r1, &*r2].map(Guarded::of);
     let told = answered(|answer| {
         let [r0, r1, r2] = &mut lent;
         let channels = [r0.lend(), r1.lend(), r2.lend()];
-        port::draw_into(&guarded.lent(), y, x0, n, channels, answer)
+        let (table, sight) = guarded.lent();
+        port::draw_into(&table, &sight, y, x0, n, channels, answer)
     });
     guarded.is_still();
     for (channel, lent) in [r0, r1, r2].into_iter().zip(lent) {
@@ -252,9 +274,19 @@ pub fn draw(table: &Table, y: u32, x0: u32, n: u32, channels: [&mut [f32]; 3]) -
     told
 }
 
-pub fn reach(table: &Table, y: u32, width: u32) -> (u32, Answer) {
-    let guarded = GuardedTable::of(table);
-    let told = answered(|answer| port::reach_into(&guarded.lent(), y, width, answer));
+pub fn reach(table: &Table, sight: &Sight, y: u32, width: u32) -> (u32, Answer) {
+    let guarded = GuardedTable::of(table, sight);
+    let told = answered(|answer| {
+        let (table, sight) = guarded.lent();
+        port::reach_into(&table, &sight, y, width, answer)
+    });
     guarded.is_still();
+    told
+}
+
+pub fn hide(bits: &mut [u8], desk: u32, spline: u64, hidden: bool) -> (u32, Answer) {
+    let mut lent = Guarded::of(bits);
+    let told = answered(|answer| port::hide_into(lent.lend(), desk, spline, hidden, answer));
+    lent.back_to(bits);
     told
 }

@@ -37,7 +37,7 @@ impl Lender {
 /// A call that makes its own slices, each with cells, and lends them.
 type Call = fn(&mut Lender) -> Told;
 
-const CALLS: [(&str, Call); 12] = [
+const CALLS: [(&str, Call); 13] = [
     ("read", read),
     ("write", write),
     ("trace_read", trace_read),
@@ -50,6 +50,7 @@ const CALLS: [(&str, Call); 12] = [
     ("draw of no segments", draw_no_segments),
     ("reach", reach),
     ("reach of no segments", reach_no_segments),
+    ("hide", hide),
 ];
 
 /// Every set of slices of every call. A call without an emptied one is done, so that all of it is gone through.
@@ -411,17 +412,21 @@ impl Built {
     }
 }
 
-/// Draws n columns of the row through the spline's start.
+/// Draws n columns of the row through the spline's start, which the desk has not hidden.
 fn draw_of(lender: &mut Lender, spline: Spline, n: u32) -> Told {
+    let splines = spline.counts.len();
     let Built {
         mut rooms,
         segment_count,
         entry_count,
     } = Built::of(spline);
     let mut channels = [(); 3].map(|()| vec![0.5f32; SIDE as usize]);
+    let mut bytes = vec![2; splines];
     let (segments_at, segments_len) = lender.lend(&mut rooms.segments);
+    let (owners_at, owners_len) = lender.lend(&mut rooms.owners);
     let (entries_at, entries_len) = lender.lend(&mut rooms.entries);
     let (row_starts_at, row_starts_len) = lender.lend(&mut rooms.row_starts);
+    let (bits_at, bits_len) = lender.lend(&mut bytes);
     let [(r0, r0_len), (r1, r1_len), (r2, r2_len)] =
         channels.each_mut().map(|channel| lender.lend(channel));
     let mut answer = UNFILLED;
@@ -430,6 +435,8 @@ fn draw_of(lender: &mut Lender, spline: Spline, n: u32) -> Told {
         symbols::aktyrbuz_draw(
             segments_at,
             segments_len,
+            owners_at,
+            owners_len,
             segment_count,
             entries_at,
             entries_len,
@@ -437,6 +444,10 @@ fn draw_of(lender: &mut Lender, spline: Spline, n: u32) -> Told {
             row_starts_at,
             row_starts_len,
             SIDE,
+            splines as u64,
+            bits_at,
+            bits_len,
+            0,
             20,
             0,
             n,
@@ -469,20 +480,26 @@ fn draw_no_segments(lender: &mut Lender) -> Told {
 }
 
 fn reach_of(lender: &mut Lender, spline: Spline) -> Told {
+    let splines = spline.counts.len();
     let Built {
         mut rooms,
         segment_count,
         entry_count,
     } = Built::of(spline);
+    let mut bytes = vec![1; splines];
     let (segments_at, segments_len) = lender.lend(&mut rooms.segments);
+    let (owners_at, owners_len) = lender.lend(&mut rooms.owners);
     let (entries_at, entries_len) = lender.lend(&mut rooms.entries);
     let (row_starts_at, row_starts_len) = lender.lend(&mut rooms.row_starts);
+    let (bits_at, bits_len) = lender.lend(&mut bytes);
     let mut answer = UNFILLED;
     // SAFETY: as above.
     let code = unsafe {
         symbols::aktyrbuz_reach(
             segments_at,
             segments_len,
+            owners_at,
+            owners_len,
             segment_count,
             entries_at,
             entries_len,
@@ -490,6 +507,10 @@ fn reach_of(lender: &mut Lender, spline: Spline) -> Told {
             row_starts_at,
             row_starts_len,
             SIDE,
+            splines as u64,
+            bits_at,
+            bits_len,
+            1,
             20,
             SIDE,
             &mut answer,
@@ -508,4 +529,17 @@ fn reach(lender: &mut Lender) -> Told {
 
 fn reach_no_segments(lender: &mut Lender) -> Told {
     reach_of(lender, Spline::none())
+}
+
+fn hide(lender: &mut Lender) -> Told {
+    let mut bytes = vec![7u8; 3];
+    let (bits_at, bits_len) = lender.lend(&mut bytes);
+    let mut answer = UNFILLED;
+    // SAFETY: as above.
+    let code = unsafe { symbols::aktyrbuz_hide(bits_at, bits_len, 1, 2, false, &mut answer) };
+    Told {
+        code,
+        answer,
+        cells: bytes.into_iter().map(u32::from).collect(),
+    }
 }

@@ -165,6 +165,7 @@ struct Picture {
     owners: Vec<u64>,
     row_starts: Vec<u32>,
     entries: Vec<u32>,
+    bits: Vec<u8>,
     told: [u32; 2],
     row: [Vec<f32>; 3],
 }
@@ -192,6 +193,7 @@ impl Picture {
             owners: vec![0; 64 * splines],
             row_starts: vec![0; SIDE as usize + 1],
             entries: vec![0; 64 * 64 * splines],
+            bits: vec![0; splines],
             told: [0; 2],
             row: [(); 3].map(|()| vec![0.0; SIDE as usize]),
         }
@@ -224,19 +226,25 @@ impl Picture {
         self.told = [answer[1] as u32, answer[2] as u32];
     }
 
-    /// The first row.
+    /// The first row, nothing hidden.
     #[inline(never)]
     fn draw(&mut self) {
         let table = port::Table {
             segments: &self.segments,
+            owners: &self.owners,
             segment_count: self.told[0],
             entries: &self.entries,
             entry_count: self.told[1],
             row_starts: &self.row_starts,
             height: SIDE,
         };
+        let sight = port::Sight {
+            splines: self.counts.len() as u64,
+            bits: &self.bits,
+            desk: 0,
+        };
         let [r0, r1, r2] = &mut self.row;
-        let (code, answer) = port::draw(&table, 0, 0, SIDE, [r0, r1, r2]);
+        let (code, answer) = port::draw(&table, &sight, 0, 0, SIDE, [r0, r1, r2]);
         assert_eq!(code, 0, "draw is refused");
         assert!(answer[1] > 0, "nothing is drawn");
     }

@@ -1,8 +1,8 @@
-//! Building, and drawing a part of what was built.
+//! Building, and drawing a part of what was built for a desk.
 
 use super::bytes::Bytes;
 use super::list::description;
-use super::table::draw_part;
+use super::table::{draw_part, sight};
 use crate::build::same_table;
 use crate::port::build::PortBuilt;
 use crate::port::told_build;
@@ -34,7 +34,8 @@ pub fn build(bytes: &mut Bytes) {
     let Ok(table) = expected else { return };
     check_rooms(&case, &table);
     let channels = [0.25, -0.5, 1.0].map(|before| vec![before; n.into()]);
-    draw_part(&FlatTable::from(&table), y, x0, n.into(), &channels);
+    let sight = sight(case.description.counts.len() as u64, bytes);
+    draw_part(&FlatTable::from(&table), &sight, y, x0, n.into(), &channels);
 }
 
 fn rooms([path, walk, segments, owners, row_starts, entries]: [u64; 6]) -> BuildRooms {

@@ -1,8 +1,10 @@
 //! Inputs to begin with: cases of the generator as bytes.
 
 use super::bytes::Put;
-use super::{BUILD, DRAW, LN, REACH, READ, TRACE_READ, TRACE_WRITE, WRITE};
+use super::{BUILD, DRAW, HIDE, LN, REACH, READ, TRACE_READ, TRACE_WRITE, WRITE};
+use crate::draw::sight_by_turns;
 use cases::descriptions::{self, build_case, BuildCase};
+use cases::desks::{sight, Sight, SIGHT_KINDS};
 use cases::lists::{list_case, write_case, KINDS, WRITE_KINDS};
 use cases::random::Random;
 use cases::tables::{edge_row, request, table, EDGE_KINDS, REQUEST_KINDS, TABLE_KINDS};
@@ -36,6 +38,11 @@ pub fn seeds() -> Vec<(String, Vec<u8>)> {
     for (kind, seed) in each(&EDGE_KINDS, A_KIND) {
         let (table, _) = edge_row(kind, seed);
         seeds.push((format!("reach-{kind}-{seed}"), reach(&table, seed)));
+    }
+    for (kind, seed) in each(&SIGHT_KINDS, A_KIND) {
+        let table = table("sound", seed);
+        let sight = sight(kind, seed, &table);
+        seeds.push((format!("hide-{kind}-{seed}"), hide(&sight)));
     }
     for (kind, seed) in each(&FILE_KINDS, A_KIND) {
         seeds.push((format!("trace-in-{kind}-{seed}"), trace_in(kind, seed)));
@@ -99,13 +106,26 @@ fn put_description(put: &mut Put, description: &Description) {
     put.signed_numbers(&description.coefficients);
 }
 
-fn put_table(put: &mut Put, table: &FlatTable) {
+/// Of a kind of sight by turns.
+fn put_table(put: &mut Put, table: &FlatTable, seed: u64) {
     put.number(table.segment_count);
     put.number(table.entry_count);
     put.number(table.height);
     put.numbers(&table.row_starts);
     put.numbers(&table.entries);
     put.floats(&table.segments);
+    put.signed((table.owners.len() as i32).wrapping_sub(table.segment_count as i32));
+    let owners: Vec<u32> = table.owners.iter().map(|&owner| owner as u32).collect();
+    put.numbers(&owners);
+    put_sight(put, 1, &sight_by_turns(seed, table));
+}
+
+/// As `table::sight` takes it beside so many splines.
+fn put_sight(put: &mut Put, splines: u64, sight: &Sight) {
+    put.signed(sight.splines.wrapping_sub(splines) as i32);
+    put.signed((sight.bits.len() as u64).wrapping_sub(sight.splines) as i32);
+    put.number(sight.desk);
+    sight.bits.iter().for_each(|&byte| put.byte(byte));
 }
 
 fn draw(table: &FlatTable, seed: u64) -> Vec<u8> {
@@ -117,7 +137,7 @@ fn draw(table: &FlatTable, seed: u64) -> Vec<u8> {
         put.number(channel.len() as u32);
     }
     put.float(0.5);
-    put_table(&mut put, table);
+    put_table(&mut put, table, seed);
     put.0
 }
 
@@ -126,7 +146,18 @@ fn reach(table: &FlatTable, seed: u64) -> Vec<u8> {
     put.byte(REACH);
     put.number(seed as u32);
     put.number(80);
-    put_table(&mut put, table);
+    put_table(&mut put, table, seed);
+    put.0
+}
+
+/// Each desk hides the first spline, then the operator shows it.
+fn hide(sight: &Sight) -> Vec<u8> {
+    let mut put = Put::default();
+    put.byte(HIDE);
+    put_sight(&mut put, 4, sight);
+    for word in [0, 0, 1, 1, 0, 1, 0, 0, 0] {
+        put.byte(word);
+    }
     put.0
 }
 

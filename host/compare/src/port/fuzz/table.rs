@@ -1,39 +1,56 @@
-//! Drawing, reach and the logarithm.
+//! Drawing and reach for a desk, its hides, and the logarithm.
 
 use super::bytes::Bytes;
-use crate::draw::unflattened;
+use crate::draw::{without_hidden, Channels, Judge};
+use crate::port::desks::wrong_hide;
+use crate::port::draw::{lent, seen};
 use crate::port::{guarded, told_refusal};
 use crate::reach::Probe;
 use crate::verdict::same_floats;
+use cases::desks::Sight;
 use cases::{bits, FlatTable};
-use oracle::Outcome;
 
 /// No lent channel is longer.
 const MOST_PIXELS: usize = 1 << 11;
 
-type Channels = [Vec<f32>; 3];
+/// No more owners or shared bytes are lent.
+const MOST_LENT: u64 = 1 << 11;
 
-/// A table whose counts need not agree with what is lent.
-fn table(bytes: &mut Bytes) -> FlatTable {
-    FlatTable {
+/// A table whose counts need not agree with what is lent, and a sight of it. What comes after the segments is about desks: an input
+/// that ends before it has an owner a segment, all of spline 0, and desk 0 with nothing hidden.
+fn table_and_sight(bytes: &mut Bytes) -> (FlatTable, Sight) {
+    let mut table = FlatTable {
         segment_count: bytes.number(),
         entry_count: bytes.number(),
         height: bytes.number(),
         row_starts: bytes.numbers(),
         entries: bytes.numbers(),
         segments: bytes.floats(),
+        owners: Vec::new(),
+    };
+    let owners = about(table.segment_count.into(), bytes);
+    table.owners = bytes.numbers().into_iter().map(u64::from).collect();
+    table.owners.resize(owners, 0);
+    (table, sight(1, bytes))
+}
+
+/// A sight of a table of about so many splines, with about so many bytes.
+pub fn sight(splines: u64, bytes: &mut Bytes) -> Sight {
+    let splines = splines.wrapping_add_signed(bytes.signed().into());
+    let mut bits = vec![0; about(splines, bytes)];
+    let desk = bytes.number();
+    bits.iter_mut().for_each(|bit| *bit = bytes.byte());
+    Sight {
+        splines,
+        bits,
+        desk,
     }
 }
 
-fn lent(table: &FlatTable) -> port::Table<'_> {
-    port::Table {
-        segments: &table.segments,
-        segment_count: table.segment_count,
-        entries: &table.entries,
-        entry_count: table.entry_count,
-        row_starts: &table.row_starts,
-        height: table.height,
-    }
+/// A length that is this one, or off by a number of the input.
+fn about(length: u64, bytes: &mut Bytes) -> usize {
+    let length = length.saturating_add_signed(bytes.signed().into());
+    length.min(MOST_LENT) as usize
 }
 
 pub fn draw(bytes: &mut Bytes) {
@@ -41,21 +58,22 @@ pub fn draw(bytes: &mut Bytes) {
     let lengths = [0; 3].map(|_: u8| bytes.length(MOST_PIXELS));
     let before = bytes.float();
     let channels = lengths.map(|length| vec![before; length]);
-    draw_part(&table(bytes), y, x0, n, &channels);
+    let (table, sight) = table_and_sight(bytes);
+    draw_part(&table, &sight, y, x0, n, &channels);
 }
 
 /// One part, against the second reading and, where it is drawn, against spline.rs.
-pub fn draw_part(table: &FlatTable, y: u32, x0: u32, n: u32, before: &Channels) {
+pub fn draw_part(table: &FlatTable, sight: &Sight, y: u32, x0: u32, n: u32, before: &Channels) {
     let mut expected = before.clone();
     let [r0, r1, r2] = &mut expected;
-    let told = match model::draw(table, y, x0, n, [r0, r1, r2]) {
+    let told = match model::draw(table, sight, y, x0, n, [r0, r1, r2]) {
         Ok(updates) => (0, [0, updates as i64, 0, 0, 0]),
         Err(refusal) => told_refusal(&refusal),
     };
     let mut drawn = before.clone();
     let [r0, r1, r2] = &mut drawn;
-    let found = guarded::draw(&lent(table), y, x0, n, [r0, r1, r2]);
-    let words = || format!("row {y}, part {x0}, {n} of {table:?} over {before:?}");
+    let found = guarded::draw(&lent(table), &seen(sight), y, x0, n, [r0, r1, r2]);
+    let words = || format!("row {y}, part {x0}, {n} of {table:?}, {sight:?} over {before:?}");
     assert!(
         found == told,
         "{}: the port {found:?}, the second reading {told:?}",
@@ -67,7 +85,8 @@ pub fn draw_part(table: &FlatTable, y: u32, x0: u32, n: u32, before: &Channels) 
         words()
     );
     if found.0 == 0 {
-        let theirs = drawn_by_rust(table, y, x0, n as usize, before);
+        let judge = Judge::of(without_hidden(table, sight, y));
+        let (_, theirs) = judge.draw(y, x0, n, before);
         assert!(
             same_floats(&theirs.concat(), &drawn.concat()),
             "{}: the port {drawn:?}, spline.rs {theirs:?}",
@@ -76,38 +95,38 @@ pub fn draw_part(table: &FlatTable, y: u32, x0: u32, n: u32, before: &Channels) 
     }
 }
 
-/// The channels as spline.rs leaves them; it draws as many pixels as its channels have.
-fn drawn_by_rust(table: &FlatTable, y: u32, x0: u32, n: usize, before: &Channels) -> Channels {
-    let mut after = before.clone();
-    let [r0, r1, r2] = &mut after;
-    let parts = [&mut r0[..n], &mut r1[..n], &mut r2[..n]];
-    let drawn = oracle::load(&unflattened(table)).draw(y, x0, parts);
-    assert!(
-        drawn == Outcome::Done(()),
-        "spline.rs draws every accepted part: {table:?}"
-    );
-    after
-}
-
 pub fn reach(bytes: &mut Bytes) {
     let (y, width) = (bytes.number(), bytes.number());
-    let table = table(bytes);
-    let told = match model::reach(&table, y, width) {
+    let (table, sight) = table_and_sight(bytes);
+    let told = match model::reach(&table, &sight, y, width) {
         Ok((first, past)) => (0, [0, first.into(), past.into(), 0, 0]),
         Err(refusal) => told_refusal(&refusal),
     };
-    let found = guarded::reach(&lent(&table), y, width);
+    let found = guarded::reach(&lent(&table), &seen(&sight), y, width);
+    let words = || format!("reach of row {y}, width {width} of {table:?}, {sight:?}");
     assert!(
         found == told,
-        "reach of row {y}, width {width} of {table:?}: the port {found:?}, the second reading {told:?}"
+        "{}: the port {found:?}, the second reading {told:?}",
+        words()
     );
     if found.0 == 0 {
         let reach = (found.1[1] as u32, found.1[2] as u32);
-        let wrong = Probe::of(&table, y).wrong(width, reach);
+        let wrong = Probe::of(&without_hidden(&table, &sight, y), y).wrong(width, reach);
         assert!(
             wrong.is_none(),
-            "reach of row {y}, width {width} of {table:?}: the port {reach:?}; {wrong:?}"
+            "{}: the port {reach:?}; {wrong:?}",
+            words()
         );
+    }
+}
+
+/// Hides and shows by turns, as long as the input goes.
+pub fn hide(bytes: &mut Bytes) {
+    let Sight { mut bits, .. } = sight(4, bytes);
+    while !bytes.0.is_empty() {
+        let (desk, spline, hidden) = (bytes.number(), bytes.number(), bytes.flag());
+        let wrong = wrong_hide(&mut bits, desk, spline.into(), hidden);
+        assert_eq!(wrong, None);
     }
 }
 
