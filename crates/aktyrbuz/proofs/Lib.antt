@@ -5,3 +5,4 @@ pub mod Readings
 pub mod Demands
 pub mod Requests
 pub mod ListCodes
+pub mod ProfileNumbers

@@ -17,16 +17,14 @@ use Rattle.table.specs.Table.{Setting, BuildRooms, BuildOutcome, givenOf, zeros
 use Rattle.desks.specs.Desks.{Sight, bitOf, hiddenIn}
 use Rattle.desks.specs.Agree.{Agree}
 use Rattle.desks.specs.Hide.{HideOutcome, HideRefusal, hideOf}
-use Rattle.desks.specs.Hide as hide-table
 use Rattle.desks.specs.declared.HideAnswer.{HideAnswer}
 use Rattle.desks.proofs.Shown.{nothing-hidden}
 use Rattle.desks.proofs.Hides.{Way, no-desk, no-byte, one-bit, way, hide-refused, hide-done, hide-place, hide-refused-exactly, hide-length, hide-sets, hide-keeps, hides-length, hides-keep}
-use Rattle.desks.proofs.Hides as hiding
 use Rattle.checks.specs.Tables.{Table, rowOf, shownOf}
 use Rattle.checks.specs.declared.Verdict.{Verdict}
 use Rattle.checks.specs.declared.Verdict.the-variants.{Fine, Fault}
 use Rattle.checks.proofs.Entries.{and-left, and-right}
-use Rattle.checks.proofs.Refusals.{counts-fit-for, row-fine-for}
+use Rattle.checks.proofs.Refusals.{counts-fit-for, row-fine-for, counts-fit, row-fine}
 use Rattle.draw.specs.Draw.{Channels, DrawOutcome, updates, judgeOf, outcome, drawOf}
 use Rattle.draw.proofs.Alike.{whole-row}
 use Rattle.draw.specs.Keeps.{Updates}
@@ -40,9 +38,9 @@ use Rattle.hull.proofs.Reaches.{PassedReach, reached}
 use Rattle.picture.specs.Picture.{Lists, Found, RowPicture, rowPairs, imagePairs}
 use Rattle.picture.specs.Sights.{hides, KeptSight}
 use Rattle.picture.proofs.Sights.{none-hidden}
-use Rattle.picture.proofs.Keeping.{kept-count, kept-is, kept-owner, owned-for, shown-lists}
+use Rattle.picture.proofs.Keeping.{kept-count, kept-is, kept-owner, owned-for, shown-lists, kept-lists}
 use Rattle.aktyrbuz.specs.Calls.{KeptTable, RowRun, BuildDone, DrawCall, ReachCall, HideCall, HideCalls, withBits}
-use Rattle.aktyrbuz.specs.Requests.{Reaches, InReach, NoReach, HasSegment, OutsideReachUntouched, BothEnds, ReachEndsUpdated, ReachEmptyExactly, LeftEdgeReached, SegmentsNear, TablesNear, Beyond, RowIs, ColumnIs, Clear, DrawingsNear, OwnersOf, OwnersLeft, OwnersAscend, SplineOwns, OwnerIsSpline, NoOwner, SkippedHasNone, NumbersByKind, FaintCounted, FaintEnds, FaintByKind, FileReadBack, FileWrittenBack, OneFile, TraceReadCodes, TraceWriteCodes, TraceOneOutcome, NegativeFirstStart, DesksApart, OtherDeskUnseen, OwnBitsAlone, HideChangesOneBit, HideCodes, HideOneOutcome, BuiltIsLent, AsWithoutDesks}
+use Rattle.aktyrbuz.specs.Requests.{Reaches, InReach, NoReach, HasSegment, OutsideReachUntouched, BothEnds, ReachEndsUpdated, ReachEmptyExactly, LeftEdgeReached, SegmentsNear, TablesNear, Beyond, RowIs, ColumnIs, Clear, DrawingsNear, OwnersOf, OwnersLeft, OwnersAscend, SplineOwns, OwnerIsSpline, NoOwner, SkippedHasNone, NumbersByKind, FaintCounted, FaintEnds, FaintByKind, FileReadBack, FileWrittenBack, OneFile, TraceReadCodes, TraceWriteCodes, TraceOneOutcome, NegativeFirstStart, DesksApart, OtherDeskUnseen, OwnBitsAlone, HideChangesOneBit, HideCodes, HideOneOutcome, BuiltIsLent, AsWithoutDesks, MeetsExactly, FirstBrokenRule, ProfileCodes, ProfileBuildIsBuild, ProfileBuildCodes, ProfileOneOutcome, Edition1In2, EditionExactly}
 use Rattle.aktyrbuz.proofs.Readings.{starred-readings}
 use Rattle.aktyrbuz.proofs.Calls.{draw-equation, reach-equation, hide-equation, hide-told-by, built-by, kept-are, own-alike, row-by, hides-by, build-equation}
 use mathlib.Core.Bool.{Bool, true, false, true≢false, not, _&&_}
@@ -86,6 +84,16 @@ use Rattle.trace_laws.proofs.Readings.{small-outcome}
 use Rattle.codes.specs.declared.Code.{Code}
 use Rattle.aktyrbuz.specs.ListCodes.{ReadDone}
 use Rattle.aktyrbuz.specs.TraceCalls.{TraceReadCall, reads, TraceWriteCall, writes}
+use Rattle.profile.specs.Profile.{ProfileOutcome, tells, profileOf}
+use Rattle.profile.specs.declared.ProfileAnswer.{ProfileAnswer}
+use Rattle.profile_build.specs.Building.{ProfileBuildOutcome, stoppedWith, asBuilt, buildProfileOf}
+use Rattle.profile_build.specs.declared.ProfileBuildAnswer.{ProfileBuildAnswer}
+use Rattle.profile_laws.proofs.Says.{meets-iff, broken-iff, refused-iff, edition-iff}
+use Rattle.profile_laws.proofs.Editions.{answer-1-in-2}
+use Rattle.profile_laws.proofs.Builds.{as-build, breaks-leaves, refusal-leaves, done-exactly, broken-exactly, build-refused-exactly, otherwise-is-build, edition-exactly, build-1-in-2}
+use Rattle.aktyrbuz.proofs.ProfileNumbers.{profile-equation, profile-build-equation}
+use Rattle.desks.specs.Hide as hide-table
+use Rattle.desks.proofs.Hides as hiding
 use Rattle.draw.proofs.Parts as parts
 use Rattle.rows.specs.Rows as listing
 use Rattle.numbers.specs.declared.KindI64.the-variants as I64
@@ -557,6 +565,86 @@ faint-by-kind s h =
     let y = ends-of (s .«center_y») (s .«maximum_distance») h in
     let x = ends-of (s .«center_x») (s .«maximum_distance») h in
     record { first-row = y .0; last-row = y .1; first-column = x .2; last-column = x .3 }
+
+-- ---- (ix) the fineness profile
+
+pub meets-exactly : MeetsExactly
+unfolding profileOf
+meets-exactly d a e o c = along (λ (u : ProfileOutcome). u .answer ≡ ProfileAnswer.Meets) (profile-equation d a e o c) (meets-iff d a e)
+
+pub first-broken-rule : FirstBrokenRule
+unfolding profileOf
+first-broken-rule d a e o c rule k = along (λ (u : ProfileOutcome). u .answer ≡ ProfileAnswer.Broken rule k) (profile-equation d a e o c) (broken-iff d a e rule k)
+
+pub profile-codes : ProfileCodes
+unfolding profileOf
+profile-codes = record {
+  exactly = λ d a e o c k p. along (λ (u : ProfileOutcome). u .answer ≡ ProfileAnswer.Refused k p) (profile-equation d a e o c) (refused-iff d a e k p);
+  broken = λ d a e o c rule k b. ap (λ (u : ProfileOutcome). u .told) (profile-equation d a e o c ∙ ap (λ (x : ProfileAnswer). tells x) (broken-iff d a e rule k .1 b));
+  refused = λ d a e o c k p w. ap (λ (u : ProfileOutcome). u .told) (profile-equation d a e o c ∙ ap (λ (x : ProfileAnswer). tells x) (refused-iff d a e k p .1 w));
+  met = λ d a e o c m. ap (λ (u : ProfileOutcome). u .told) (profile-equation d a e o c ∙ ap (λ (x : ProfileAnswer). tells x) (meets-iff d a e .1 m));
+}
+
+-- an outcome answers what its definition answers, and where that is a build's, so is the outcome
+answered-by : {o w : ProfileBuildOutcome} {x : ProfileBuildAnswer} → o ≡ w → o .answer ≡ x → w .answer ≡ x
+answered-by is q = sym (ap (λ (u : ProfileBuildOutcome). u .answer) is) ∙ q
+
+built-by-profile : {o w : ProfileBuildOutcome} {v : BuildOutcome} → o ≡ w → w ≡ asBuilt v → (b : BuildOutcome) → b ≡ v → o ≡ asBuilt b
+built-by-profile is k b q = is ∙ k ∙ ap (λ (u : BuildOutcome). asBuilt u) (sym q)
+
+pub profile-build-is-build : ProfileBuildIsBuild
+profile-build-is-build = record {
+  accepted = λ d i e r o c s n t f q.
+      let is = profile-build-equation d i e r o c in
+      let w = done-exactly d i e r s n t f .0 (answered-by is q) in
+      (w .fits, λ b k. built-by-profile is (as-build d i e r (w .fits)) b (build-equation d i r b k));
+  plain = λ d i e r o c w b k. built-by-profile (profile-build-equation d i e r o c) (as-build d i e r w) b (build-equation d i r b k);
+  otherwise = λ d i e r o c k p q n b z.
+      let is = profile-build-equation d i e r o c in
+      built-by-profile is (otherwise-is-build d i e r k p n (answered-by is q)) b (build-equation d i r b z);
+}
+
+pub profile-build-codes : ProfileBuildCodes
+unfolding stoppedWith
+profile-build-codes = record {
+  done = λ d i e r o c s n t f.
+      along (λ (u : ProfileBuildOutcome). u .answer ≡ ProfileBuildAnswer.Done s n t f) (profile-build-equation d i e r o c) (done-exactly d i e r s n t f);
+  broken = λ d i e r o c rule k.
+      along (λ (u : ProfileBuildOutcome). u .answer ≡ ProfileBuildAnswer.Broken rule k) (profile-build-equation d i e r o c) (broken-exactly d i e r rule k);
+  refused = λ d i e r o c k p.
+      along (λ (u : ProfileBuildOutcome). u .answer ≡ ProfileBuildAnswer.Refused k p) (profile-build-equation d i e r o c) (build-refused-exactly d i e r k p);
+  broken-zero = λ d i e r o c rule k w.
+      let q = profile-build-equation d i e r o c ∙ breaks-leaves d i e r rule k w in
+      (q, ap (λ (u : ProfileBuildOutcome). u .told) q);
+  refused-zero = λ d i e r o c k p w.
+      let q = profile-build-equation d i e r o c ∙ refusal-leaves d i e r k p w in
+      (q, ap (λ (u : ProfileBuildOutcome). u .told) q);
+}
+
+pub profile-one-outcome : ProfileOneOutcome
+profile-one-outcome = record {
+  check = λ d a e o q c k. profile-equation d a e o c ∙ sym (profile-equation d a e q k);
+  build = λ d i e r o q c k. profile-build-equation d i e r o c ∙ sym (profile-build-equation d i e r q k);
+}
+
+-- ---- (x) edition 2, with edition 1 kept: the profile
+
+pub edition-1-in-2 : Edition1In2
+unfolding profileOf
+edition-1-in-2 = record {
+  check = λ d a o q c k m.
+      ap (λ (u : ProfileOutcome). u .answer) (profile-equation d a 2 q k) ∙ answer-1-in-2 d a (sym (ap (λ (u : ProfileOutcome). u .answer) (profile-equation d a 1 o c)) ∙ m);
+  build = λ d i r o q c k s n t f w.
+      let is = profile-build-equation d i 1 r o c in
+      profile-build-equation d i 2 r q k ∙ build-1-in-2 d i r s n t f (answered-by is w) ∙ sym is;
+}
+
+pub edition-refused-exactly : EditionExactly
+unfolding profileOf
+edition-refused-exactly = record {
+  check = λ d a e o c p. along (λ (u : ProfileOutcome). u .answer ≡ ProfileAnswer.Refused Code.Edition p) (profile-equation d a e o c) (edition-iff d a e p);
+  build = λ d i e r o c p. along (λ (u : ProfileBuildOutcome). u .answer ≡ ProfileBuildAnswer.Refused Code.Edition p) (profile-build-equation d i e r o c) (edition-exactly d i e r p);
+}
 
 -- ---- (xiii) how near a listed row is
 

@@ -5,3 +5,5 @@ pub mod Demands
 pub mod Requests
 pub mod ListCodes
 pub mod TraceCalls
+pub mod ProfileExported
+pub mod ProfileCalls

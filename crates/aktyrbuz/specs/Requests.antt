@@ -7,7 +7,7 @@ use Prim.Native.Nat.{ℕ, suc, _≤_, _<_, _+_, _^_, _-_, _*_}
 use lib.IntN.{pos, ℤ, negsuc}
 use lib.ListN.{length, getD, take, replicate}
 use lib.Ieee.{Float, fin, isNan}
-use Rattle.dequantize.specs.Judge.{Description}
+use Rattle.dequantize.specs.Judge.{Description, Shaped}
 use Rattle.segments.specs.declared.Segment.{Segment}
 use Rattle.segments.specs.Segment.{segmentAt}
 use Rattle.segments.specs.Ranges.{hasRow, hasColumn, rowEnd, columnEnd}
@@ -19,12 +19,11 @@ use Rattle.desks.specs.Hide.{HideOutcome, HideRefusal}
 use Rattle.desks.specs.declared.HideAnswer.{HideAnswer}
 use Rattle.checks.specs.Tables.{Table, rowOf, shownOf}
 use Rattle.draw.specs.Draw.{Channels, DrawOutcome, unhidden, judgeOf}
-use Rattle.draw.specs.Image as drawing
 use Rattle.draw.specs.Keeps.{Updates, SameCell}
 use Rattle.draw.specs.declared.DrawAnswer.{DrawAnswer}
 use Rattle.hull.specs.Reach.{ReachOutcome, reachOver, judgeReachOf, reachAnswer, tells}
 use Rattle.hull.specs.declared.ReachAnswer.{ReachAnswer}
-use Rattle.aktyrbuz.specs.Calls.{DrawCall, ReachCall, HideCall, HideCalls, withBits, KeptTable, RowRun, ImageRun, BuildDone}
+use Rattle.aktyrbuz.specs.Calls.{DrawCall, ReachCall, HideCall, HideCalls, withBits, KeptTable, RowRun, ImageRun, BuildDone, BuildCall}
 use lib.Signed.{_≤ℤ_}
 use Rattle.near.specs.Near.{Edge, apart, Tight, RowsBy, ColumnsBy, RowsNear, ColumnsNear, EveryFinite}
 use Rattle.picture.specs.Picture.{Found, RowPicture, rowPairs, imagePairs}
@@ -52,6 +51,14 @@ use Rattle.trace_laws.specs.Refusals.{TraceReadRefusal, TraceWriteRefusal, Trac
 use Rattle.trace_laws.specs.Small.{smallFile, smallRooms}
 use Rattle.aktyrbuz.specs.ListCodes.{ReadDone}
 use Rattle.aktyrbuz.specs.TraceCalls.{TraceReadCall, TraceWriteCall}
+use Rattle.profile.specs.Profile.{ProfileOutcome}
+use Rattle.profile.specs.declared.ProfileAnswer.{ProfileAnswer}
+use Rattle.profile_build.specs.Building.{ProfileBuildOutcome, stoppedWith, asBuilt}
+use Rattle.profile_build.specs.declared.ProfileBuildAnswer.{ProfileBuildAnswer}
+use Rattle.profile_laws.specs.Rules.{Meeting, Breaking, NoEdition, ProfileRefusal}
+use Rattle.profile_laws.specs.Refusals.{Plain, DoneByBuild, BreaksRule, UnknownEdition, ProfileBuildRefusal}
+use Rattle.aktyrbuz.specs.ProfileCalls.{ProfileCall, ProfileBuildCall}
+use Rattle.draw.specs.Image as drawing
 use Rattle.rows.specs.Rows as listing
 use Rattle.numbers.specs.declared.KindI64.the-variants as I64
 use Rattle.numbers.specs.declared.KindU64.the-variants as U64
@@ -302,6 +309,69 @@ pub record FaintEnds (s : Segment) : Type 0 where
 
 abbrev pub FaintByKind : Type 0
 FaintByKind = (s : Segment) → isNan (s .«maximum_distance») ≡ true → FaintEnds s
+
+-- ---- (ix) the fineness profile
+
+-- a check tells yes exactly when the lengths agree and the description meets the six rules of the edition
+abbrev pub MeetsExactly : Type 0
+MeetsExactly = (d : Description) (a : ℤ) (e : ℕ) (o : ProfileOutcome) → ProfileCall d a e o → o .answer ≡ ProfileAnswer.Meets ↔ Meeting d a e
+
+-- it names a rule and a spline exactly when that rule is the first that is broken: rules 1 and 3 first, then the splines in order, and of a spline 2, 4, 5, 6
+abbrev pub FirstBrokenRule : Type 0
+FirstBrokenRule =
+    (d : Description) (a : ℤ) (e : ℕ) (o : ProfileOutcome) → ProfileCall d a e o → (rule k : ℕ) → o .answer ≡ ProfileAnswer.Broken rule k ↔ Breaking d a e rule k
+
+-- the other codes exactly when; and what is told: PROFILE is 21 at the spline, with the rule as first count, any other refusal has a count of 0, and so has a success
+pub record ProfileCodes : Type 0 where
+  pub exactly : (d : Description) (a : ℤ) (e : ℕ) (o : ProfileOutcome) → ProfileCall d a e o → (c : Code) (p : ℕ) → o .answer ≡ ProfileAnswer.Refused c p ↔ ProfileRefusal d a e c p
+  pub broken : (d : Description) (a : ℤ) (e : ℕ) (o : ProfileOutcome) → ProfileCall d a e o → (rule k : ℕ) → Breaking d a e rule k → o .told ≡ record { number = 21; place = k; first = rule }
+  pub refused : (d : Description) (a : ℤ) (e : ℕ) (o : ProfileOutcome) → ProfileCall d a e o → (c : Code) (p : ℕ) → ProfileRefusal d a e c p → o .told ≡ record { number = numberOf c; place = p; first = 0 }
+  pub met : (d : Description) (a : ℤ) (e : ℕ) (o : ProfileOutcome) → ProfileCall d a e o → Meeting d a e → o .told ≡ record { number = 0; place = 0; first = 0 }
+
+-- a build by profile that is done is of a description that meets the profile, and its outcome is that of a build, every cell; so it is wherever the profile is met and the image is not too large
+-- one that is refused otherwise than by PROFILE or EDITION is refused as a build is
+pub record ProfileBuildIsBuild : Type 0 where
+  pub accepted : (d : Description) (i : Setting) (e : ℕ) (r : BuildRooms) (o : ProfileBuildOutcome) → ProfileBuildCall d i e r o → (s n t f : ℕ) → o .answer ≡ ProfileBuildAnswer.Done s n t f
+      → Plain d i e r × ((b : BuildOutcome) → BuildCall d i r b → o ≡ asBuilt b)
+  pub plain : (d : Description) (i : Setting) (e : ℕ) (r : BuildRooms) (o : ProfileBuildOutcome) → ProfileBuildCall d i e r o → Plain d i e r
+      → (b : BuildOutcome) → BuildCall d i r b → o ≡ asBuilt b
+  pub otherwise : (d : Description) (i : Setting) (e : ℕ) (r : BuildRooms) (o : ProfileBuildOutcome) → ProfileBuildCall d i e r o → (c : Code) (p : ℕ) → o .answer ≡ ProfileBuildAnswer.Refused c p
+      → (c ≡ Code.Edition → ⊥) → (b : BuildOutcome) → BuildCall d i r b → o ≡ asBuilt b
+
+-- each answer exactly when; after a refusal, PROFILE too, every lent cell is zero; PROFILE is 21 at the spline, with the rule as first count
+pub record ProfileBuildCodes : Type 0 where
+  pub done : (d : Description) (i : Setting) (e : ℕ) (r : BuildRooms) (o : ProfileBuildOutcome) → ProfileBuildCall d i e r o
+      → (s n t f : ℕ) → o .answer ≡ ProfileBuildAnswer.Done s n t f ↔ DoneByBuild d i e r s n t f
+  pub broken : (d : Description) (i : Setting) (e : ℕ) (r : BuildRooms) (o : ProfileBuildOutcome) → ProfileBuildCall d i e r o
+      → (rule k : ℕ) → o .answer ≡ ProfileBuildAnswer.Broken rule k ↔ BreaksRule d i e r rule k
+  pub refused : (d : Description) (i : Setting) (e : ℕ) (r : BuildRooms) (o : ProfileBuildOutcome) → ProfileBuildCall d i e r o
+      → (c : Code) (p : ℕ) → o .answer ≡ ProfileBuildAnswer.Refused c p ↔ ProfileBuildRefusal d i e r c p
+  pub broken-zero : (d : Description) (i : Setting) (e : ℕ) (r : BuildRooms) (o : ProfileBuildOutcome) → ProfileBuildCall d i e r o
+      → (rule k : ℕ) → BreaksRule d i e r rule k → (o ≡ stoppedWith r (ProfileBuildAnswer.Broken rule k))
+      × (o .told ≡ record { number = 21; place = k; first = rule; second = 0; third = 0; fourth = 0 })
+  pub refused-zero : (d : Description) (i : Setting) (e : ℕ) (r : BuildRooms) (o : ProfileBuildOutcome) → ProfileBuildCall d i e r o
+      → (c : Code) (p : ℕ) → ProfileBuildRefusal d i e r c p → (o ≡ stoppedWith r (ProfileBuildAnswer.Refused c p))
+      × (o .told ≡ record { number = numberOf c; place = p; first = 0; second = 0; third = 0; fourth = 0 })
+
+-- any two outcomes that a contract allows are equal
+pub record ProfileOneOutcome : Type 0 where
+  pub check : (d : Description) (a : ℤ) (e : ℕ) (o q : ProfileOutcome) → ProfileCall d a e o → ProfileCall d a e q → o ≡ q
+  pub build : (d : Description) (i : Setting) (e : ℕ) (r : BuildRooms) (o q : ProfileBuildOutcome) → ProfileBuildCall d i e r o → ProfileBuildCall d i e r q → o ≡ q
+
+-- ---- (x) edition 2, with edition 1 kept: the profile
+
+-- what edition 1 accepts edition 2 accepts too: the check tells yes, and a build by profile leaves the same outcome
+pub record Edition1In2 : Type 0 where
+  pub check : (d : Description) (a : ℤ) (o q : ProfileOutcome) → ProfileCall d a 1 o → ProfileCall d a 2 q → o .answer ≡ ProfileAnswer.Meets → q .answer ≡ ProfileAnswer.Meets
+  pub build : (d : Description) (i : Setting) (r : BuildRooms) (o q : ProfileBuildOutcome) → ProfileBuildCall d i 1 r o → ProfileBuildCall d i 2 r q
+      → (s n t f : ℕ) → o .answer ≡ ProfileBuildAnswer.Done s n t f → q ≡ o
+
+-- EDITION is given exactly for an edition other than 1 or 2, at place 0, after SHAPE (and SIZE, where there is an image) and before any rule
+pub record EditionExactly : Type 0 where
+  pub check : (d : Description) (a : ℤ) (e : ℕ) (o : ProfileOutcome) → ProfileCall d a e o
+      → (p : ℕ) → o .answer ≡ ProfileAnswer.Refused Code.Edition p ↔ ((p ≡ 0) × Shaped d × NoEdition e)
+  pub build : (d : Description) (i : Setting) (e : ℕ) (r : BuildRooms) (o : ProfileBuildOutcome) → ProfileBuildCall d i e r o
+      → (p : ℕ) → o .answer ≡ ProfileBuildAnswer.Refused Code.Edition p ↔ UnknownEdition d i e r p
 
 -- ---- (xiii) how near a listed row is
 

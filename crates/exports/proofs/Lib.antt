@@ -2,3 +2,4 @@
 pub mod Exports
 pub mod TraceExports
 pub mod DeskExports
+pub mod ProfileExports

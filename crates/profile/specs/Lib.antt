@@ -1,0 +1,2 @@
+-- The definitions of the crate `profile`.
+pub mod Profile

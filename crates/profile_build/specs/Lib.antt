@@ -1,0 +1,2 @@
+-- The definitions of the crate `profile_build`.
+pub mod Building

@@ -1,0 +1,3 @@
+-- The definitions of the crate `profile_laws`.
+pub mod Rules
+pub mod Refusals
