@@ -1,5 +1,5 @@
 #!/usr/bin/env python3
-"""Reads a trace file by the words of its description and prints its numbers: a reader that shares nothing with the library or with host/.
+"""Reads a trace file of version 1 or 2 by the words of its description and prints its numbers: a reader that shares nothing with the library or with host/.
 
     tools/trace_reader.py FILE
 
@@ -9,7 +9,9 @@ A file that is refused is told by the code's name and the place, and ends the pr
 import struct
 import sys
 
-HEADER_BYTES = 32
+FIRST_NUMBERS = 32
+HEADER_BYTES = {1: 32, 2: 36}
+EDITIONS = (1, 2)
 COORDINATES = range(-(2**23), 2**23)
 DOUBLE_DELTAS = range(-(2**30) + 1, 2**30)
 
@@ -26,21 +28,27 @@ def refuse_first(code, numbers, offset, good):
 
 
 def read(data):
-    """The adjustment and the four parts of a trace file, or a refusal in the order of the checks."""
-    if len(data) < HEADER_BYTES:
+    """The edition that is said, the adjustment and the four parts of a trace file of either version, or a refusal in the order of the checks."""
+    if len(data) < FIRST_NUMBERS:
         raise Refused("SHORT", len(data))
     version, splines, points = struct.unpack_from("<3I", data, 0)
     (adjustment,) = struct.unpack_from("<i", data, 12)
     offsets = struct.unpack_from("<4I", data, 16)
-    if version != 1:
+    if version not in HEADER_BYTES:
         raise Refused("HEADER", 0)
+    if len(data) < HEADER_BYTES[version]:
+        raise Refused("SHORT", len(data))
+    # Version 1 says no edition and is of edition 1.
+    (edition,) = struct.unpack_from("<I", data, 32) if version == 2 else (None,)
     numbers = [splines, 2 * splines, 2 * points, 128 * splines]
-    begins = [HEADER_BYTES]
+    begins = [HEADER_BYTES[version]]
     for many in numbers:
         begins.append(begins[-1] + 4 * many)
     for index, (offset, begin) in enumerate(zip(offsets, begins)):
         if offset != begin:
             raise Refused("HEADER", 16 + 4 * index)
+    if version == 2 and edition not in EDITIONS:
+        raise Refused("EDITION", 32)
     end = begins[4]
     if len(data) < end:
         raise Refused("SHORT", len(data))
@@ -54,12 +62,13 @@ def read(data):
         raise Refused("SHAPE", 0)
     refuse_first("COORD", starts, begins[1], COORDINATES)
     refuse_first("DELTA", deltas, begins[2], DOUBLE_DELTAS)
-    return adjustment, counts, starts, deltas, coefficients
+    return edition, adjustment, counts, starts, deltas, coefficients
 
 
-def told(adjustment, counts, starts, deltas, coefficients):
+def told(edition, adjustment, counts, starts, deltas, coefficients):
     """All numbers, spline by spline."""
-    yield "%d splines, %d points, adjustment %d" % (len(counts), sum(counts), adjustment)
+    said = "" if edition is None else ", edition %d" % edition
+    yield "%d splines, %d points, adjustment %d%s" % (len(counts), sum(counts), adjustment, said)
     used = 0
     for spline, count in enumerate(counts):
         x, y = starts[2 * spline : 2 * spline + 2]

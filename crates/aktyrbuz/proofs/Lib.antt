@@ -1,5 +1,6 @@
 -- The laws of the crate `aktyrbuz`.
 pub mod Numbers
+pub mod Trace2Numbers
 pub mod Calls
 pub mod Readings
 pub mod Demands

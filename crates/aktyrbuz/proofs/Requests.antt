@@ -40,7 +40,7 @@ use Rattle.picture.specs.Sights.{hides, KeptSight}
 use Rattle.picture.proofs.Sights.{none-hidden}
 use Rattle.picture.proofs.Keeping.{kept-count, kept-is, kept-owner, owned-for, shown-lists, kept-lists}
 use Rattle.aktyrbuz.specs.Calls.{KeptTable, RowRun, BuildDone, DrawCall, ReachCall, HideCall, HideCalls, withBits}
-use Rattle.aktyrbuz.specs.Requests.{Reaches, InReach, NoReach, HasSegment, OutsideReachUntouched, BothEnds, ReachEndsUpdated, ReachEmptyExactly, LeftEdgeReached, SegmentsNear, TablesNear, Beyond, RowIs, ColumnIs, Clear, DrawingsNear, OwnersOf, OwnersLeft, OwnersAscend, SplineOwns, OwnerIsSpline, NoOwner, SkippedHasNone, NumbersByKind, FaintCounted, FaintEnds, FaintByKind, FileReadBack, FileWrittenBack, OneFile, TraceReadCodes, TraceWriteCodes, TraceOneOutcome, NegativeFirstStart, DesksApart, OtherDeskUnseen, OwnBitsAlone, HideChangesOneBit, HideCodes, HideOneOutcome, BuiltIsLent, AsWithoutDesks, MeetsExactly, FirstBrokenRule, ProfileCodes, ProfileBuildIsBuild, ProfileBuildCodes, ProfileOneOutcome, Edition1In2, EditionExactly}
+use Rattle.aktyrbuz.specs.Requests.{Reaches, InReach, NoReach, HasSegment, OutsideReachUntouched, BothEnds, ReachEndsUpdated, ReachEmptyExactly, LeftEdgeReached, SegmentsNear, TablesNear, Beyond, RowIs, ColumnIs, Clear, DrawingsNear, OwnersOf, OwnersLeft, OwnersAscend, SplineOwns, OwnerIsSpline, NoOwner, SkippedHasNone, NumbersByKind, FaintCounted, FaintEnds, FaintByKind, FileReadBack, FileWrittenBack, OneFile, TraceReadCodes, TraceWriteCodes, TraceOneOutcome, NegativeFirstStart, DesksApart, OtherDeskUnseen, OwnBitsAlone, HideChangesOneBit, HideCodes, HideOneOutcome, BuiltIsLent, AsWithoutDesks, MeetsExactly, FirstBrokenRule, ProfileCodes, ProfileBuildIsBuild, ProfileBuildCodes, ProfileOneOutcome, Edition1In2, EditionExactly, OlderReaderSaysHeader, OneFilePerVersion, VersionOneAsBefore, FileReadCodes, FileWriteCodes, FileOneOutcome}
 use Rattle.aktyrbuz.proofs.Readings.{starred-readings}
 use Rattle.aktyrbuz.proofs.Calls.{draw-equation, reach-equation, hide-equation, hide-told-by, built-by, kept-are, own-alike, row-by, hides-by, build-equation}
 use mathlib.Core.Bool.{Bool, true, false, true≢false, not, _&&_}
@@ -92,6 +92,14 @@ use Rattle.profile_laws.proofs.Says.{meets-iff, broken-iff, refused-iff, editio
 use Rattle.profile_laws.proofs.Editions.{answer-1-in-2}
 use Rattle.profile_laws.proofs.Builds.{as-build, breaks-leaves, refusal-leaves, done-exactly, broken-exactly, build-refused-exactly, otherwise-is-build, edition-exactly, build-1-in-2}
 use Rattle.aktyrbuz.proofs.ProfileNumbers.{profile-equation, profile-build-equation}
+use Rattle.reader.specs.Refusals.{ReadRefused}
+use Rattle.trace_laws.specs.Behind.{number}
+use Rattle.trace2.specs.Editions.{headerLong}
+use Rattle.trace2.specs.Read.{FileOutcome, withEdition, readFileOf}
+use Rattle.trace2.specs.Write.{writeFileOf}
+use Rattle.trace2.proofs.Versions.{other-as-before, write-as-before}
+use Rattle.trace2_laws.proofs.Trips.{older-header, written-older, written-then-read, read-then-written, read-so}
+use Rattle.aktyrbuz.specs.Trace2Calls.{FileReadCall, FileWriteCall}
 use Rattle.desks.specs.Hide as hide-table
 use Rattle.desks.proofs.Hides as hiding
 use Rattle.draw.proofs.Parts as parts
@@ -101,6 +109,10 @@ use Rattle.numbers.specs.declared.KindU64.the-variants as U64
 use Rattle.table.specs.Table as building
 use Rattle.table.proofs.Segments as making
 use Rattle.reader.specs.Read as reading
+use Rattle.trace2_laws.proofs.Trips as versions
+use Rattle.trace2_laws.proofs.ReadWhen as reads-when
+use Rattle.trace2_laws.proofs.WriteWhen as writes-when
+use Rattle.aktyrbuz.specs.Trace2Calls as files
 
 -- ---- (i) a trace file
 
@@ -644,6 +656,81 @@ unfolding profileOf
 edition-refused-exactly = record {
   check = λ d a e o c p. along (λ (u : ProfileOutcome). u .answer ≡ ProfileAnswer.Refused Code.Edition p) (profile-equation d a e o c) (edition-iff d a e p);
   build = λ d i e r o c p. along (λ (u : ProfileBuildOutcome). u .answer ≡ ProfileBuildAnswer.Refused Code.Edition p) (profile-build-equation d i e r o c) (edition-exactly d i e r p);
+}
+
+-- ---- (x) edition 2: trace files
+
+file-read-equation : (bytes : List ℕ) (rooms : ListRooms) (o : FileOutcome) → FileReadCall bytes rooms o → o ≡ readFileOf rooms bytes
+file-read-equation bytes rooms o (files.reads κs _ _ _ _ _ _ _ _ _ _ _ b p) = p
+
+file-read-bytes : (bytes : List ℕ) (rooms : ListRooms) (o : FileOutcome) → FileReadCall bytes rooms o → Bytes bytes
+file-read-bytes bytes rooms o (files.reads κs _ _ _ _ _ _ _ _ _ _ _ b p) = b
+
+file-write-equation : (ns : List ℕ) (ss : List Float) (ds cs : List ℤ) (a : ℤ) (v e room : ℕ) (o : WriteOutcome) → FileWriteCall ns ss ds cs a v e room o → o ≡ writeFileOf ns ss ds cs a v e room
+file-write-equation ns ss ds cs a v e room o (files.writes κs _ _ _ _ _ _ _ _ _ _ _ _ _ _ _ _ _ n f c m p) = p
+
+file-write-lent : (ns : List ℕ) (ss : List Float) (ds cs : List ℤ) (a : ℤ) (v e room : ℕ) (o : WriteOutcome) → FileWriteCall ns ss ds cs a v e room o → Lent ns ss cs a
+file-write-lent ns ss ds cs a v e room o (files.writes κs _ _ _ _ _ _ _ _ _ _ _ _ _ _ _ _ _ n f c m p) = record { counts = n; starts = f; coefficients = c; adjustment = m }
+
+refused-by : (rooms : ListRooms) (c : Code) (k : ℕ) (o : Outcome) → o ≡ reading.outcome rooms (Got.stop c k) → ReadRefused rooms c k o
+refused-by rooms c k o e = record {
+  answer = ap (λ (u : Outcome). u .answer) e;
+  told = ap (λ (u : Outcome). u .told) e;
+  counts = ap (λ (u : Outcome). u .counts) e;
+  starts = ap (λ (u : Outcome). u .starts) e;
+  deltas = ap (λ (u : Outcome). u .deltas) e;
+  coefficients = ap (λ (u : Outcome). u .coefficients) e;
+}
+
+pub older-reader-says-header : OlderReaderSaysHeader
+older-reader-says-header = record {
+  any = λ bytes rooms o l v r. refused-by rooms Code.Header 0 o (trace-read-equation bytes rooms o r ∙ older-header rooms bytes l v);
+  written = λ ns ss ds cs a e room o n w d rooms q r.
+      refused-by rooms Code.Header 0 q (trace-read-equation _ rooms q r ∙ written-older ns ss ds cs a e room o n (file-write-equation ns ss ds cs a 2 e room o w) d rooms);
+}
+
+pub one-file-per-version : OneFilePerVersion
+one-file-per-version = record {
+  read-back = λ ns ss ds cs a v e room o n w d rooms h q r.
+      let l = file-write-lent ns ss ds cs a v e room o w in
+      written-then-read ns ss ds cs a v e room o n (l .counts) (l .starts) (l .coefficients) (l .adjustment) (file-write-equation ns ss ds cs a v e room o w) d rooms h q
+      (file-read-equation _ rooms q r);
+  written-back = λ bytes rooms q s p a r d room h v i o w.
+      read-then-written rooms bytes q s p a (file-read-bytes bytes rooms q r) (file-read-equation bytes rooms q r) d room h v i o (file-write-equation _ _ _ _ a v _ room o w);
+  one = λ bytes bytes′ rooms q s p a r r′ d v.
+      versions.same-file rooms bytes bytes′ q s p a (file-read-bytes bytes rooms q r) (file-read-bytes bytes′ rooms q r′) (file-read-equation bytes rooms q r) (file-read-equation bytes′ rooms q r′) d v;
+}
+
+pub version-1-as-before : VersionOneAsBefore
+version-1-as-before = record {
+  read = λ bytes rooms o q v r t.
+      file-read-equation bytes rooms o r ∙ other-as-before rooms bytes (λ two. omega (arith, two, v)) ∙ ap (withEdition 1) (sym (trace-read-equation bytes rooms q t));
+  write = λ ns ss ds cs a room o q w t.
+      file-write-equation ns ss ds cs a 1 1 room o w ∙ write-as-before ns ss ds cs a room ∙ sym (trace-write-equation ns ss ds cs a room q t);
+}
+
+pub file-read-codes : FileReadCodes
+file-read-codes = record {
+  exactly = λ bytes rooms o r c p. along (λ (u : FileOutcome). u .read .answer ≡ ReadAnswer.Refused c p) (file-read-equation bytes rooms o r) (reads-when.read-exactly rooms bytes c p);
+  told = λ bytes rooms o r c p t. reads-when.read-refused rooms bytes c p o (file-read-equation bytes rooms o r) t;
+  else-done = λ bytes rooms o r none.
+      let e = file-read-equation bytes rooms o r ∙ read-so rooms bytes (reads-when.read-else rooms bytes none) in
+      (done-of rooms (describedIn (headerLong (number bytes 0)) (numbersIn bytes)) (o .read) (ap (λ (u : FileOutcome). u .read) e), ap (λ (u : FileOutcome). u .edition) e);
+}
+
+pub file-write-codes : FileWriteCodes
+file-write-codes = record {
+  exactly = λ ns ss ds cs a v e room o w c p.
+      along (λ (u : WriteOutcome). u .answer ≡ WriteAnswer.Refused c p) (file-write-equation ns ss ds cs a v e room o w) (writes-when.write-exactly ns ss ds cs v e room a c p);
+  told = λ ns ss ds cs a v e room o w c p t. writes-when.write-refused ns ss ds cs v e room a c p o (file-write-equation ns ss ds cs a v e room o w) t;
+  done = λ ns ss ds cs a v e room o w n.
+      along (λ (u : WriteOutcome). u .answer ≡ WriteAnswer.Done n) (file-write-equation ns ss ds cs a v e room o w) (writes-when.write-done ns ss ds cs v e room a n);
+}
+
+pub file-one-outcome : FileOneOutcome
+file-one-outcome = record {
+  read = λ bytes rooms o q r t. file-read-equation bytes rooms o r ∙ sym (file-read-equation bytes rooms q t);
+  write = λ ns ss ds cs a v e room o q w t. file-write-equation ns ss ds cs a v e room o w ∙ sym (file-write-equation ns ss ds cs a v e room q t);
 }
 
 -- ---- (xiii) how near a listed row is

@@ -7,3 +7,5 @@ pub mod ListCodes
 pub mod TraceCalls
 pub mod ProfileExported
 pub mod ProfileCalls
+pub mod Trace2Calls
+pub mod Trace2Exported

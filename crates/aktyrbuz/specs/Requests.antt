@@ -58,6 +58,12 @@ use Rattle.profile_build.specs.declared.ProfileBuildAnswer.{ProfileBuildAnswer}
 use Rattle.profile_laws.specs.Rules.{Meeting, Breaking, NoEdition, ProfileRefusal}
 use Rattle.profile_laws.specs.Refusals.{Plain, DoneByBuild, BreaksRule, UnknownEdition, ProfileBuildRefusal}
 use Rattle.aktyrbuz.specs.ProfileCalls.{ProfileCall, ProfileBuildCall}
+use Rattle.little.specs.Little.{numbersIn}
+use Rattle.trace_laws.specs.Behind.{number}
+use Rattle.trace2.specs.Editions.{editionIn}
+use Rattle.trace2.specs.Read.{FileOutcome, withEdition}
+use Rattle.trace2_laws.specs.Refusals.{FileReadRefusal, FileWriteRefusal, FileAccepted}
+use Rattle.aktyrbuz.specs.Trace2Calls.{FileReadCall, FileWriteCall}
 use Rattle.draw.specs.Image as drawing
 use Rattle.rows.specs.Rows as listing
 use Rattle.numbers.specs.declared.KindI64.the-variants as I64
@@ -372,6 +378,61 @@ pub record EditionExactly : Type 0 where
       → (p : ℕ) → o .answer ≡ ProfileAnswer.Refused Code.Edition p ↔ ((p ≡ 0) × Shaped d × NoEdition e)
   pub build : (d : Description) (i : Setting) (e : ℕ) (r : BuildRooms) (o : ProfileBuildOutcome) → ProfileBuildCall d i e r o
       → (p : ℕ) → o .answer ≡ ProfileBuildAnswer.Refused Code.Edition p ↔ UnknownEdition d i e r p
+
+-- ---- (x) edition 2: trace files
+
+-- a reader that knows only version 1 answers HEADER at 0 to every file of version 2, which is one whose first number is 2 and that has eight numbers at least; and so to all that is written at version 2
+pub record OlderReaderSaysHeader : Type 0 where
+  pub any : (bytes : List ℕ) (rooms : ListRooms) (o : Outcome) → 32 ≤ length bytes → number bytes 0 ≡ 2 → TraceReadCall bytes rooms o → ReadRefused rooms Code.Header 0 o
+  pub written : (ns : List ℕ) (ss : List Float) (ds cs : List ℤ) (a : ℤ) (e room : ℕ) (o : WriteOutcome) (n : ℕ) → FileWriteCall ns ss ds cs a 2 e room o → o .answer ≡ WriteAnswer.Done n
+      → (rooms : ListRooms) (q : Outcome) → TraceReadCall (take n (o .list)) rooms q → ReadRefused rooms Code.Header 0 q
+
+-- a description with its edition has one file per version: reading what was written gives it back with its edition, every number, with zeros behind, in rooms exact or larger;
+-- what is read is written, at its version and edition, as the same bytes, with zeros behind; and two files of one version with one description and edition are equal
+pub record OneFilePerVersion : Type 0 where
+  pub read-back : (ns : List ℕ) (ss : List Float) (ds cs : List ℤ) (a : ℤ) (v e room : ℕ) (o : WriteOutcome) (n : ℕ) → FileWriteCall ns ss ds cs a v e room o → o .answer ≡ WriteAnswer.Done n
+      → (rooms : ListRooms) → Enough rooms ns ss ds cs → (q : FileOutcome) → FileReadCall (take n (o .list)) rooms q
+      → q ≡ record {
+        read = reading.leaves (ReadAnswer.Done (length ns) (pointsOf ns) a) (padded (rooms .counts) 0 ns) (padded (rooms .starts) zeroF32 ss)
+            (padded (rooms .deltas) (pos 0) ds) (padded (rooms .coefficients) (pos 0) cs);
+        edition = e;
+      }
+  pub written-back : (bytes : List ℕ) (rooms : ListRooms) (q : FileOutcome) (s p : ℕ) (a : ℤ) → FileReadCall bytes rooms q → q .read .answer ≡ ReadAnswer.Done s p a
+      → (room : ℕ) → length bytes ≤ room → (v : ℕ) → number bytes 0 ≡ v → (o : WriteOutcome)
+      → FileWriteCall (take s (q .read .counts)) (take (2 * s) (q .read .starts)) (take (2 * p) (q .read .deltas)) (take (128 * s) (q .read .coefficients)) a v (q .edition) room o
+      → o ≡ writing.leaves (WriteAnswer.Done (length bytes)) (bytes ++ replicate (room - length bytes) 0)
+  pub one : (bytes bytes′ : List ℕ) (rooms : ListRooms) (q : FileOutcome) (s p : ℕ) (a : ℤ) → FileReadCall bytes rooms q → FileReadCall bytes′ rooms q
+      → q .read .answer ≡ ReadAnswer.Done s p a → number bytes 0 ≡ number bytes′ 0 → bytes ≡ bytes′
+
+-- version 1 is as before, every cell: a file of version 1 is read as `trace_read` reads it, with edition 1, and version 1 with edition 1 is written as `trace_write` writes it
+pub record VersionOneAsBefore : Type 0 where
+  pub read : (bytes : List ℕ) (rooms : ListRooms) (o : FileOutcome) (q : Outcome) → number bytes 0 ≡ 1 → FileReadCall bytes rooms o → TraceReadCall bytes rooms q → o ≡ withEdition 1 q
+  pub write : (ns : List ℕ) (ss : List Float) (ds cs : List ℤ) (a : ℤ) (room : ℕ) (o q : WriteOutcome) → FileWriteCall ns ss ds cs a 1 1 room o → TraceWriteCall ns ss ds cs a room q → o ≡ q
+
+-- reading refuses with a code at a place exactly when the table of reading gives it; the number, the place and the counts of 0 are then told, and every lent cell is zero
+-- where the table gives nothing, reading is done, and it tells the edition: 1 for version 1, else the ninth number
+pub record FileReadCodes : Type 0 where
+  pub exactly : (bytes : List ℕ) (rooms : ListRooms) (o : FileOutcome) → FileReadCall bytes rooms o
+      → (c : Code) (p : ℕ) → o .read .answer ≡ ReadAnswer.Refused c p ↔ FileReadRefusal rooms bytes c p
+  pub told : (bytes : List ℕ) (rooms : ListRooms) (o : FileOutcome) → FileReadCall bytes rooms o
+      → (c : Code) (p : ℕ) → FileReadRefusal rooms bytes c p → ReadRefused rooms c p (o .read) × (o .edition ≡ 0)
+  pub else-done : (bytes : List ℕ) (rooms : ListRooms) (o : FileOutcome) → FileReadCall bytes rooms o
+      → ((c : Code) (p : ℕ) → FileReadRefusal rooms bytes c p → ⊥) → ReadDone (o .read) × (o .edition ≡ editionIn (numbersIn bytes))
+
+-- writing likewise, by the table of writing; and it is done exactly when nothing is given, with so many bytes
+pub record FileWriteCodes : Type 0 where
+  pub exactly : (ns : List ℕ) (ss : List Float) (ds cs : List ℤ) (a : ℤ) (v e room : ℕ) (o : WriteOutcome) → FileWriteCall ns ss ds cs a v e room o
+      → (c : Code) (p : ℕ) → o .answer ≡ WriteAnswer.Refused c p ↔ FileWriteRefusal ns ss ds cs v e room c p
+  pub told : (ns : List ℕ) (ss : List Float) (ds cs : List ℤ) (a : ℤ) (v e room : ℕ) (o : WriteOutcome) → FileWriteCall ns ss ds cs a v e room o
+      → (c : Code) (p : ℕ) → FileWriteRefusal ns ss ds cs v e room c p → WriteRefused room c p o
+  pub done : (ns : List ℕ) (ss : List Float) (ds cs : List ℤ) (a : ℤ) (v e room : ℕ) (o : WriteOutcome) → FileWriteCall ns ss ds cs a v e room o
+      → (n : ℕ) → o .answer ≡ WriteAnswer.Done n ↔ FileAccepted ns ss ds cs v e room n
+
+-- any two outcomes that a contract allows are equal
+pub record FileOneOutcome : Type 0 where
+  pub read : (bytes : List ℕ) (rooms : ListRooms) (o q : FileOutcome) → FileReadCall bytes rooms o → FileReadCall bytes rooms q → o ≡ q
+  pub write : (ns : List ℕ) (ss : List Float) (ds cs : List ℤ) (a : ℤ) (v e room : ℕ) (o q : WriteOutcome)
+      → FileWriteCall ns ss ds cs a v e room o → FileWriteCall ns ss ds cs a v e room q → o ≡ q
 
 -- ---- (xiii) how near a listed row is
 

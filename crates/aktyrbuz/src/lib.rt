@@ -16,6 +16,7 @@ ghost use Rattle.aktyrbuz.specs.Exported.{signedOf, toldIn, toldRefusal,
 pub mod hiding;
 pub mod profiles;
 pub mod trace_files;
+pub mod trace_files2;
 
 use codes::Code;
 use draw::DrawAnswer;

@@ -28,8 +28,8 @@ use Rattle.write_laws.specs.Floats.{Floats}
 use Rattle.roundtrip.specs.Enough.{Enough}
 use Rattle.little.specs.Little.{bytesOf, numbersIn, unsignedOf, signedIn, Bytes, Numbers, Signeds}
 use Rattle.little.proofs.Little.{numbers-back, bytes-back, bytes-length, numbers-length, number-small, signed-unsigned, unsigned-signed, unsigned-small, signed-small}
-use Rattle.trace.specs.Trace.{version1, startsFrom, deltasFrom, coefficientsFrom, numbersOf, headerOf, fileNumbers, fileOf, part, outside, wild, numberChecks}
-use Rattle.trace.specs.Read.{splinesIn, pointsIn, misplaced, tooWild, readChecks, tight, wholeChecks, describedIn, readTrace, readTraceOf}
+use Rattle.trace.specs.Trace.{Layout, version1, startsFrom, deltasFrom, coefficientsFrom, numbersOf, headerOf, fileNumbers, fileOf, part, outside, wild, numberChecks}
+use Rattle.trace.specs.Read.{splinesIn, pointsIn, misplaced, tooWild, offsetChecks, bodyChecks, readChecks, tight, wholeChecks, describedIn, readTrace, readTraceOf}
 use Rattle.trace.specs.Write.{misfit, headerChecks, valueChecks, writeChecks, writeTraceOf}
 use Rattle.trace.proofs.Checks.{part-at}
 use Rattle.trace.proofs.Starts.{fit-small, fit-back, whole-fit, whole-back}
@@ -37,7 +37,8 @@ use Rattle.trace_judge.proofs.Faults.{held-length, offsets-fine, length-fine, p
 use Rattle.trace_fit.proofs.Fits.{header-fine, judge-rest, values-rest}
 use Rattle.trace_read.proofs.Loads.{whole-fine, judged-fine}
 use Rattle.trace_write.proofs.Puts.{judged, file-size}
-use Rattle.trace_laws.specs.Refusals.{S, P, fileSize, Tamed}
+use Rattle.trace_laws.specs.Behind.{number, S, P, LaidBy, TamedBy}
+use Rattle.trace_laws.specs.Refusals.{Opened, Laid}
 use Rattle.trace_laws.proofs.Clean.{right, due-is, fine-tamed, starts-fine, deltas-fine}
 
 -- ---- parts of the numbers of a file
@@ -175,81 +176,89 @@ tame-written k j (u ∷ us) e =
     let t = passed (wild (signedIn u)) Delta (4 * k) (numberChecks tooWild Delta (suc k) us) e in
     rw (t .0) (tame-written (suc k) (suc j) us (t .1))
 
--- ---- the file of a description is read as it
+-- ---- the file of a description is read as it, in a version of any layout
 
-module _ (ns : List ℕ) (ss : List Float) (ds cs : List ℤ) (a : ℤ) (fine : firstFault (writeChecks 8 ns ss ds cs) ≡ Fine) (nn : Numbers ns) (nc : Signeds cs) (na : mag a < 2 ^ 31) where
+module _ (v : Layout) (more ns : List ℕ) (ss : List Float) (ds cs : List ℤ) (a : ℤ) (long : v .header ≡ length (headerOf v more (length ns) (pointsOf ns) a)) (fine : firstFault (writeChecks (v .header) ns ss ds cs) ≡ Fine)
+    (nv : v .version < 2 ^ 32) (nm : Numbers more) (nn : Numbers ns) (nc : Signeds cs) (na : mag a < 2 ^ 31) where
+  abbrev h : ℕ
+  h = v .header
+
   abbrev Whole : Described
   Whole = described a (map wholeOf ss) ns ds cs
 
   abbrev Nums : List ℕ
-  Nums = fileNumbers version1 [] Whole
+  Nums = fileNumbers v more Whole
 
   abbrev File : List ℕ
-  File = fileOf version1 [] Whole
+  File = fileOf v more Whole
 
-  written-tame : firstFault (numberChecks wild Delta (deltasFrom 8 (length ns)) ds) ≡ Fine
+  written-tame : firstFault (numberChecks wild Delta (deltasFrom h (length ns)) ds) ≡ Fine
   unfolding writeChecks valueChecks
   written-tame =
       let x = passed _ Shape 0 _ fine in
-      let b = both-fine (headerChecks 8 (length ns) (pointsOf ns)) (valueChecks 8 (length ns) ss ds) (x .1) in
-      both-fine (numberChecks misfit Coord (startsFrom 8 (length ns)) ss) _ (b .1) .1
+      let b = both-fine (headerChecks h (length ns) (pointsOf ns)) (valueChecks h (length ns) ss ds) (x .1) in
+      both-fine (numberChecks misfit Coord (startsFrom h (length ns)) ss) _ (b .1) .1
 
-  numbers-are : numbersIn File ≡ Nums
+  pub numbers-are : numbersIn File ≡ Nums
   unfolding fileOf
   numbers-are =
-      let j = judged ns ss ds cs fine in
+      let j = judged h ns ss ds cs fine in
       let o = j .offsets in
-      let rest = numbers-append ns _ nn (numbers-append (map unsignedOf (map wholeOf ss)) _ (signeds-numbers (map wholeOf ss) (starts-signeds (startsFrom 8 (length ns)) ss (j .fit)))
-      (numbers-append (map unsignedOf ds) _ (signeds-numbers ds (deltas-signeds (deltasFrom 8 (length ns)) ds written-tame)) (signeds-numbers cs nc))) in
-      numbers-back Nums (omega arith, (j .few, (j .fewer, (unsigned-small a na, (omega arith, (omega arith, (omega arith, (o, rest))))))))
+      let rest = numbers-append more _ nm
+      (numbers-append ns _ nn (numbers-append (map unsignedOf (map wholeOf ss)) _ (signeds-numbers (map wholeOf ss) (starts-signeds (startsFrom h (length ns)) ss (j .fit)))
+      (numbers-append (map unsignedOf ds) _ (signeds-numbers ds (deltas-signeds (deltasFrom h (length ns)) ds written-tame)) (signeds-numbers cs nc)))) in
+      numbers-back Nums (nv, (j .few, (j .fewer, (unsigned-small a na, (omega arith, (omega arith, (omega arith, (o, rest))))))))
 
-  size-is : length File ≡ 4 * numbersOf 8 (length ns) (pointsOf ns)
-  size-is = let j = judged ns ss ds cs fine in file-size ns ss ds cs a (j .pairs) (j .points) (j .rows)
+  pub size-is : length File ≡ 4 * numbersOf h (length ns) (pointsOf ns)
+  size-is = let j = judged h ns ss ds cs fine in file-size v more ns ss ds cs a long (j .pairs) (j .points) (j .rows)
 
   zs-length : length (map unsignedOf (map wholeOf ss)) ≡ 2 * length ns
-  zs-length = length-map (map wholeOf ss) unsignedOf ∙ length-map ss wholeOf ∙ judged ns ss ds cs fine .pairs
+  zs-length = length-map (map wholeOf ss) unsignedOf ∙ length-map ss wholeOf ∙ judged h ns ss ds cs fine .pairs
 
   ds-length : length (map unsignedOf ds) ≡ 2 * pointsOf ns
-  ds-length = length-map ds unsignedOf ∙ judged ns ss ds cs fine .points
+  ds-length = length-map ds unsignedOf ∙ judged h ns ss ds cs fine .points
 
   cs-length : length (map unsignedOf cs) ≡ 128 * length ns
-  cs-length = length-map cs unsignedOf ∙ judged ns ss ds cs fine .rows
+  cs-length = length-map cs unsignedOf ∙ judged h ns ss ds cs fine .rows
 
   abbrev Header : List ℕ
-  Header = headerOf version1 [] (length ns) (pointsOf ns) a
+  Header = headerOf v more (length ns) (pointsOf ns) a
 
-  counts-are : part 8 (length ns) Nums ≡ ns
-  counts-are = counts-part Header ns (map unsignedOf (map wholeOf ss)) (map unsignedOf ds) (map unsignedOf cs) 8 (length ns) (pointsOf ns) refl refl zs-length ds-length cs-length
+  counts-are : part h (length ns) Nums ≡ ns
+  counts-are = counts-part Header ns (map unsignedOf (map wholeOf ss)) (map unsignedOf ds) (map unsignedOf cs) h (length ns) (pointsOf ns) (sym long) refl zs-length ds-length cs-length
 
-  starts-are : part (startsFrom 8 (length ns)) (2 * length ns) Nums ≡ map unsignedOf (map wholeOf ss)
-  starts-are = starts-part Header ns (map unsignedOf (map wholeOf ss)) (map unsignedOf ds) (map unsignedOf cs) 8 (length ns) (pointsOf ns) refl refl zs-length ds-length cs-length
+  starts-are : part (startsFrom h (length ns)) (2 * length ns) Nums ≡ map unsignedOf (map wholeOf ss)
+  starts-are = starts-part Header ns (map unsignedOf (map wholeOf ss)) (map unsignedOf ds) (map unsignedOf cs) h (length ns) (pointsOf ns) (sym long) refl zs-length ds-length cs-length
 
-  deltas-are : part (deltasFrom 8 (length ns)) (2 * pointsOf ns) Nums ≡ map unsignedOf ds
-  deltas-are = deltas-part Header ns (map unsignedOf (map wholeOf ss)) (map unsignedOf ds) (map unsignedOf cs) 8 (length ns) (pointsOf ns) refl refl zs-length ds-length cs-length
+  deltas-are : part (deltasFrom h (length ns)) (2 * pointsOf ns) Nums ≡ map unsignedOf ds
+  deltas-are = deltas-part Header ns (map unsignedOf (map wholeOf ss)) (map unsignedOf ds) (map unsignedOf cs) h (length ns) (pointsOf ns) (sym long) refl zs-length ds-length cs-length
 
-  coefficients-are : part (coefficientsFrom 8 (length ns) (pointsOf ns)) (128 * length ns) Nums ≡ map unsignedOf cs
-  coefficients-are = coefficients-part Header ns (map unsignedOf (map wholeOf ss)) (map unsignedOf ds) (map unsignedOf cs) 8 (length ns) (pointsOf ns) refl refl zs-length ds-length cs-length
+  coefficients-are : part (coefficientsFrom h (length ns) (pointsOf ns)) (128 * length ns) Nums ≡ map unsignedOf cs
+  coefficients-are = coefficients-part Header ns (map unsignedOf (map wholeOf ss)) (map unsignedOf ds) (map unsignedOf cs) h (length ns) (pointsOf ns) (sym long) refl zs-length ds-length cs-length
 
-  judged-so : firstFault (readChecks version1 (length File) Nums) ≡ Fine
-  judged-so =
-      let j = judged ns ss ds cs fine in
+  pub offsets-so : firstFault (offsetChecks h Nums) ≡ Fine
+  offsets-so =
       let s = length ns in
       let p = pointsOf ns in
-      let due = 4 * numbersOf 8 s p in
-      let z = size-is in
-      let offsets = offsets-fine 8 Nums s p refl refl (right (4 * 8) (4 * 8) refl) (right (4 * startsFrom 8 s) (4 * startsFrom 8 s) refl)
-      (right (4 * deltasFrom 8 s) (4 * deltasFrom 8 s) refl) (right (4 * coefficientsFrom 8 s p) (4 * coefficientsFrom 8 s p) refl) in
-      let lengths = length-fine (length File) due (omega arith) (omega arith) in
-      let starts : firstFault (numberChecks misplaced Coord (startsFrom 8 s) (part (startsFrom 8 s) (2 * s) Nums)) ≡ Fine = rw starts-are (starts-placed _ (startsFrom 8 s) ss (j .fit)) in
-      let deltas : firstFault (numberChecks tooWild Delta (deltasFrom 8 s) (part (deltasFrom 8 s) (2 * p) Nums)) ≡ Fine = rw deltas-are (deltas-tame _ (deltasFrom 8 s) ds written-tame) in
-      sym (judge-body (length File) Nums (omega arith) refl (sym offsets))
-      ∙ sym (body-rest 8 (length File) Nums s p refl refl (sym lengths))
-      ∙ sym (parts-rest 8 s p Nums (eq-eqb _ _ (ap pointsOf counts-are)) starts) ∙ deltas
+      sym (offsets-fine h Nums s p refl refl (right (4 * h) (4 * h) refl) (right (4 * startsFrom h s) (4 * startsFrom h s) refl)
+      (right (4 * deltasFrom h s) (4 * deltasFrom h s) refl) (right (4 * coefficientsFrom h s p) (4 * coefficientsFrom h s p) refl))
 
-  described-so : describedIn 8 Nums ≡ Whole
+  pub body-so : firstFault (bodyChecks h (length File) Nums) ≡ Fine
+  body-so =
+      let j = judged h ns ss ds cs fine in
+      let s = length ns in
+      let p = pointsOf ns in
+      let z = size-is in
+      let lengths = length-fine (length File) (4 * numbersOf h s p) (omega arith) (omega arith) in
+      let starts : firstFault (numberChecks misplaced Coord (startsFrom h s) (part (startsFrom h s) (2 * s) Nums)) ≡ Fine = rw starts-are (starts-placed _ (startsFrom h s) ss (j .fit)) in
+      let deltas : firstFault (numberChecks tooWild Delta (deltasFrom h s) (part (deltasFrom h s) (2 * p) Nums)) ≡ Fine = rw deltas-are (deltas-tame _ (deltasFrom h s) ds written-tame) in
+      sym (body-rest h (length File) Nums s p refl refl (sym lengths))
+      ∙ sym (parts-rest h s p Nums (eq-eqb _ _ (ap pointsOf counts-are)) starts) ∙ deltas
+
+  pub described-so : describedIn h Nums ≡ Whole
   unfolding describedIn
   described-so =
-      let j = judged ns ss ds cs fine in
+      let j = judged h ns ss ds cs fine in
       rw (
         starts-are,
         counts-are,
@@ -257,14 +266,14 @@ module _ (ns : List ℕ) (ss : List Float) (ds cs : List ℤ) (a : ℤ) (fine : 
         coefficients-are,
         signed-unsigned a na,
         signeds-back (map wholeOf ss) (starts-signeds _ ss (j .fit)),
-        signeds-back ds (deltas-signeds (deltasFrom 8 (length ns)) ds written-tame),
+        signeds-back ds (deltas-signeds (deltasFrom h (length ns)) ds written-tame),
         signeds-back cs nc,
       )
 
-  roomy : (rooms : ListRooms) → Enough rooms ns ss ds cs → tight rooms (length ns) (pointsOf ns) ≡ false
+  pub roomy : (rooms : ListRooms) → Enough rooms ns ss ds cs → tight rooms (length ns) (pointsOf ns) ≡ false
   unfolding tight
   roomy rooms e =
-      let j = judged ns ss ds cs fine in
+      let j = judged h ns ss ds cs fine in
       rw (
         le-ltb (rooms .counts) (length ns) (e .counts),
         le-ltb (rooms .starts) (2 * length ns) (omega (arith, e .starts, j .pairs)),
@@ -272,26 +281,65 @@ module _ (ns : List ℕ) (ss : List Float) (ds cs : List ℤ) (a : ℤ) (fine : 
         le-ltb (rooms .deltas) (2 * pointsOf ns) (omega (arith, e .deltas, j .points)),
       )
 
-  pub file-is-read : (rooms : ListRooms) → Enough rooms ns ss ds cs → readTrace rooms File ≡ got Whole []
+-- version 1
+module _ (ns : List ℕ) (ss : List Float) (ds cs : List ℤ) (a : ℤ) (fine : firstFault (writeChecks 8 ns ss ds cs) ≡ Fine) (nn : Numbers ns) (nc : Signeds cs) (na : mag a < 2 ^ 31) where
+  abbrev File1 : List ℕ
+  File1 = fileOf version1 [] (described a (map wholeOf ss) ns ds cs)
+
+  one-small : 1 < 2 ^ 32
+  one-small = omega arith
+
+  numbers-so : numbersIn File1 ≡ fileNumbers version1 [] (described a (map wholeOf ss) ns ds cs)
+  numbers-so = numbers-are version1 [] ns ss ds cs a refl fine one-small tt nn nc na
+
+  judged-so : firstFault (readChecks version1 (length File1) (numbersIn File1)) ≡ Fine
+  judged-so =
+      let z = size-is version1 [] ns ss ds cs a refl fine one-small tt nn nc na in
+      rw numbers-so
+      (sym (judge-body (length File1) _ (omega arith) refl (offsets-so version1 [] ns ss ds cs a refl fine one-small tt nn nc na)) ∙ body-so version1 [] ns ss ds cs a refl fine one-small tt nn nc na)
+
+  pub file-is-read : (rooms : ListRooms) → Enough rooms ns ss ds cs → readTrace rooms File1 ≡ got (described a (map wholeOf ss) ns ds cs) []
   file-is-read rooms e =
-      let content : firstFault (readChecks version1 (length File) (numbersIn File)) ≡ Fine = rw numbers-are judged-so in
-      let f = whole-fine rooms File content (length ns) (pointsOf ns) (sym (ap splinesIn numbers-are)) (sym (ap pointsIn numbers-are)) (roomy rooms e) in
-      judged-fine rooms File (sym f) ∙ ap (λ (n : List ℕ). got (describedIn 8 n) []) numbers-are ∙ ap (λ (x : Described). got x []) described-so
+      let f = whole-fine rooms File1 judged-so (length ns) (pointsOf ns) (sym (ap splinesIn numbers-so)) (sym (ap pointsIn numbers-so)) (roomy version1 [] ns ss ds cs a refl fine one-small tt nn nc na rooms e) in
+      judged-fine rooms File1 (sym f) ∙ ap (λ (n : List ℕ). got (describedIn 8 n) []) numbers-so
+      ∙ ap (λ (x : Described). got x []) (described-so version1 [] ns ss ds cs a refl fine one-small tt nn nc na)
 
 -- ---- what is read is written as the same bytes
 
-module _ (rooms : ListRooms) (bytes : List ℕ) (fine : firstFault (wholeChecks rooms bytes) ≡ Fine) (b : Bytes bytes) where
+-- the four parts of a file behind a header of h numbers
+module _ (h : ℕ) (bytes : List ℕ) where
+  abbrev pub nsIn : List ℕ
+  nsIn = part h (S bytes) (numbersIn bytes)
+
+  abbrev pub zsIn : List ℤ
+  zsIn = map signedIn (part (startsFrom h (S bytes)) (2 * S bytes) (numbersIn bytes))
+
+  abbrev pub dsIn : List ℤ
+  dsIn = map signedIn (part (deltasFrom h (S bytes)) (2 * P bytes) (numbersIn bytes))
+
+  abbrev pub csIn : List ℤ
+  csIn = map signedIn (part (coefficientsFrom h (S bytes) (P bytes)) (128 * S bytes) (numbersIn bytes))
+
+-- of a version whose header has behind its first eight numbers what the layout says, a file in which nothing was found
+pub record FileFound (v : Layout) (more bytes : List ℕ) (B C : Type 0) : Type 0 where
+  pub version : number bytes 0 ≡ v .version
+  pub eight : 8 ≤ v .header
+  pub little : v .header < 16
+  pub front : drop 8 (numbersIn bytes) ≡ more ++ drop (v .header) (numbersIn bytes)
+  pub laid : LaidBy (v .header) B bytes
+  pub tamed : TamedBy (v .header) C bytes
+
+module _ (v : Layout) (more bytes : List ℕ) (B C : Type 0) (found : FileFound v more bytes B C) (b : Bytes bytes) where
+  abbrev H : ℕ
+  H = v .header
+
   abbrev N : List ℕ
   N = numbersIn bytes
 
-  pub tamed : Tamed bytes
-  unfolding wholeChecks
-  tamed = fine-tamed bytes (both-fine (readChecks version1 (length bytes) N) _ fine .0)
+  whole : length bytes ≡ 4 * numbersOf H (S bytes) (P bytes)
+  whole = found .tamed .placed .summed .whole ∙ due-is H C bytes
 
-  whole : length bytes ≡ 4 * numbersOf 8 (S bytes) (P bytes)
-  whole = tamed .placed .summed .whole ∙ due-is bytes
-
-  many : length N ≡ numbersOf 8 (S bytes) (P bytes)
+  many : length N ≡ numbersOf H (S bytes) (P bytes)
   many = numbers-length bytes ∙ omega (arith, whole)
 
   small : (from n : ℕ) → 4 * (from + n) ≤ length bytes → Small (part from n N)
@@ -300,21 +348,22 @@ module _ (rooms : ListRooms) (bytes : List ℕ) (fine : firstFault (wholeChecks 
       let at = part-at from n N i (omega arith) in
       omega (arith, number-small bytes (from + i) b)
 
-  counts-length : length (part 8 (S bytes) N) ≡ S bytes
-  counts-length = held-length bytes 8 (S bytes) (omega (arith, whole))
+  counts-length : length (part H (S bytes) N) ≡ S bytes
+  counts-length = held-length bytes H (S bytes) (omega (arith, whole))
 
-  starts-again : map unsignedOf (map signedIn (part (startsFrom 8 (S bytes)) (2 * S bytes) N)) ≡ part (startsFrom 8 (S bytes)) (2 * S bytes) N
-  starts-again = numbers-again _ (small (startsFrom 8 (S bytes)) (2 * S bytes) (omega (arith, whole)))
+  starts-again : map unsignedOf (map signedIn (part (startsFrom H (S bytes)) (2 * S bytes) N)) ≡ part (startsFrom H (S bytes)) (2 * S bytes) N
+  starts-again = numbers-again _ (small (startsFrom H (S bytes)) (2 * S bytes) (omega (arith, whole)))
 
-  deltas-again : map unsignedOf (map signedIn (part (deltasFrom 8 (S bytes)) (2 * P bytes) N)) ≡ part (deltasFrom 8 (S bytes)) (2 * P bytes) N
-  deltas-again = numbers-again _ (small (deltasFrom 8 (S bytes)) (2 * P bytes) (omega (arith, whole)))
+  deltas-again : map unsignedOf (map signedIn (part (deltasFrom H (S bytes)) (2 * P bytes) N)) ≡ part (deltasFrom H (S bytes)) (2 * P bytes) N
+  deltas-again = numbers-again _ (small (deltasFrom H (S bytes)) (2 * P bytes) (omega (arith, whole)))
 
-  coefficients-again : map unsignedOf (map signedIn (part (coefficientsFrom 8 (S bytes) (P bytes)) (128 * S bytes) N)) ≡ part (coefficientsFrom 8 (S bytes) (P bytes)) (128 * S bytes) N
-  coefficients-again = numbers-again _ (small (coefficientsFrom 8 (S bytes) (P bytes)) (128 * S bytes) (omega (arith, whole)))
+  coefficients-again : map unsignedOf (map signedIn (part (coefficientsFrom H (S bytes) (P bytes)) (128 * S bytes) N)) ≡ part (coefficientsFrom H (S bytes) (P bytes)) (128 * S bytes) N
+  coefficients-again = numbers-again _ (small (coefficientsFrom H (S bytes) (P bytes)) (128 * S bytes) (omega (arith, whole)))
 
   eight : N ≡ getD N 0 0 ∷ getD N 1 0 ∷ getD N 2 0 ∷ getD N 3 0 ∷ getD N 4 0 ∷ getD N 5 0 ∷ getD N 6 0 ∷ getD N 7 0 ∷ drop 8 N
   eight =
       let m = many in
+      let l = found .eight in
       drop-cons N 0 0 (omega arith)
       ∙ ap (λ (t : List ℕ). getD N 0 0 ∷ t) (drop-cons N 1 0 (omega arith)
       ∙ ap (λ (t : List ℕ). getD N 1 0 ∷ t) (drop-cons N 2 0 (omega arith)
@@ -324,77 +373,101 @@ module _ (rooms : ListRooms) (bytes : List ℕ) (fine : firstFault (wholeChecks 
       ∙ ap (λ (t : List ℕ). getD N 5 0 ∷ t) (drop-cons N 6 0 (omega arith)
       ∙ ap (λ (t : List ℕ). getD N 6 0 ∷ t) (drop-cons N 7 0 (omega arith))))))))
 
-  numbers-again-all : fileNumbers version1 [] (describedIn 8 N) ≡ N
+  numbers-again-all : fileNumbers v more (describedIn H N) ≡ N
   unfolding describedIn
   numbers-again-all =
-      let l = tamed .placed .summed .laid in
+      let l = found .laid in
       let s = S bytes in
       let p = P bytes in
-      let o5 : 4 * startsFrom 8 s ≡ getD N 5 0 = sym (l .starts ∙ omega arith) in
-      let o6 : 4 * deltasFrom 8 s ≡ getD N 6 0 = sym (l .deltas ∙ omega arith) in
-      let o7 : 4 * coefficientsFrom 8 s p ≡ getD N 7 0 = sym (l .coefficients ∙ omega arith) in
-      rw (counts-length, tamed .placed .summed .sums, starts-again, deltas-again, coefficients-again, unsigned-signed (getD N 3 0) (number-small bytes 3 b), parts-make N 8 s p many)
-      (head-same (l .opened .version) (l .counts) o5 o6 o7 ∙ sym eight)
+      let o5 : 4 * startsFrom H s ≡ getD N 5 0 = sym (l .starts ∙ omega arith) in
+      let o6 : 4 * deltasFrom H s ≡ getD N 6 0 = sym (l .deltas ∙ omega arith) in
+      let o7 : 4 * coefficientsFrom H s p ≡ getD N 7 0 = sym (l .coefficients ∙ omega arith) in
+      rw (counts-length, found .tamed .placed .summed .sums, starts-again, deltas-again, coefficients-again, unsigned-signed (getD N 3 0) (number-small bytes 3 b), parts-make N H s p many)
+      (head-same (found .version) (l .counts) o5 o6 o7 ∙ sym eight)
     where
-      head-same : getD N 0 0 ≡ 1 → getD N 4 0 ≡ 32 → {u v w : ℕ} → u ≡ getD N 5 0 → v ≡ getD N 6 0 → w ≡ getD N 7 0
-          → 1 ∷ getD N 1 0 ∷ getD N 2 0 ∷ getD N 3 0 ∷ 32 ∷ u ∷ v ∷ w ∷ drop 8 N
+      head-same : getD N 0 0 ≡ v .version → getD N 4 0 ≡ 4 * H → {u x w : ℕ} → u ≡ getD N 5 0 → x ≡ getD N 6 0 → w ≡ getD N 7 0
+          → v .version ∷ getD N 1 0 ∷ getD N 2 0 ∷ getD N 3 0 ∷ 4 * H ∷ u ∷ x ∷ w ∷ (more ++ drop H N)
           ≡ getD N 0 0 ∷ getD N 1 0 ∷ getD N 2 0 ∷ getD N 3 0 ∷ getD N 4 0 ∷ getD N 5 0 ∷ getD N 6 0 ∷ getD N 7 0 ∷ drop 8 N
-      head-same e0 e4 e5 e6 e7 = rw (e0, e4, e5, e6, e7)
+      head-same e0 e4 e5 e6 e7 = rw (e0, e4, e5, e6, e7, found .front)
 
-  pub file-again : fileOf version1 [] (describedIn 8 N) ≡ bytes
+  file-again : fileOf v more (describedIn H N) ≡ bytes
   unfolding fileOf
-  file-again = ap bytesOf numbers-again-all ∙ bytes-back bytes (numbersOf 8 (S bytes) (P bytes)) whole b
+  file-again = ap bytesOf numbers-again-all ∙ bytes-back bytes (numbersOf H (S bytes) (P bytes)) whole b
 
-  abbrev pub ns : List ℕ
-  ns = part 8 (S bytes) N
+  zs-long : length (map f32Of (zsIn H bytes)) ≡ 2 * S bytes
+  zs-long = length-map (zsIn H bytes) f32Of ∙ length-map (part (startsFrom H (S bytes)) (2 * S bytes) N) signedIn ∙ held-length bytes (startsFrom H (S bytes)) (2 * S bytes) (omega (arith, whole))
 
-  abbrev pub zs : List ℤ
-  zs = map signedIn (part (startsFrom 8 (S bytes)) (2 * S bytes) N)
+  ds-long : length (dsIn H bytes) ≡ 2 * P bytes
+  ds-long = length-map (part (deltasFrom H (S bytes)) (2 * P bytes) N) signedIn ∙ held-length bytes (deltasFrom H (S bytes)) (2 * P bytes) (omega (arith, whole))
 
-  abbrev pub ds : List ℤ
-  ds = map signedIn (part (deltasFrom 8 (S bytes)) (2 * P bytes) N)
+  cs-long : length (csIn H bytes) ≡ 128 * S bytes
+  cs-long = length-map (part (coefficientsFrom H (S bytes) (P bytes)) (128 * S bytes) N) signedIn ∙ held-length bytes (coefficientsFrom H (S bytes) (P bytes)) (128 * S bytes) (omega (arith, whole))
 
-  abbrev pub cs : List ℤ
-  cs = map signedIn (part (coefficientsFrom 8 (S bytes) (P bytes)) (128 * S bytes) N)
+  ns-sum : pointsOf (nsIn H bytes) ≡ P bytes
+  ns-sum = found .tamed .placed .summed .sums
 
-  pub zs-long : length (map f32Of zs) ≡ 2 * S bytes
-  zs-long = length-map zs f32Of ∙ length-map (part (startsFrom 8 (S bytes)) (2 * S bytes) N) signedIn ∙ held-length bytes (startsFrom 8 (S bytes)) (2 * S bytes) (omega (arith, whole))
+  zs-back : map wholeOf (map f32Of (zsIn H bytes)) ≡ zsIn H bytes
+  zs-back = placed-back (startsFrom H (S bytes)) _ (starts-fine H bytes (found .tamed .placed .summed .whole) (found .tamed .placed .inside))
 
-  pub ds-long : length ds ≡ 2 * P bytes
-  ds-long = length-map (part (deltasFrom 8 (S bytes)) (2 * P bytes) N) signedIn ∙ held-length bytes (deltasFrom 8 (S bytes)) (2 * P bytes) (omega (arith, whole))
-
-  pub cs-long : length cs ≡ 128 * S bytes
-  cs-long = length-map (part (coefficientsFrom 8 (S bytes) (P bytes)) (128 * S bytes) N) signedIn ∙ held-length bytes (coefficientsFrom 8 (S bytes) (P bytes)) (128 * S bytes) (omega (arith, whole))
-
-  pub ns-long : length ns ≡ S bytes
-  ns-long = counts-length
-
-  pub ns-sum : pointsOf ns ≡ P bytes
-  ns-sum = tamed .placed .summed .sums
-
-  pub zs-back : map wholeOf (map f32Of zs) ≡ zs
-  zs-back = placed-back (startsFrom 8 (S bytes)) _ (starts-fine bytes (tamed .placed .summed .whole) (tamed .placed .inside))
-
-  pub again-fine : firstFault (writeChecks 8 ns (map f32Of zs) ds cs) ≡ Fine
+  pub again-fine : firstFault (writeChecks H (nsIn H bytes) (map f32Of (zsIn H bytes)) (dsIn H bytes) (csIn H bytes)) ≡ Fine
   again-fine =
-      let t = tamed in
+      let t = found .tamed in
       let w = t .placed .summed .whole in
-      let l = t .placed .summed .laid in
+      let l = found .laid in
       let s = S bytes in
       let p = P bytes in
-      let good : shaped ns (map f32Of zs) ds cs ≡ true
-      = is-shaped ns (map f32Of zs) ds cs (record { starts = zs-long ∙ omega (arith, ns-long); deltas = ds-long ∙ omega (arith, ns-sum); coefficients = cs-long ∙ omega (arith, ns-long) }) in
+      let ns = nsIn H bytes in
+      let ss = map f32Of (zsIn H bytes) in
+      let ds = dsIn H bytes in
+      let good : shaped ns ss ds (csIn H bytes) ≡ true
+      = is-shaped ns ss ds (csIn H bytes) (record { starts = zs-long ∙ omega (arith, counts-length); deltas = ds-long ∙ omega (arith, ns-sum); coefficients = cs-long ∙ omega (arith, counts-length) }) in
       let half : length ds / 2 ≡ p = omega (arith, ds-long) in
       let a = number-small bytes 1 b in
       let c = number-small bytes 2 b in
       let o = number-small bytes 7 b in
       let k = l .coefficients in
-      let header : firstFault (headerChecks 8 (length ns) (length ds / 2)) ≡ Fine
-      = rw (ns-long, half) (sym (header-fine 8 s p a c (omega arith) (omega arith) (omega arith) (omega arith))) in
-      let starts : firstFault (numberChecks misfit Coord (startsFrom 8 (length ns)) (map f32Of zs)) ≡ Fine
-      = placed-fit (startsFrom 8 s) (startsFrom 8 (length ns)) _ (starts-fine bytes w (t .placed .inside)) in
-      sym (judge-rest 8 ns (map f32Of zs) ds cs good header)
-      ∙ sym (values-rest 8 (length ns) (map f32Of zs) ds starts)
-      ∙ tame-written (deltasFrom 8 s) (deltasFrom 8 (length ns)) _ (deltas-fine bytes w (t .tame))
+      let header : firstFault (headerChecks H (length ns) (length ds / 2)) ≡ Fine
+      = rw (counts-length, half) (sym (header-fine H s p a c (found .little) (omega arith) (omega arith) (omega arith))) in
+      let starts : firstFault (numberChecks misfit Coord (startsFrom H (length ns)) ss) ≡ Fine
+      = placed-fit (startsFrom H s) (startsFrom H (length ns)) _ (starts-fine H bytes w (t .placed .inside)) in
+      sym (judge-rest H ns ss ds (csIn H bytes) good header)
+      ∙ sym (values-rest H (length ns) ss ds starts)
+      ∙ tame-written (deltasFrom H s) (deltasFrom H (length ns)) _ (deltas-fine H bytes w (t .tame))
+
+  -- what reading it leaves, in front of each buffer, and that its file is these bytes
+  pub record Taken (q : Outcome) (s p : ℕ) (a : ℤ) : Type 0 where
+    pub counts : take s (q .counts) ≡ nsIn H bytes
+    pub starts : take (2 * s) (q .starts) ≡ map f32Of (zsIn H bytes)
+    pub deltas : take (2 * p) (q .deltas) ≡ dsIn H bytes
+    pub coefficients : take (128 * s) (q .coefficients) ≡ csIn H bytes
+    pub file : fileOf v more (described a (map wholeOf (map f32Of (zsIn H bytes))) (nsIn H bytes) (dsIn H bytes) (csIn H bytes)) ≡ bytes
+
+  pub taken : (rooms : ListRooms) (q : Outcome) (s p : ℕ) (a : ℤ) → q ≡ reading.outcome rooms (got (describedIn H N) []) → q .answer ≡ ReadAnswer.Done s p a → Taken q s p a
+  unfolding describedIn
+  taken rooms q s p a is e =
+      let xs = nsIn H bytes in
+      let ss = map f32Of (zsIn H bytes) in
+      let ys = dsIn H bytes in
+      let ws = csIn H bytes in
+      let ans : ReadAnswer.Done (length xs) (pointsOf xs) (signedIn (getD N 3 0)) ≡ ReadAnswer.Done s p a = sym (ap (λ (u : Outcome). u .answer) is) ∙ e in
+      let es : length xs ≡ s = cc in
+      let ep : pointsOf xs ≡ p = cc in
+      let ea : signedIn (getD N 3 0) ≡ a = cc in
+      let i : s ≡ S bytes = sym es ∙ counts-length in
+      let j : p ≡ P bytes = sym ep ∙ ns-sum in
+      record {
+        counts = ap (take s) (ap (λ (u : Outcome). u .counts) is) ∙ take-at xs _ s es;
+        starts = ap (take (2 * s)) (ap (λ (u : Outcome). u .starts) is) ∙ take-at ss _ (2 * s) (zs-long ∙ omega arith);
+        deltas = ap (take (2 * p)) (ap (λ (u : Outcome). u .deltas) is) ∙ take-at ys _ (2 * p) (ds-long ∙ omega arith);
+        coefficients = ap (take (128 * s)) (ap (λ (u : Outcome). u .coefficients) is) ∙ take-at ws _ (128 * s) (cs-long ∙ omega arith);
+        file = rw (zs-back, ← ea) file-again;
+      }
+
+-- version 1
+pub found-first : (rooms : ListRooms) (bytes : List ℕ) → firstFault (wholeChecks rooms bytes) ≡ Fine → FileFound version1 [] bytes (Opened bytes) (Laid bytes)
+unfolding wholeChecks
+found-first rooms bytes fine =
+    let t = fine-tamed bytes (both-fine (readChecks version1 (length bytes) (numbersIn bytes)) _ fine .0) in
+    record { version = t .placed .summed .laid .opened .version; eight = omega arith; little = omega arith; front = refl; laid = t .placed .summed .laid; tamed = t }
 
 -- Assumes nothing.

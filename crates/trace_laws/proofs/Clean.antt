@@ -25,8 +25,8 @@ use Rattle.trace.specs.Write.{misfit, headerChecks, valueChecks, writeChecks}
 use Rattle.trace.proofs.Checks.{fine-each, each-fine, part-at}
 use Rattle.trace_judge.proofs.Faults.{held-length, offsets-fine, length-fine, length-due, parts-rest, body-rest, judge-body}
 use Rattle.trace_fit.proofs.Fits.{header-fine, judge-rest}
-use Rattle.trace_laws.specs.Refusals.{number, S, P, fileSize, OutsideAt, WildAt, Opened, Laid, Summed, Placed, Tamed, Lacks, Misfit, MisfitAt, WildIn, Headed, Headable, Fitting, Writable}
-use Rattle.trace_laws.specs.Refusals as told
+use Rattle.trace_laws.specs.Behind.{number, S, P, fileLong, OutsideAt, WildAt, LaidBy, SummedBy, PlacedBy, TamedBy}
+use Rattle.trace_laws.specs.Refusals.{Opened, Laid, Tamed}
 
 -- ---- tests and facts
 
@@ -44,72 +44,72 @@ is-wrong a b e = eqb-false a b (not-true _ e)
 
 -- ---- numbers of a file
 
-module _ (bytes : List ℕ) (whole : length bytes ≡ fileSize (S bytes) (P bytes)) where
+module _ (H : ℕ) (bytes : List ℕ) (whole : length bytes ≡ fileLong H (S bytes) (P bytes)) where
   abbrev N : List ℕ
   N = numbersIn bytes
 
   -- start number k, and double delta number k, as the checks look at them
-  pub start-is : (k : ℕ) → k < 2 * S bytes → misplaced (getD (part (startsFrom 8 (S bytes)) (2 * S bytes) N) k 0) ≡ leb (2 ^ 23) (mag (signedIn (number bytes (8 + S bytes + k))))
+  pub start-is : (k : ℕ) → k < 2 * S bytes → misplaced (getD (part (startsFrom H (S bytes)) (2 * S bytes) N) k 0) ≡ leb (2 ^ 23) (mag (signedIn (number bytes (H + S bytes + k))))
   unfolding misplaced
-  start-is k h = rw (part-at (startsFrom 8 (S bytes)) (2 * S bytes) N k h)
+  start-is k h = rw (part-at (startsFrom H (S bytes)) (2 * S bytes) N k h)
 
-  pub delta-is : (k : ℕ) → k < 2 * P bytes → tooWild (getD (part (deltasFrom 8 (S bytes)) (2 * P bytes) N) k 0) ≡ leb (2 ^ 30) (natAbs (signedIn (number bytes (8 + 3 * S bytes + k))))
+  pub delta-is : (k : ℕ) → k < 2 * P bytes → tooWild (getD (part (deltasFrom H (S bytes)) (2 * P bytes) N) k 0) ≡ leb (2 ^ 30) (natAbs (signedIn (number bytes (H + 3 * S bytes + k))))
   unfolding tooWild
-  delta-is k h = rw (part-at (deltasFrom 8 (S bytes)) (2 * P bytes) N k h)
+  delta-is k h = rw (part-at (deltasFrom H (S bytes)) (2 * P bytes) N k h)
 
-  pub starts-length : length (part (startsFrom 8 (S bytes)) (2 * S bytes) N) ≡ 2 * S bytes
-  starts-length = held-length bytes (startsFrom 8 (S bytes)) (2 * S bytes) (omega arith)
+  pub starts-length : length (part (startsFrom H (S bytes)) (2 * S bytes) N) ≡ 2 * S bytes
+  starts-length = held-length bytes (startsFrom H (S bytes)) (2 * S bytes) (omega arith)
 
-  pub deltas-length : length (part (deltasFrom 8 (S bytes)) (2 * P bytes) N) ≡ 2 * P bytes
-  deltas-length = held-length bytes (deltasFrom 8 (S bytes)) (2 * P bytes) (omega arith)
+  pub deltas-length : length (part (deltasFrom H (S bytes)) (2 * P bytes) N) ≡ 2 * P bytes
+  deltas-length = held-length bytes (deltasFrom H (S bytes)) (2 * P bytes) (omega arith)
 
-  pub inside-of : (k : ℕ) → k < 2 * S bytes → misplaced (getD (part (startsFrom 8 (S bytes)) (2 * S bytes) N) k 0) ≡ false → OutsideAt bytes k → ⊥
+  pub inside-of : (k : ℕ) → k < 2 * S bytes → misplaced (getD (part (startsFrom H (S bytes)) (2 * S bytes) N) k 0) ≡ false → OutsideAt H bytes k → ⊥
   inside-of k h e o =
-      let m = mag (signedIn (number bytes (8 + S bytes + k))) in
+      let m = mag (signedIn (number bytes (H + S bytes + k))) in
       absurd (omega (arith, o, leb-false (2 ^ 23) m (sym (start-is k h) ∙ e)))
 
-  pub tame-of : (k : ℕ) → k < 2 * P bytes → tooWild (getD (part (deltasFrom 8 (S bytes)) (2 * P bytes) N) k 0) ≡ false → WildAt bytes k → ⊥
+  pub tame-of : (k : ℕ) → k < 2 * P bytes → tooWild (getD (part (deltasFrom H (S bytes)) (2 * P bytes) N) k 0) ≡ false → WildAt H bytes k → ⊥
   tame-of k h e o =
-      let m = natAbs (signedIn (number bytes (8 + 3 * S bytes + k))) in
+      let m = natAbs (signedIn (number bytes (H + 3 * S bytes + k))) in
       absurd (omega (arith, o, leb-false (2 ^ 30) m (sym (delta-is k h) ∙ e)))
 
-  pub none-outside : (k : ℕ) → k < 2 * S bytes → (OutsideAt bytes k → ⊥) → misplaced (getD (part (startsFrom 8 (S bytes)) (2 * S bytes) N) k 0) ≡ false
-  none-outside k h n = go (leb (2 ^ 23) (mag (signedIn (number bytes (8 + S bytes + k))))) (start-is k h) refl
+  pub none-outside : (k : ℕ) → k < 2 * S bytes → (OutsideAt H bytes k → ⊥) → misplaced (getD (part (startsFrom H (S bytes)) (2 * S bytes) N) k 0) ≡ false
+  none-outside k h n = go (leb (2 ^ 23) (mag (signedIn (number bytes (H + S bytes + k))))) (start-is k h) refl
     where
-      go : (b : Bool) → misplaced (getD (part (startsFrom 8 (S bytes)) (2 * S bytes) N) k 0) ≡ leb (2 ^ 23) (mag (signedIn (number bytes (8 + S bytes + k))))
-          → leb (2 ^ 23) (mag (signedIn (number bytes (8 + S bytes + k)))) ≡ b → misplaced (getD (part (startsFrom 8 (S bytes)) (2 * S bytes) N) k 0) ≡ false
+      go : (b : Bool) → misplaced (getD (part (startsFrom H (S bytes)) (2 * S bytes) N) k 0) ≡ leb (2 ^ 23) (mag (signedIn (number bytes (H + S bytes + k))))
+          → leb (2 ^ 23) (mag (signedIn (number bytes (H + S bytes + k)))) ≡ b → misplaced (getD (part (startsFrom H (S bytes)) (2 * S bytes) N) k 0) ≡ false
       go true e t = absurd (n (leb-true (2 ^ 23) _ t))
       go false e t = e ∙ t
 
-  pub none-wild : (k : ℕ) → k < 2 * P bytes → (WildAt bytes k → ⊥) → tooWild (getD (part (deltasFrom 8 (S bytes)) (2 * P bytes) N) k 0) ≡ false
-  none-wild k h n = go (leb (2 ^ 30) (natAbs (signedIn (number bytes (8 + 3 * S bytes + k))))) (delta-is k h) refl
+  pub none-wild : (k : ℕ) → k < 2 * P bytes → (WildAt H bytes k → ⊥) → tooWild (getD (part (deltasFrom H (S bytes)) (2 * P bytes) N) k 0) ≡ false
+  none-wild k h n = go (leb (2 ^ 30) (natAbs (signedIn (number bytes (H + 3 * S bytes + k))))) (delta-is k h) refl
     where
-      go : (b : Bool) → tooWild (getD (part (deltasFrom 8 (S bytes)) (2 * P bytes) N) k 0) ≡ leb (2 ^ 30) (natAbs (signedIn (number bytes (8 + 3 * S bytes + k))))
-          → leb (2 ^ 30) (natAbs (signedIn (number bytes (8 + 3 * S bytes + k)))) ≡ b → tooWild (getD (part (deltasFrom 8 (S bytes)) (2 * P bytes) N) k 0) ≡ false
+      go : (b : Bool) → tooWild (getD (part (deltasFrom H (S bytes)) (2 * P bytes) N) k 0) ≡ leb (2 ^ 30) (natAbs (signedIn (number bytes (H + 3 * S bytes + k))))
+          → leb (2 ^ 30) (natAbs (signedIn (number bytes (H + 3 * S bytes + k)))) ≡ b → tooWild (getD (part (deltasFrom H (S bytes)) (2 * P bytes) N) k 0) ≡ false
       go true e t = absurd (n (leb-true (2 ^ 30) _ t))
       go false e t = e ∙ t
 
-  pub starts-fine : NoneOf (2 * S bytes) (OutsideAt bytes) → firstFault (numberChecks misplaced Coord (startsFrom 8 (S bytes)) (part (startsFrom 8 (S bytes)) (2 * S bytes) N)) ≡ Fine
-  starts-fine n = each-fine misplaced Coord _ 0 (startsFrom 8 (S bytes)) (λ i h. let k : i < 2 * S bytes = omega (arith, starts-length) in none-outside i k (n i k))
+  pub starts-fine : NoneOf (2 * S bytes) (OutsideAt H bytes) → firstFault (numberChecks misplaced Coord (startsFrom H (S bytes)) (part (startsFrom H (S bytes)) (2 * S bytes) N)) ≡ Fine
+  starts-fine n = each-fine misplaced Coord _ 0 (startsFrom H (S bytes)) (λ i h. let k : i < 2 * S bytes = omega (arith, starts-length) in none-outside i k (n i k))
 
-  pub fine-starts : firstFault (numberChecks misplaced Coord (startsFrom 8 (S bytes)) (part (startsFrom 8 (S bytes)) (2 * S bytes) N)) ≡ Fine → NoneOf (2 * S bytes) (OutsideAt bytes)
-  fine-starts e k h = inside-of k h (fine-each misplaced Coord _ 0 (startsFrom 8 (S bytes)) e k (omega (arith, starts-length)))
+  pub fine-starts : firstFault (numberChecks misplaced Coord (startsFrom H (S bytes)) (part (startsFrom H (S bytes)) (2 * S bytes) N)) ≡ Fine → NoneOf (2 * S bytes) (OutsideAt H bytes)
+  fine-starts e k h = inside-of k h (fine-each misplaced Coord _ 0 (startsFrom H (S bytes)) e k (omega (arith, starts-length)))
 
-  pub deltas-fine : NoneOf (2 * P bytes) (WildAt bytes) → firstFault (numberChecks tooWild Delta (deltasFrom 8 (S bytes)) (part (deltasFrom 8 (S bytes)) (2 * P bytes) N)) ≡ Fine
-  deltas-fine n = each-fine tooWild Delta _ 0 (deltasFrom 8 (S bytes)) (λ i h. let k : i < 2 * P bytes = omega (arith, deltas-length) in none-wild i k (n i k))
+  pub deltas-fine : NoneOf (2 * P bytes) (WildAt H bytes) → firstFault (numberChecks tooWild Delta (deltasFrom H (S bytes)) (part (deltasFrom H (S bytes)) (2 * P bytes) N)) ≡ Fine
+  deltas-fine n = each-fine tooWild Delta _ 0 (deltasFrom H (S bytes)) (λ i h. let k : i < 2 * P bytes = omega (arith, deltas-length) in none-wild i k (n i k))
 
-  pub fine-deltas : firstFault (numberChecks tooWild Delta (deltasFrom 8 (S bytes)) (part (deltasFrom 8 (S bytes)) (2 * P bytes) N)) ≡ Fine → NoneOf (2 * P bytes) (WildAt bytes)
-  fine-deltas e k h = tame-of k h (fine-each tooWild Delta _ 0 (deltasFrom 8 (S bytes)) e k (omega (arith, deltas-length)))
+  pub fine-deltas : firstFault (numberChecks tooWild Delta (deltasFrom H (S bytes)) (part (deltasFrom H (S bytes)) (2 * P bytes) N)) ≡ Fine → NoneOf (2 * P bytes) (WildAt H bytes)
+  fine-deltas e k h = tame-of k h (fine-each tooWild Delta _ 0 (deltasFrom H (S bytes)) e k (omega (arith, deltas-length)))
 
 -- ---- a file in which nothing is found
 
-module _ (bytes : List ℕ) where
-  pub laid-offsets : Laid bytes → firstFault (offsetChecks 8 (numbersIn bytes)) ≡ Fine
+module _ (H : ℕ) (Before : Type 0) (bytes : List ℕ) where
+  pub laid-offsets : LaidBy H Before bytes → firstFault (offsetChecks H (numbersIn bytes)) ≡ Fine
   laid-offsets l =
-      sym (offsets-fine 8 (numbersIn bytes) (S bytes) (P bytes) refl refl (right _ _ (l .counts)) (right _ _ (l .starts ∙ omega arith)) (right _ _ (l .deltas ∙ omega arith))
+      sym (offsets-fine H (numbersIn bytes) (S bytes) (P bytes) refl refl (right _ _ (l .counts)) (right _ _ (l .starts ∙ omega arith)) (right _ _ (l .deltas ∙ omega arith))
       (right _ _ (l .coefficients ∙ omega arith)))
 
-  pub offsets-laid : Opened bytes → firstFault (offsetChecks 8 (numbersIn bytes)) ≡ Fine → Laid bytes
+  pub offsets-laid : Before → firstFault (offsetChecks H (numbersIn bytes)) ≡ Fine → LaidBy H Before bytes
   unfolding offsetChecks
   offsets-laid o e =
       let a = passed _ Header 16 _ e in
@@ -124,46 +124,55 @@ module _ (bytes : List ℕ) where
         coefficients = is-right _ _ (d .0) ∙ omega arith;
       }
 
-  pub due-is : fileSize (S bytes) (P bytes) ≡ 4 * numbersOf 8 (S bytes) (P bytes)
+  pub due-is : fileLong H (S bytes) (P bytes) ≡ 4 * numbersOf H (S bytes) (P bytes)
   due-is = omega arith
 
-  pub summed-rest : Summed bytes → firstFault (bodyChecks 8 (length bytes) (numbersIn bytes)) ≡ firstFault (partChecks 8 (S bytes) (P bytes) (numbersIn bytes))
-  summed-rest s =
-      sym (body-rest 8 (length bytes) (numbersIn bytes) (S bytes) (P bytes) refl refl
-      (sym (length-fine (length bytes) (4 * numbersOf 8 (S bytes) (P bytes)) (omega (arith, s .whole)) (omega (arith, s .whole)))))
+  pub summed-rest : length bytes ≡ fileLong H (S bytes) (P bytes) → firstFault (partChecks H (S bytes) (P bytes) (numbersIn bytes)) ≡ firstFault (bodyChecks H (length bytes) (numbersIn bytes))
+  summed-rest w =
+      body-rest H (length bytes) (numbersIn bytes) (S bytes) (P bytes) refl refl
+      (sym (length-fine (length bytes) (4 * numbersOf H (S bytes) (P bytes)) (omega (arith, w)) (omega (arith, w))))
 
-  pub body-fine : Tamed bytes → firstFault (bodyChecks 8 (length bytes) (numbersIn bytes)) ≡ Fine
-  body-fine t =
+  pub tamed-body : TamedBy H Before bytes → firstFault (bodyChecks H (length bytes) (numbersIn bytes)) ≡ Fine
+  tamed-body t =
       let s = t .placed .summed in
-      summed-rest s
-      ∙ sym (parts-rest 8 (S bytes) (P bytes) (numbersIn bytes) (eq-eqb _ _ (s .sums)) (starts-fine bytes (s .whole) (t .placed .inside)))
-      ∙ deltas-fine bytes (s .whole) (t .tame)
+      sym (summed-rest (s .whole))
+      ∙ sym (parts-rest H (S bytes) (P bytes) (numbersIn bytes) (eq-eqb _ _ (s .sums)) (starts-fine H bytes (s .whole) (t .placed .inside)))
+      ∙ deltas-fine H bytes (s .whole) (t .tame)
 
-  pub tamed-fine : Tamed bytes → firstFault (readChecks version1 (length bytes) (numbersIn bytes)) ≡ Fine
-  tamed-fine t =
-      let l = t .placed .summed .laid in
-      sym (judge-body (length bytes) (numbersIn bytes) (l .opened .long) (right _ _ (l .opened .version)) (laid-offsets l)) ∙ body-fine t
-
-  pub parts-tamed : Laid bytes → length bytes ≡ fileSize (S bytes) (P bytes) → firstFault (partChecks 8 (S bytes) (P bytes) (numbersIn bytes)) ≡ Fine → Tamed bytes
+  parts-tamed : Before → length bytes ≡ fileLong H (S bytes) (P bytes) → firstFault (partChecks H (S bytes) (P bytes) (numbersIn bytes)) ≡ Fine → TamedBy H Before bytes
   unfolding partChecks
   parts-tamed l w e =
       let a = passed _ Shape 0 _ e in
-      let b = both-fine (numberChecks misplaced Coord (startsFrom 8 (S bytes)) (part (startsFrom 8 (S bytes)) (2 * S bytes) (numbersIn bytes))) _ (a .1) in
+      let b = both-fine (numberChecks misplaced Coord (startsFrom H (S bytes)) (part (startsFrom H (S bytes)) (2 * S bytes) (numbersIn bytes))) _ (a .1) in
       record {
-        placed = record { summed = record { laid = l; whole = w; sums = is-right _ _ (a .0) }; inside = fine-starts bytes w (b .0) };
-        tame = fine-deltas bytes w (b .1);
+        placed = record { summed = record { laid = l; whole = w; sums = is-right _ _ (a .0) }; inside = fine-starts H bytes w (b .0) };
+        tame = fine-deltas H bytes w (b .1);
       }
 
+  pub body-tamed : Before → firstFault (bodyChecks H (length bytes) (numbersIn bytes)) ≡ Fine → TamedBy H Before bytes
+  unfolding bodyChecks
+  body-tamed l e =
+      let n = length bytes in
+      let ns = numbersIn bytes in
+      let g = both-fine (lengthChecks n (4 * numbersOf H (splinesIn ns) (pointsIn ns))) (partChecks H (splinesIn ns) (pointsIn ns) ns) e in
+      parts-tamed l (length-due n (4 * numbersOf H (splinesIn ns) (pointsIn ns)) (g .0) ∙ sym due-is) (g .1)
+
+-- version 1
+module _ (bytes : List ℕ) where
+  pub tamed-fine : Tamed bytes → firstFault (readChecks version1 (length bytes) (numbersIn bytes)) ≡ Fine
+  tamed-fine t =
+      let l = t .placed .summed .laid in
+      sym (judge-body (length bytes) (numbersIn bytes) (l .opened .long) (right _ _ (l .opened .version)) (laid-offsets 8 (Opened bytes) bytes l)) ∙ tamed-body 8 (Laid bytes) bytes t
+
   pub fine-tamed : firstFault (readChecks version1 (length bytes) (numbersIn bytes)) ≡ Fine → Tamed bytes
-  unfolding readChecks versionChecks bodyChecks
+  unfolding readChecks versionChecks
   fine-tamed e =
       let n = length bytes in
       let ns = numbersIn bytes in
       let a = passed (ltb n 32) Short n _ e in
       let b = passed _ Header 0 _ (a .1) in
       let d = both-fine (offsetChecks 8 ns) (bodyChecks 8 n ns) (b .1) in
-      let g = both-fine (lengthChecks n (4 * numbersOf 8 (splinesIn ns) (pointsIn ns))) (partChecks 8 (splinesIn ns) (pointsIn ns) ns) (d .1) in
-      let l = offsets-laid (record { long = ltb-false n 32 (a .0); version = is-right _ _ (b .0) }) (d .0) in
-      parts-tamed l (length-due n (4 * numbersOf 8 (splinesIn ns) (pointsIn ns)) (g .0) ∙ sym due-is) (g .1)
+      let l = offsets-laid 8 (Opened bytes) bytes (record { long = ltb-false n 32 (a .0); version = is-right _ _ (b .0) }) (d .0) in
+      body-tamed 8 (Laid bytes) bytes l (d .1)
 
 -- Assumes nothing.

@@ -4,6 +4,8 @@ pub mod Clean
 pub mod Back
 pub mod Trips
 pub mod Firsts
+pub mod BehindWhen
 pub mod ReadWhen
+pub mod PutWhen
 pub mod WriteWhen
 pub mod Readings

@@ -24,16 +24,19 @@ use Rattle.write_laws.specs.Refusals.{NoneOf}
 use Rattle.little.specs.Little.{numbersIn, signedIn}
 use Rattle.trace.specs.Trace.{version1, startsFrom, deltasFrom, coefficientsFrom, numbersOf, part, numberChecks}
 use Rattle.trace.specs.Read.{splinesIn, pointsIn, versionChecks, offsetChecks, lengthChecks, misplaced, tooWild, partChecks, bodyChecks, readChecks, tight, wholeChecks, describedIn, readTrace, readTraceOf}
-use Rattle.trace_judge.proofs.Faults.{offset-16, offset-20, offset-24, offset-28, length-short, length-trail, length-fine, length-due, parts-shape, parts-start, parts-rest, body-length, body-rest, judge-short, judge-version, judge-offset, judge-body}
+use Rattle.trace_judge.proofs.Faults.{judge-short, judge-version, judge-offset, judge-body}
 use Rattle.trace_read.proofs.Loads.{whole-fault, whole-room, judged-fine, judged-fault}
-use Rattle.trace_laws.specs.Refusals.{number, S, P, fileSize, OutsideAt, WildAt, Opened, Laid, Summed, Placed, Tamed, Lacks, TraceReadRefusal, cut, version, short, trail, shape, coord, delta, room}
+use Rattle.trace_laws.specs.Behind.{number, S, P, OffsetRefusal, BodyRefusal}
+use Rattle.trace_laws.specs.Behind as behind
+use Rattle.trace_laws.specs.Refusals.{Opened, Laid, Tamed, Lacks, TraceReadRefusal, cut, version, short, trail, shape, coord, delta, room}
 use Rattle.trace_laws.specs.Refusals as told
-use Rattle.trace_laws.proofs.Clean.{right, wrong, is-right, is-wrong, start-is, delta-is, starts-length, deltas-length, inside-of, tame-of, starts-fine, fine-starts, laid-offsets, offsets-laid, due-is, tamed-fine, fine-tamed, none-outside, none-wild}
-use Rattle.trace_laws.proofs.Firsts.{head-or, append-or, none-or, numbers-or, numbers-at}
+use Rattle.trace_laws.proofs.Clean.{right, wrong, is-right, is-wrong, laid-offsets, offsets-laid, tamed-fine, fine-tamed}
+use Rattle.trace_laws.proofs.BehindWhen.{body-to, offsets-to, told-offset, told-body}
+use Rattle.trace_laws.proofs.Firsts.{head-or, append-or, none-or}
 
 -- ---- the room
 
-lacks-tight : (rooms : ListRooms) (s p : ℕ) → Lacks rooms s p → tight rooms s p ≡ true
+pub lacks-tight : (rooms : ListRooms) (s p : ℕ) → Lacks rooms s p → tight rooms s p ≡ true
 unfolding tight
 lacks-tight rooms s p (told.counts h) = rw (lt-ltb (rooms .counts) s h)
 lacks-tight rooms s p (told.starts h) = rw (lt-ltb (rooms .starts) (2 * s) h) (any (ltb (rooms .counts) s) (ltb (rooms .deltas) (2 * p)))
@@ -53,7 +56,7 @@ lacks-tight rooms s p (told.deltas h) = rw (lt-ltb (rooms .deltas) (2 * p) h) (a
     any true = refl
     any false = refl
 
-tight-lacks : (rooms : ListRooms) (s p : ℕ) → tight rooms s p ≡ true → Lacks rooms s p
+pub tight-lacks : (rooms : ListRooms) (s p : ℕ) → tight rooms s p ≡ true → Lacks rooms s p
 unfolding tight
 tight-lacks rooms s p e = go (ltb (rooms .counts) s) (ltb (rooms .starts) (2 * s)) (ltb (rooms .coefficients) (128 * s)) (ltb (rooms .deltas) (2 * p)) refl refl refl refl e
   where
@@ -77,71 +80,29 @@ module _ (rooms : ListRooms) (bytes : List ℕ) where
   abbrev n : ℕ
   n = length bytes
 
+  -- the tables of Behind.antt at version 1
+  offset-row : (c : Code) (q : ℕ) → OffsetRefusal 8 (Opened bytes) bytes c q → R c q
+  offset-row c q (behind.counts o v) = told.counts o v
+  offset-row c q (behind.starts o a v) = told.starts o a v
+  offset-row c q (behind.deltas o a b v) = told.deltas o a b v
+  offset-row c q (behind.coefficients o a b d v) = told.coefficients o a b d v
+
+  body-row : (c : Code) (q : ℕ) → BodyRefusal 8 (Laid bytes) bytes c q → R c q
+  body-row c q (behind.short l h) = short l h
+  body-row c q (behind.trail l h) = trail l h
+  body-row c q (behind.shape l w v) = shape l w v
+  body-row c q (behind.coord m k h f o) = coord m k h f o
+  body-row c q (behind.delta p k h f o) = delta p k h f o
+
   module _ (c : Code) (q : ℕ) where
-    parts-to : Laid bytes → n ≡ fileSize (S bytes) (P bytes) → firstFault (partChecks 8 (S bytes) (P bytes) N) ≡ Fault c q → R c q
-    unfolding partChecks
-    parts-to l w e =
-        head-or R c q _ Shape 0 _ e (λ t. shape l w (is-wrong _ _ t))
-        (λ t r. summed-to (record { laid = l; whole = w; sums = is-right _ _ t }) r)
-      where
-        starts : List Check
-        starts = numberChecks misplaced Coord (startsFrom 8 (S bytes)) (part (startsFrom 8 (S bytes)) (2 * S bytes) N)
-
-        deltas : List Check
-        deltas = numberChecks tooWild Delta (deltasFrom 8 (S bytes)) (part (deltasFrom 8 (S bytes)) (2 * P bytes) N)
-
-        placed-to : Placed bytes → firstFault deltas ≡ Fault c q → R c q
-        placed-to p e =
-            numbers-or R c q tooWild Delta 0 (part (deltasFrom 8 (S bytes)) (2 * P bytes) N) (deltasFrom 8 (S bytes)) e
-            (λ i h f u. let g : i < 2 * P bytes = omega (arith, deltas-length bytes w) in
-            let at : 32 + 12 * S bytes + 4 * i ≡ 4 * (deltasFrom 8 (S bytes) + i) = omega arith in
-            subst (R Delta) at (delta p i g (λ k o. tame-of bytes w k (omega arith) (f k o)) (leb-true (2 ^ 30) _ (sym (delta-is bytes w i g) ∙ u))))
-
-        summed-to : Summed bytes → firstFault (starts ++ deltas) ≡ Fault c q → R c q
-        summed-to m e =
-            append-or R c q starts deltas e
-            (λ f. numbers-or R c q misplaced Coord 0 (part (startsFrom 8 (S bytes)) (2 * S bytes) N) (startsFrom 8 (S bytes)) f
-            (λ i h g u. let k : i < 2 * S bytes = omega (arith, starts-length bytes w) in
-            let at : 32 + 4 * S bytes + 4 * i ≡ 4 * (startsFrom 8 (S bytes) + i) = omega arith in
-            subst (R Coord) at (coord m i k (λ j o. inside-of bytes w j (omega arith) (g j o)) (leb-true (2 ^ 23) _ (sym (start-is bytes w i k) ∙ u)))))
-            (λ f r. placed-to (record { summed = m; inside = fine-starts bytes w f }) r)
-
-    body-to : Laid bytes → firstFault (bodyChecks 8 n N) ≡ Fault c q → R c q
-    unfolding bodyChecks lengthChecks
-    body-to l e =
-        append-or R c q (lengthChecks n due) (partChecks 8 (S bytes) (P bytes) N) e
-        (λ f. head-or R c q (ltb n due) Short n _ f (λ t. short l (omega (arith, ltb-true n due t, due-is bytes)))
-        (λ t r. head-or R c q (ltb due n) Trail due [] r (λ u. subst (R Trail) (due-is bytes) (trail l (omega (arith, ltb-true due n u, due-is bytes)))) (λ u z. none-or R c q z)))
-        (λ f r. parts-to l (length-due n due f ∙ sym (due-is bytes)) r)
-      where
-        due : ℕ
-        due = 4 * numbersOf 8 (S bytes) (P bytes)
-
-    offsets-to : Opened bytes → firstFault (offsetChecks 8 N) ≡ Fault c q → R c q
-    unfolding offsetChecks
-    offsets-to o e =
-        head-or R c q _ Header 16 _ e (λ t. told.counts o (is-wrong _ _ t))
-        (λ a r. head-or R c q _ Header 20 _ r (λ t. told.starts o (is-right _ _ a) (λ z. is-wrong _ _ t (z ∙ five)))
-        (λ b r2. head-or R c q _ Header 24 _ r2 (λ t. told.deltas o (is-right _ _ a) (is-right _ _ b ∙ sym five) (λ z. is-wrong _ _ t (z ∙ six)))
-        (λ d r3. head-or R c q _ Header 28 [] r3 (λ t. told.coefficients o (is-right _ _ a) (is-right _ _ b ∙ sym five) (is-right _ _ d ∙ sym six) (λ z. is-wrong _ _ t (z ∙ seven)))
-        (λ f z. none-or R c q z))))
-      where
-        five : 32 + 4 * S bytes ≡ 4 * startsFrom 8 (S bytes)
-        five = omega arith
-
-        six : 32 + 12 * S bytes ≡ 4 * deltasFrom 8 (S bytes)
-        six = omega arith
-
-        seven : 32 + 12 * S bytes + 8 * P bytes ≡ 4 * coefficientsFrom 8 (S bytes) (P bytes)
-        seven = omega arith
-
     content-to : firstFault (readChecks version1 n N) ≡ Fault c q → R c q
     unfolding readChecks versionChecks
     content-to e =
         head-or R c q (ltb n 32) Short n _ e (λ t. cut (ltb-true n 32 t))
         (λ a r. head-or R c q _ Header 0 _ r (λ t. version (ltb-false n 32 a) (is-wrong _ _ t))
         (λ b r2. let o : Opened bytes = record { long = ltb-false n 32 a; version = is-right _ _ b } in
-        append-or R c q (offsetChecks 8 N) (bodyChecks 8 n N) r2 (λ f. offsets-to o f) (λ f r3. body-to (offsets-laid bytes o f) r3)))
+        append-or R c q (offsetChecks 8 N) (bodyChecks 8 n N) r2 (λ f. offset-row c q (offsets-to 8 (Opened bytes) bytes o c q f))
+        (λ f r3. body-row c q (body-to 8 (Laid bytes) bytes (offsets-laid 8 (Opened bytes) bytes o f) c q r3))))
 
     pub fault-told : firstFault (wholeChecks rooms bytes) ≡ Fault c q → R c q
     unfolding wholeChecks
@@ -151,56 +112,29 @@ module _ (rooms : ListRooms) (bytes : List ℕ) where
 
   -- ---- from the table to a fault
 
-  laid-body : Laid bytes → firstFault (bodyChecks 8 n N) ≡ firstFault (readChecks version1 n N)
-  laid-body l = judge-body n N (l .opened .long) (right _ _ (l .opened .version)) (laid-offsets bytes l)
-
-  sized-parts : n ≡ fileSize (S bytes) (P bytes) → firstFault (partChecks 8 (S bytes) (P bytes) N) ≡ firstFault (bodyChecks 8 n N)
-  sized-parts w =
-      body-rest 8 n N (S bytes) (P bytes) refl refl (sym (length-fine n (4 * numbersOf 8 (S bytes) (P bytes)) (omega (arith, due-is bytes)) (omega (arith, due-is bytes))))
-
-  opened-offset : (o : Opened bytes) (p : ℕ) → Fault Header p ≡ firstFault (offsetChecks 8 N) → firstFault (readChecks version1 n N) ≡ Fault Header p
-  opened-offset o p e = sym (judge-offset n N (o .long) (right _ _ (o .version)) Header p (sym e))
-
   content-from : (c : Code) (q : ℕ) → firstFault (readChecks version1 n N) ≡ Fault c q → firstFault (wholeChecks rooms bytes) ≡ Fault c q
   content-from c q e = sym (whole-fault rooms bytes c q e)
+
+  offset-from : (c : Code) (q : ℕ) → Opened bytes → OffsetRefusal 8 (Opened bytes) bytes c q → firstFault (wholeChecks rooms bytes) ≡ Fault c q
+  offset-from c q o r = content-from c q (sym (judge-offset n N (o .long) (right _ _ (o .version)) c q (told-offset 8 (Opened bytes) bytes c q r)))
+
+  body-from : (c : Code) (q : ℕ) → Laid bytes → BodyRefusal 8 (Laid bytes) bytes c q → firstFault (wholeChecks rooms bytes) ≡ Fault c q
+  body-from c q l r =
+      content-from c q
+      (sym (judge-body n N (l .opened .long) (right _ _ (l .opened .version)) (laid-offsets 8 (Opened bytes) bytes l)) ∙ told-body 8 (Laid bytes) bytes c q r)
 
   pub told-fault : (c : Code) (q : ℕ) → R c q → firstFault (wholeChecks rooms bytes) ≡ Fault c q
   told-fault c q (cut h) = content-from c q (sym (judge-short n N h))
   told-fault c q (version h v) = content-from c q (sym (judge-version n N h (wrong _ _ v)))
-  told-fault c q (told.counts o v) = content-from c q (opened-offset o 16 (offset-16 8 N (S bytes) (P bytes) refl refl (wrong _ _ v)))
-  told-fault c q (told.starts o a v) =
-      content-from c q (opened-offset o 20 (offset-20 8 N (S bytes) (P bytes) refl refl (right _ _ a) (wrong _ _ (λ z. v (z ∙ omega arith)))))
-  told-fault c q (told.deltas o a b v) =
-      content-from c q (opened-offset o 24 (offset-24 8 N (S bytes) (P bytes) refl refl (right _ _ a) (right _ _ (b ∙ omega arith)) (wrong _ _ (λ z. v (z ∙ omega arith)))))
-  told-fault c q (told.coefficients o a b d v) =
-      content-from c q
-      (opened-offset o 28 (offset-28 8 N (S bytes) (P bytes) refl refl (right _ _ a) (right _ _ (b ∙ omega arith)) (right _ _ (d ∙ omega arith)) (wrong _ _ (λ z. v (z ∙ omega arith)))))
-  told-fault c q (short l h) =
-      let due = 4 * numbersOf 8 (S bytes) (P bytes) in
-      content-from c q (sym (laid-body l) ∙ sym (body-length 8 n N (S bytes) (P bytes) refl refl Short n (sym (length-short n due (omega (arith, due-is bytes))))))
-  told-fault c q (trail l h) =
-      let due = 4 * numbersOf 8 (S bytes) (P bytes) in
-      content-from c q
-      (sym (laid-body l) ∙ sym (body-length 8 n N (S bytes) (P bytes) refl refl Trail due (sym (length-trail n due (omega (arith, due-is bytes)) (omega (arith, due-is bytes)))))
-      ∙ ap (Fault Trail) (sym (due-is bytes)))
-  told-fault c q (shape l w v) = content-from c q (sym (laid-body l) ∙ sym (sized-parts w) ∙ sym (parts-shape 8 (S bytes) (P bytes) N (ne-eqb _ _ v)))
-  told-fault c q (coord m k h f o) =
-      let w = m .whole in
-      let s = S bytes in
-      let at : 4 * (startsFrom 8 s + k) ≡ 32 + 4 * s + 4 * k = omega arith in
-      let e = numbers-at misplaced Coord 0 (part (startsFrom 8 s) (2 * s) N) (startsFrom 8 s) k (omega (arith, starts-length bytes w))
-      (λ j g. none-outside bytes w j (omega arith) (f j g)) (start-is bytes w k h ∙ le-leb (2 ^ 23) _ o) in
-      content-from c q
-      (sym (laid-body (m .laid)) ∙ sym (sized-parts w) ∙ sym (parts-start 8 s (P bytes) N (eq-eqb _ _ (m .sums)) Coord (4 * (startsFrom 8 s + k)) e) ∙ ap (Fault Coord) at)
-  told-fault c q (delta p k h f o) =
-      let m = p .summed in
-      let w = m .whole in
-      let s = S bytes in
-      let at : 4 * (deltasFrom 8 s + k) ≡ 32 + 12 * s + 4 * k = omega arith in
-      let e = numbers-at tooWild Delta 0 (part (deltasFrom 8 s) (2 * P bytes) N) (deltasFrom 8 s) k (omega (arith, deltas-length bytes w))
-      (λ j g. none-wild bytes w j (omega arith) (f j g)) (delta-is bytes w k h ∙ le-leb (2 ^ 30) _ o) in
-      content-from c q
-      (sym (laid-body (m .laid)) ∙ sym (sized-parts w) ∙ sym (parts-rest 8 s (P bytes) N (eq-eqb _ _ (m .sums)) (starts-fine bytes w (p .inside))) ∙ e ∙ ap (Fault Delta) at)
+  told-fault c q (told.counts o v) = offset-from c q o (behind.counts o v)
+  told-fault c q (told.starts o a v) = offset-from c q o (behind.starts o a v)
+  told-fault c q (told.deltas o a b v) = offset-from c q o (behind.deltas o a b v)
+  told-fault c q (told.coefficients o a b d v) = offset-from c q o (behind.coefficients o a b d v)
+  told-fault c q (short l h) = body-from c q l (behind.short l h)
+  told-fault c q (trail l h) = body-from c q l (behind.trail l h)
+  told-fault c q (shape l w v) = body-from c q l (behind.shape l w v)
+  told-fault c q (coord m k h f o) = body-from c q (m .laid) (behind.coord m k h f o)
+  told-fault c q (delta p k h f o) = body-from c q (p .summed .laid) (behind.delta p k h f o)
   told-fault c q (room t l) = sym (whole-room rooms bytes (tamed-fine bytes t) (S bytes) (P bytes) refl refl (lacks-tight rooms (S bytes) (P bytes) l))
 
   -- ---- the answers

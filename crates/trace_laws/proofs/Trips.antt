@@ -31,50 +31,52 @@ use Rattle.trace.specs.Read.{wholeChecks, describedIn, readTrace, readTraceOf}
 use Rattle.trace.specs.Write.{writeChecks, writeTraceOf}
 use Rattle.trace_read.proofs.Loads.{judged-fine, judged-fault}
 use Rattle.trace_write.proofs.Puts.{judged, file-size}
-use Rattle.trace_laws.specs.Refusals.{S, P}
-use Rattle.trace_laws.proofs.Back.{starts-back, file-is-read, file-again, ns, zs, ds, cs, ns-long, ns-sum, zs-long, ds-long, cs-long, zs-back, again-fine}
+use Rattle.trace_laws.proofs.Back.{starts-back, file-is-read, nsIn, zsIn, dsIn, csIn, again-fine, taken, found-first}
 
--- ---- what an accepted call of `trace_write` leaves
+-- ---- what an accepted call leaves, by the checks of its content, its file, and how long that is
 
-pub record Written (ns : List ℕ) (ss : List Float) (ds cs : List ℤ) (a : ℤ) (room n : ℕ) (bytes : List ℕ) : Type 0 where
-  pub fine : firstFault (writeChecks 8 ns ss ds cs) ≡ Fine
-  pub size : n ≡ length (fileOf version1 [] (described a (map wholeOf ss) ns ds cs))
-  pub is : bytes ≡ fileOf version1 [] (described a (map wholeOf ss) ns ds cs) ++ replicate (room - n) 0
+pub record Left (content : List Check) (file : List ℕ) (room n : ℕ) (bytes : List ℕ) : Type 0 where
+  pub fine : firstFault content ≡ Fine
+  pub size : n ≡ length file
+  pub is : bytes ≡ file ++ replicate (room - n) 0
 
+module _ (content : List Check) (file : List ℕ) (due room : ℕ) where
+  abbrev Last : List Check
+  Last = check (ltb room due) Room 0 ∷ []
+
+  -- an answer of success tells all
+  pub done-left : (o : WriteOutcome) (n : ℕ) → o ≡ outcome room file (firstFault (content ++ Last)) → o .answer ≡ WriteAnswer.Done n → Left content file room n (o .list)
+  done-left o n p e = go (firstFault (content ++ Last)) refl (sym (ap (λ (u : WriteOutcome). u .answer) p) ∙ e) (ap (λ (u : WriteOutcome). u .list) p)
+    where
+      go : (v : Verdict) → firstFault (content ++ Last) ≡ v → outcome room file v .answer ≡ WriteAnswer.Done n → o .list ≡ outcome room file v .list
+          → Left content file room n (o .list)
+      go (Fault c q) f e l = let z : _≡_ {A = ℕ} 0 1 = cc in absurd (omega arith)
+      go Fine f e l =
+          let k : length file ≡ n = cc in
+          record { fine = both-fine content Last f .0; size = sym k; is = l ∙ ap (λ (m : ℕ). file ++ replicate (room - m) 0) k }
+
+  -- what is accepted, with room for its file
+  pub accepted-left : firstFault content ≡ Fine → length file ≡ due → due ≤ room
+      → outcome room file (firstFault (content ++ Last)) ≡ leaves (WriteAnswer.Done (length file)) (file ++ replicate (room - length file) 0)
+  unfolding firstFault
+  accepted-left f size h = rw (fine-before content Last f, passes (ltb room due) Room 0 [] (le-ltb room due h))
+
+-- version 1
 module _ (ns : List ℕ) (ss : List Float) (ds cs : List ℤ) (a : ℤ) (room : ℕ) where
   abbrev File : List ℕ
   File = fileOf version1 [] (described a (map wholeOf ss) ns ds cs)
 
-  abbrev Due : ℕ
-  Due = 4 * numbersOf 8 (length ns) (pointsOf ns)
-
-  -- an answer of success tells all
-  pub done-written : (o : WriteOutcome) (n : ℕ) → o ≡ writeTraceOf ns ss ds cs a room → o .answer ≡ WriteAnswer.Done n → Written ns ss ds cs a room n (o .list)
+  done-written : (o : WriteOutcome) (n : ℕ) → o ≡ writeTraceOf ns ss ds cs a room → o .answer ≡ WriteAnswer.Done n → Left (writeChecks 8 ns ss ds cs) File room n (o .list)
   unfolding writeTraceOf
-  done-written o n p e = go (firstFault (content ++ last ∷ [])) refl (sym (ap (λ (u : WriteOutcome). u .answer) p) ∙ e) (ap (λ (u : WriteOutcome). u .list) p)
-    where
-      content : List Check
-      content = writeChecks 8 ns ss ds cs
+  done-written = done-left (writeChecks 8 ns ss ds cs) File (4 * numbersOf 8 (length ns) (pointsOf ns)) room
 
-      last : Check
-      last = check (ltb room Due) Room 0
-
-      go : (v : Verdict) → firstFault (content ++ last ∷ []) ≡ v → outcome room File v .answer ≡ WriteAnswer.Done n → o .list ≡ outcome room File v .list
-          → Written ns ss ds cs a room n (o .list)
-      go (Fault c q) f e l = let z : _≡_ {A = ℕ} 0 1 = cc in absurd (omega arith)
-      go Fine f e l =
-          let k : length File ≡ n = cc in
-          record { fine = both-fine content (last ∷ []) f .0; size = sym k; is = l ∙ ap (λ (m : ℕ). File ++ replicate (room - m) 0) k }
-
-  -- a description that is accepted, with room for its file
-  pub accepted : firstFault (writeChecks 8 ns ss ds cs) ≡ Fine → length File ≤ room
+  accepted : firstFault (writeChecks 8 ns ss ds cs) ≡ Fine → length File ≤ room
       → writeTraceOf ns ss ds cs a room ≡ leaves (WriteAnswer.Done (length File)) (File ++ replicate (room - length File) 0)
-  unfolding writeTraceOf firstFault
+  unfolding writeTraceOf
   accepted f h =
-      let j = judged ns ss ds cs f in
-      let size = file-size ns ss ds cs a (j .pairs) (j .points) (j .rows) in
-      let t = passes (ltb room Due) Room 0 [] (le-ltb room Due (omega arith)) in
-      rw (fine-before (writeChecks 8 ns ss ds cs) (check (ltb room Due) Room 0 ∷ []) f, t)
+      let j = judged 8 ns ss ds cs f in
+      let size = file-size version1 [] ns ss ds cs a refl (j .pairs) (j .points) (j .rows) in
+      accepted-left (writeChecks 8 ns ss ds cs) File (4 * numbersOf 8 (length ns) (pointsOf ns)) room f size (omega arith)
 
 -- ---- what is written is read
 
@@ -90,20 +92,20 @@ file-then-read ns ss ds cs a room o n nn f nc na p e rooms h q r =
     let file = fileOf version1 [] (described a (map wholeOf ss) ns ds cs) in
     let bytes : take n (o .list) ≡ file = ap (take n) (w .is) ∙ take-at file (replicate (room - n) 0) n (sym (w .size)) in
     let got-it = file-is-read ns ss ds cs a (w .fine) nn nc na rooms h in
-    let back = starts-back _ ss f (judged ns ss ds cs (w .fine) .fit) in
+    let back = starts-back _ ss f (judged 8 ns ss ds cs (w .fine) .fit) in
     r ∙ rw (bytes, got-it, back)
 
 -- ---- what is read is written
 
-pub record Taken (rooms : ListRooms) (bytes : List ℕ) (q : Outcome) (s p : ℕ) (a : ℤ) : Type 0 where
+pub record DoneRead (rooms : ListRooms) (bytes : List ℕ) (q : Outcome) (s p : ℕ) (a : ℤ) : Type 0 where
   pub fine : firstFault (wholeChecks rooms bytes) ≡ Fine
   pub is : q ≡ reading.outcome rooms (got (describedIn 8 (numbersIn bytes)) [])
 
-pub done-read : (rooms : ListRooms) (bytes : List ℕ) (q : Outcome) (s p : ℕ) (a : ℤ) → q ≡ readTraceOf rooms bytes → q .answer ≡ ReadAnswer.Done s p a → Taken rooms bytes q s p a
+pub done-read : (rooms : ListRooms) (bytes : List ℕ) (q : Outcome) (s p : ℕ) (a : ℤ) → q ≡ readTraceOf rooms bytes → q .answer ≡ ReadAnswer.Done s p a → DoneRead rooms bytes q s p a
 unfolding readTraceOf
 done-read rooms bytes q s p a r e = go (firstFault (wholeChecks rooms bytes)) refl
   where
-    go : (v : Verdict) → firstFault (wholeChecks rooms bytes) ≡ v → Taken rooms bytes q s p a
+    go : (v : Verdict) → firstFault (wholeChecks rooms bytes) ≡ v → DoneRead rooms bytes q s p a
     go Fine f = record { fine = f; is = r ∙ ap (reading.outcome rooms) (judged-fine rooms bytes f) }
     go (Fault c k) f =
         let x : q ≡ reading.outcome rooms (stop c k) = r ∙ ap (reading.outcome rooms) (judged-fault rooms bytes c k f) in
@@ -115,33 +117,17 @@ pub read-then-file : (rooms : ListRooms) (bytes : List ℕ) (q : Outcome) (s p :
     → (room : ℕ) → length bytes ≤ room → (o : WriteOutcome)
     → o ≡ writeTraceOf (take s (q .counts)) (take (2 * s) (q .starts)) (take (2 * p) (q .deltas)) (take (128 * s) (q .coefficients)) a room
     → o ≡ leaves (WriteAnswer.Done (length bytes)) (bytes ++ replicate (room - length bytes) 0)
-unfolding describedIn
 read-then-file rooms bytes q s p a b r e room h o w =
     let t = done-read rooms bytes q s p a r e in
-    let f = t .fine in
-    let ans : ReadAnswer.Done (length (ns rooms bytes f b)) (pointsOf (ns rooms bytes f b)) (signedIn (getD (numbersIn bytes) 3 0)) ≡ ReadAnswer.Done s p a
-    = sym (ap (λ (u : Outcome). u .answer) (t .is)) ∙ e in
-    let es : length (ns rooms bytes f b) ≡ s = cc in
-    let ep : pointsOf (ns rooms bytes f b) ≡ p = cc in
-    let ea : signedIn (getD (numbersIn bytes) 3 0) ≡ a = cc in
-    let is : s ≡ S bytes = sym es ∙ ns-long rooms bytes f b in
-    let ip : p ≡ P bytes = sym ep ∙ ns-sum rooms bytes f b in
-    let xs = ns rooms bytes f b in
-    let ss = map f32Of (zs rooms bytes f b) in
-    let ys = ds rooms bytes f b in
-    let ws = cs rooms bytes f b in
-    let n1 : take s (q .counts) ≡ xs = ap (take s) (ap (λ (u : Outcome). u .counts) (t .is)) ∙ take-at xs _ s es in
-    let n2 : take (2 * s) (q .starts) ≡ ss = ap (take (2 * s)) (ap (λ (u : Outcome). u .starts) (t .is)) ∙ take-at ss _ (2 * s) (zs-long rooms bytes f b ∙ omega arith) in
-    let n3 : take (2 * p) (q .deltas) ≡ ys = ap (take (2 * p)) (ap (λ (u : Outcome). u .deltas) (t .is)) ∙ take-at ys _ (2 * p) (ds-long rooms bytes f b ∙ omega arith) in
-    let n4 : take (128 * s) (q .coefficients) ≡ ws = ap (take (128 * s)) (ap (λ (u : Outcome). u .coefficients) (t .is)) ∙ take-at ws _ (128 * s) (cs-long rooms bytes f b ∙ omega arith) in
-    let file : fileOf version1 [] (described a (map wholeOf ss) xs ys ws) ≡ bytes
-    = rw (zs-back rooms bytes f b, ← ea) (file-again rooms bytes f b) in
-    let done = accepted xs ss ys ws a room (again-fine rooms bytes f b) (omega (arith, ap length file)) in
-    w ∙ rw (n1, n2, n3, n4) (done ∙ ap (λ (k : List ℕ). leaves (WriteAnswer.Done (length k)) (k ++ replicate (room - length k) 0)) file)
+    let found = found-first rooms bytes (t .fine) in
+    let k = taken version1 [] bytes _ _ found b rooms q s p a (t .is) e in
+    let file = k .file in
+    let done = accepted (nsIn 8 bytes) (map f32Of (zsIn 8 bytes)) (dsIn 8 bytes) (csIn 8 bytes) a room (again-fine version1 [] bytes _ _ found b) (omega (arith, ap length file)) in
+    w ∙ rw (k .counts, k .starts, k .deltas, k .coefficients) (done ∙ ap (λ (l : List ℕ). leaves (WriteAnswer.Done (length l)) (l ++ replicate (room - length l) 0)) file)
 
 -- ---- one file a description
 
-same-front : (xs ys : List ℕ) (us vs : List ℕ) → length xs ≡ length ys → xs ++ us ≡ ys ++ vs → xs ≡ ys
+pub same-front : (xs ys : List ℕ) (us vs : List ℕ) → length xs ≡ length ys → xs ++ us ≡ ys ++ vs → xs ≡ ys
 same-front xs ys us vs h e = sym (take-at xs us (length xs) refl) ∙ ap (take (length xs)) e ∙ take-at ys vs (length xs) (sym h)
 
 -- two files that are read as one description are the same bytes

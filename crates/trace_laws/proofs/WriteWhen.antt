@@ -24,73 +24,13 @@ use Rattle.write_laws.specs.Refusals.{NoneOf, WriteRefused}
 use Rattle.trace.specs.Trace.{version1, startsFrom, deltasFrom, coefficientsFrom, numbersOf, fileOf, wild, numberChecks}
 use Rattle.trace.specs.Write.{misfit, unheld, headerChecks, valueChecks, writeChecks, writeTraceOf}
 use Rattle.trace.proofs.Checks.{fine-each, each-fine}
-use Rattle.trace_fit.proofs.Fits.{many-splines, many-points, far-starts, far-deltas, far-coefficients, header-fine, values-start, values-rest, judge-shape, half, judge-head, judge-rest}
 use Rattle.trace_write.proofs.Puts.{file-size}
-use Rattle.trace_laws.specs.Refusals.{fileSize, Misfit, no-number, infinite, below, above, not-whole, minus-zero, MisfitAt, WildIn, Headed, Headable, Fitting, Writable, TraceWriteRefusal, TraceAccepted}
+use Rattle.trace_laws.specs.Behind.{PutRefusal}
+use Rattle.trace_laws.specs.Behind as behind
+use Rattle.trace_laws.specs.Refusals.{fileSize, Writable, TraceWriteRefusal, TraceAccepted}
 use Rattle.trace_laws.specs.Refusals as told
-use Rattle.trace_laws.proofs.Firsts.{head-or, append-or, none-or, numbers-or, numbers-at}
-
--- ---- a number that is no start, as a test and in words
-
-misfit-told : (x : Float) → misfit x ≡ true → Misfit x
-unfolding misfit
-misfit-told nan e = no-number
-misfit-told (inf s) e = infinite
-misfit-told (fin true m e) h = go (ltb (2 ^ 23 * down e) (m * up e)) (eqb (m * up e % down e) 0) refl refl h
-  where
-    zero-told : (m : ℕ) → eqb m 0 ≡ true → Misfit (fin true m e)
-    zero-told zero t = minus-zero
-    zero-told (suc m) t = absurd (omega (arith, eqb-true (suc m) 0 t))
-
-    go : (a b : Bool) → ltb (2 ^ 23 * down e) (m * up e) ≡ a → eqb (m * up e % down e) 0 ≡ b → (a || (not b || eqb m 0)) ≡ true → Misfit (fin true m e)
-    go true b x y t = below (ltb-true (2 ^ 23 * down e) (m * up e) x)
-    go false false x y t = not-whole (eqb-false (m * up e % down e) 0 y)
-    go false true x y t = zero-told m t
-misfit-told (fin false m e) h = go (leb (2 ^ 23 * down e) (m * up e)) (eqb (m * up e % down e) 0) refl refl h
-  where
-    go : (a b : Bool) → leb (2 ^ 23 * down e) (m * up e) ≡ a → eqb (m * up e % down e) 0 ≡ b → (a || (not b || false)) ≡ true → Misfit (fin false m e)
-    go true b x y t = above refl (leb-true (2 ^ 23 * down e) (m * up e) x)
-    go false false x y t = not-whole (eqb-false (m * up e % down e) 0 y)
-    go false true x y t = absurd (subst T (sym t) tt)
-
-one-of : (a b d : Bool) → (b || d) ≡ true → (a || (b || d)) ≡ true
-one-of true b d t = refl
-one-of false b d t = t
-
-told-misfit : (x : Float) → Misfit x → misfit x ≡ true
-unfolding misfit
-told-misfit x no-number = refl
-told-misfit x infinite = refl
-told-misfit x (below {m} {e} h) = rw (lt-ltb (2 ^ 23 * down e) (m * up e) h)
-told-misfit x (above {s} {m} {e} f h) = rw (f, le-leb (2 ^ 23 * down e) (m * up e) h)
-told-misfit x (not-whole {s} {m} {e} n) =
-    one-of (cond s (ltb (2 ^ 23 * down e) (m * up e)) (leb (2 ^ 23 * down e) (m * up e))) (not (eqb (m * up e % down e) 0)) (s && eqb m 0) (rw (ne-eqb (m * up e % down e) 0 n))
-told-misfit x (minus-zero {e}) = any (ltb (2 ^ 23 * down e) (0 * up e)) (not (eqb (0 * up e % down e) 0))
-  where
-    any : (a b : Bool) → (a || (b || true)) ≡ true
-    any true b = refl
-    any false true = refl
-    any false false = refl
-
-fit-told : (x : Float) → misfit x ≡ false → Misfit x → ⊥
-fit-told x e m = subst T (sym (told-misfit x m) ∙ e) tt
-
-told-fit : (x : Float) → (Misfit x → ⊥) → misfit x ≡ false
-told-fit x n = go (misfit x) refl
-  where
-    go : (b : Bool) → misfit x ≡ b → misfit x ≡ false
-    go true e = absurd (n (misfit-told x e))
-    go false e = e
-
-wild-told : (d : ℤ) → wild d ≡ false → 2 ^ 30 ≤ natAbs d → ⊥
-wild-told d e h = absurd (omega (arith, leb-false (2 ^ 30) (natAbs d) e))
-
-told-tame : (d : ℤ) → (2 ^ 30 ≤ natAbs d → ⊥) → wild d ≡ false
-told-tame d n = go (leb (2 ^ 30) (natAbs d)) refl
-  where
-    go : (b : Bool) → leb (2 ^ 30) (natAbs d) ≡ b → wild d ≡ false
-    go true e = absurd (n (leb-true (2 ^ 30) (natAbs d) e))
-    go false e = e
+use Rattle.trace_laws.proofs.Firsts.{head-or, append-or, none-or}
+use Rattle.trace_laws.proofs.PutWhen.{puts-writable, writable-puts, puts-to, told-puts}
 
 -- ---- from a fault to the table
 
@@ -101,92 +41,36 @@ module _ (ns : List ℕ) (ss : List Float) (ds cs : List ℤ) where
   abbrev p : ℕ
   p = pointsOf ns
 
-  abbrev Starts : List Check
-  Starts = numberChecks misfit Coord (startsFrom 8 s) ss
-
-  abbrev Deltas : List Check
-  Deltas = numberChecks wild Delta (deltasFrom 8 s) ds
-
-  four : 4 * startsFrom 8 s ≡ 32 + 4 * s
-  four = omega arith
-
-  twelve : 4 * deltasFrom 8 s ≡ 32 + 12 * s
-  twelve = omega arith
-
-  twenty : 4 * coefficientsFrom 8 s p ≡ 32 + 12 * s + 8 * p
-  twenty = omega arith
-
   pub due-is : fileSize s p ≡ 4 * numbersOf 8 s p
   due-is = omega arith
 
-  shaped-of : misshapen ns ss ds cs ≡ false → Shaped ns ss ds cs
+  pub shaped-of : misshapen ns ss ds cs ≡ false → Shaped ns ss ds cs
   unfolding misshapen
   shaped-of e = shaped-is ns ss ds cs (not-false _ e)
 
-  unshaped-of : misshapen ns ss ds cs ≡ true → Shaped ns ss ds cs → ⊥
+  pub unshaped-of : misshapen ns ss ds cs ≡ true → Shaped ns ss ds cs → ⊥
   unfolding misshapen
   unshaped-of e h = subst T (sym (is-shaped ns ss ds cs h) ∙ not-true _ e) tt
 
-  headed-of : firstFault (headerChecks 8 s p) ≡ Fine → Headed s p
-  unfolding headerChecks
-  headed-of e =
-      let a = passed _ Header 4 _ e in
-      let b = passed _ Header 8 _ (a .1) in
-      let c = passed _ Header 16 _ (b .1) in
-      let d = passed _ Header 20 _ (c .1) in
-      let f = passed _ Header 24 _ (d .1) in
-      let g = passed _ Header 28 [] (f .1) in
-      record {
-        splines = leb-false (2 ^ 32) s (a .0);
-        points = leb-false (2 ^ 32) p (b .0);
-        starts = omega (arith, four, leb-false (2 ^ 32) (4 * startsFrom 8 s) (d .0));
-        deltas = omega (arith, twelve, leb-false (2 ^ 32) (4 * deltasFrom 8 s) (f .0));
-        coefficients = omega (arith, twenty, leb-false (2 ^ 32) (4 * coefficientsFrom 8 s p) (g .0));
-      }
+  pub of-shaped : Shaped ns ss ds cs → misshapen ns ss ds cs ≡ false
+  unfolding misshapen
+  of-shaped h = ap not (is-shaped ns ss ds cs h)
 
-  of-headed : Headed s p → firstFault (headerChecks 8 s p) ≡ Fine
-  of-headed h =
-      sym (header-fine 8 s p (h .splines) (h .points) (omega arith) (omega (arith, four, h .starts)) (omega (arith, twelve, h .deltas)) (omega (arith, twenty, h .coefficients)))
+  pub of-unshaped : (Shaped ns ss ds cs → ⊥) → misshapen ns ss ds cs ≡ true
+  unfolding misshapen
+  of-unshaped n = ap not (not-shaped ns ss ds cs n)
 
-  fit-of : firstFault Starts ≡ Fine → NoneOf (length ss) (MisfitAt ss)
-  fit-of e k h = fit-told (getD ss k nan) (fine-each misfit Coord ss nan (startsFrom 8 s) e k h)
+  eight-little : 8 < 16
+  eight-little = omega arith
 
-  of-fit : NoneOf (length ss) (MisfitAt ss) → firstFault Starts ≡ Fine
-  of-fit n = each-fine misfit Coord ss nan (startsFrom 8 s) (λ i h. told-fit (getD ss i nan) (n i h))
+  fine-writable : firstFault (writeChecks 8 ns ss ds cs) ≡ Fine → Writable ns ss ds cs
+  unfolding writeChecks
+  fine-writable e = let a = passed (misshapen ns ss ds cs) Shape 0 _ e in puts-writable 8 eight-little (Shaped ns ss ds cs) ns ss ds (shaped-of (a .0)) (a .1)
 
-  tame-of : firstFault Deltas ≡ Fine → NoneOf (length ds) (WildIn ds)
-  tame-of e k h = wild-told (getD ds k (pos 0)) (fine-each wild Delta ds (pos 0) (deltasFrom 8 s) e k h)
-
-  of-tame : NoneOf (length ds) (WildIn ds) → firstFault Deltas ≡ Fine
-  of-tame n = each-fine wild Delta ds (pos 0) (deltasFrom 8 s) (λ i h. told-tame (getD ds i (pos 0)) (n i h))
-
-  pub fine-writable : firstFault (writeChecks 8 ns ss ds cs) ≡ Fine → Writable ns ss ds cs
-  unfolding writeChecks valueChecks
-  fine-writable e =
-      let a = passed (misshapen ns ss ds cs) Shape 0 _ e in
-      let b = both-fine (headerChecks 8 s p) (valueChecks 8 s ss ds) (a .1) in
-      let c = both-fine Starts Deltas (b .1) in
-      record {
-        fitting = record { headable = record { shaped = shaped-of (a .0); headed = headed-of (b .0) }; fit = fit-of (c .0) };
-        tame = tame-of (c .1);
-      }
-
-  good-of : Shaped ns ss ds cs → shaped ns ss ds cs ≡ true
-  good-of h = is-shaped ns ss ds cs h
-
-  half-of : Shaped ns ss ds cs → length ds / 2 ≡ p
-  half-of h = half 8 ns ss ds cs (good-of h)
-
-  -- the header is as told, with half the double deltas as the points
-  head-of : Headable ns ss ds cs → firstFault (headerChecks 8 s (length ds / 2)) ≡ Fine
-  head-of h = rw (half-of (h .shaped)) (of-headed (h .headed))
-
-  headable-rest : Headable ns ss ds cs → firstFault (valueChecks 8 s ss ds) ≡ firstFault (writeChecks 8 ns ss ds cs)
-  headable-rest h = judge-rest 8 ns ss ds cs (good-of (h .shaped)) (head-of h)
-
-  pub writable-fine : Writable ns ss ds cs → firstFault (writeChecks 8 ns ss ds cs) ≡ Fine
+  writable-fine : Writable ns ss ds cs → firstFault (writeChecks 8 ns ss ds cs) ≡ Fine
+  unfolding writeChecks
   writable-fine w =
-      sym (headable-rest (w .fitting .headable)) ∙ sym (values-rest 8 s ss ds (of-fit (w .fitting .fit))) ∙ of-tame (w .tame)
+      passes (misshapen ns ss ds cs) Shape 0 _ (of-shaped (w .fitting .headable .shaped)) ∙ writable-puts 8 eight-little (Shaped ns ss ds cs) ns ss ds w
 
   module _ (room : ℕ) where
     abbrev R : Code → ℕ → Type 0
@@ -195,38 +79,22 @@ module _ (ns : List ℕ) (ss : List Float) (ds cs : List ℤ) where
     abbrev Last : List Check
     Last = check (ltb room (4 * numbersOf 8 s p)) Room 0 ∷ []
 
+    -- the table of Behind.antt at version 1
+    put-row : (c : Code) (q : ℕ) → PutRefusal 8 (Shaped ns ss ds cs) ns ss ds c q → R c q
+    put-row c q (behind.splines h a) = told.splines h a
+    put-row c q (behind.points h a b) = told.points h a b
+    put-row c q (behind.PutRefusal.starts h a b d) = told.starts h a b d
+    put-row c q (behind.PutRefusal.deltas h b d f) = told.deltas h b d f
+    put-row c q (behind.PutRefusal.coefficients h b d f) = told.coefficients h b d f
+    put-row c q (behind.PutRefusal.coord h k l n m) = told.coord h k l n m
+    put-row c q (behind.PutRefusal.delta f k l n m) = told.delta f k l n m
+
     module _ (c : Code) (q : ℕ) where
-      header-to : Shaped ns ss ds cs → firstFault (headerChecks 8 s p) ≡ Fault c q → R c q
-      unfolding headerChecks
-      header-to h e =
-          head-or R c q _ Header 4 _ e (λ t. told.splines h (leb-true (2 ^ 32) s t))
-          (λ a r. head-or R c q _ Header 8 _ r (λ t. told.points h (leb-false (2 ^ 32) s a) (leb-true (2 ^ 32) p t))
-          (λ b r2. head-or R c q _ Header 16 _ r2 (λ t. absurd (omega (arith, leb-true (2 ^ 32) (4 * 8) t)))
-          (λ d r3. head-or R c q _ Header 20 _ r3 (λ t. told.starts h (leb-false (2 ^ 32) s a) (leb-false (2 ^ 32) p b) (omega (arith, four, leb-true (2 ^ 32) (4 * startsFrom 8 s) t)))
-          (λ f r4. head-or R c q _ Header 24 _ r4
-          (λ t. told.deltas h (leb-false (2 ^ 32) p b) (omega (arith, four, leb-false (2 ^ 32) (4 * startsFrom 8 s) f)) (omega (arith, twelve, leb-true (2 ^ 32) (4 * deltasFrom 8 s) t)))
-          (λ g r5. head-or R c q _ Header 28 [] r5
-          (λ t. told.coefficients h (leb-false (2 ^ 32) p b) (omega (arith, twelve, leb-false (2 ^ 32) (4 * deltasFrom 8 s) g)) (omega (arith, twenty, leb-true (2 ^ 32) (4 * coefficientsFrom 8 s p) t)))
-          (λ i z. none-or R c q z))))))
-
-      values-to : Headable ns ss ds cs → firstFault (valueChecks 8 s ss ds) ≡ Fault c q → R c q
-      unfolding valueChecks
-      values-to h e =
-          append-or R c q Starts Deltas e
-          (λ f. numbers-or R c q misfit Coord nan ss (startsFrom 8 s) f
-          (λ i g n u. let at : 32 + 4 * s + 4 * i ≡ 4 * (startsFrom 8 s + i) = omega arith in
-          subst (R Coord) at (told.coord h i g (λ k l. fit-told (getD ss k nan) (n k l)) (misfit-told (getD ss i nan) u))))
-          (λ f r. let fits : Fitting ns ss ds cs = record { headable = h; fit = fit-of f } in
-          numbers-or R c q wild Delta (pos 0) ds (deltasFrom 8 s) r
-          (λ i g n u. let at : 32 + 12 * s + 4 * i ≡ 4 * (deltasFrom 8 s + i) = omega arith in
-          subst (R Delta) at (told.delta fits i g (λ k l. wild-told (getD ds k (pos 0)) (n k l)) (leb-true (2 ^ 30) (natAbs (getD ds i (pos 0))) u))))
-
       content-to : firstFault (writeChecks 8 ns ss ds cs) ≡ Fault c q → R c q
       unfolding writeChecks
       content-to e =
           head-or R c q (misshapen ns ss ds cs) Shape 0 _ e (λ t. told.shape (unshaped-of t))
-          (λ a r. append-or R c q (headerChecks 8 s p) (valueChecks 8 s ss ds) r (λ f. header-to (shaped-of a) f)
-          (λ f r2. values-to (record { shaped = shaped-of a; headed = headed-of f }) r2))
+          (λ a r. put-row c q (puts-to 8 eight-little (Shaped ns ss ds cs) ns ss ds (shaped-of a) c q r))
 
       fault-told : firstFault (writeChecks 8 ns ss ds cs ++ Last) ≡ Fault c q → R c q
       fault-told e =
@@ -239,26 +107,24 @@ module _ (ns : List ℕ) (ss : List Float) (ds cs : List ℤ) where
     content-from : (c : Code) (q : ℕ) → firstFault (writeChecks 8 ns ss ds cs) ≡ Fault c q → firstFault (writeChecks 8 ns ss ds cs ++ Last) ≡ Fault c q
     content-from c q e = faults-before (writeChecks 8 ns ss ds cs) Last c q e
 
-    header-from : Shaped ns ss ds cs → (q : ℕ) → Fault Header q ≡ firstFault (headerChecks 8 s p) → firstFault (writeChecks 8 ns ss ds cs) ≡ Fault Header q
-    header-from h q e = sym (judge-head 8 ns ss ds cs (good-of h) Header q (rw (half-of h) (sym e)))
+    put-from : (c : Code) (q : ℕ) → Shaped ns ss ds cs → PutRefusal 8 (Shaped ns ss ds cs) ns ss ds c q → firstFault (writeChecks 8 ns ss ds cs ++ Last) ≡ Fault c q
+    unfolding writeChecks
+    put-from c q h r =
+        content-from c q (passes (misshapen ns ss ds cs) Shape 0 _ (of-shaped h) ∙ told-puts 8 eight-little (Shaped ns ss ds cs) ns ss ds c q r)
+
+    unshaped-from : (Shaped ns ss ds cs → ⊥) → firstFault (writeChecks 8 ns ss ds cs ++ Last) ≡ Fault Shape 0
+    unfolding writeChecks
+    unshaped-from n = content-from Shape 0 (fails (misshapen ns ss ds cs) Shape 0 _ (of-unshaped n))
 
     told-fault : (c : Code) (q : ℕ) → R c q → firstFault (writeChecks 8 ns ss ds cs ++ Last) ≡ Fault c q
-    told-fault c q (told.shape n) = content-from c q (sym (judge-shape 8 ns ss ds cs (not-shaped ns ss ds cs n)))
-    told-fault c q (told.splines h a) = content-from c q (header-from h 4 (many-splines 8 s p a))
-    told-fault c q (told.points h a b) = content-from c q (header-from h 8 (many-points 8 s p a b))
-    told-fault c q (told.starts h a b d) = content-from c q (header-from h 20 (far-starts 8 s p a b (omega arith) (omega (arith, four))))
-    told-fault c q (told.deltas h b d f) =
-        content-from c q (header-from h 24 (far-deltas 8 s p (omega arith) b (omega arith) (omega (arith, four)) (omega (arith, twelve))))
-    told-fault c q (told.coefficients h b d f) =
-        content-from c q (header-from h 28 (far-coefficients 8 s p (omega arith) b (omega arith) (omega (arith, four)) (omega (arith, twelve)) (omega (arith, twenty))))
-    told-fault c q (told.coord h k l n m) =
-        let at : 4 * (startsFrom 8 s + k) ≡ 32 + 4 * s + 4 * k = omega arith in
-        let e = numbers-at misfit Coord nan ss (startsFrom 8 s) k l (λ j g. told-fit (getD ss j nan) (n j g)) (told-misfit (getD ss k nan) m) in
-        content-from c q (sym (headable-rest h) ∙ sym (values-start 8 s ss ds Coord (4 * (startsFrom 8 s + k)) e) ∙ ap (Fault Coord) at)
-    told-fault c q (told.delta f k l n m) =
-        let at : 4 * (deltasFrom 8 s + k) ≡ 32 + 12 * s + 4 * k = omega arith in
-        let e = numbers-at wild Delta (pos 0) ds (deltasFrom 8 s) k l (λ j g. told-tame (getD ds j (pos 0)) (n j g)) (le-leb (2 ^ 30) (natAbs (getD ds k (pos 0))) m) in
-        content-from c q (sym (headable-rest (f .headable)) ∙ sym (values-rest 8 s ss ds (of-fit (f .fit))) ∙ e ∙ ap (Fault Delta) at)
+    told-fault c q (told.shape n) = unshaped-from n
+    told-fault c q (told.splines h a) = put-from c q h (behind.splines h a)
+    told-fault c q (told.points h a b) = put-from c q h (behind.points h a b)
+    told-fault c q (told.starts h a b d) = put-from c q h (behind.PutRefusal.starts h a b d)
+    told-fault c q (told.deltas h b d f) = put-from c q h (behind.PutRefusal.deltas h b d f)
+    told-fault c q (told.coefficients h b d f) = put-from c q h (behind.PutRefusal.coefficients h b d f)
+    told-fault c q (told.coord h k l n m) = put-from c q (h .shaped) (behind.PutRefusal.coord h k l n m)
+    told-fault c q (told.delta f k l n m) = put-from c q (f .headable .shaped) (behind.PutRefusal.delta f k l n m)
     told-fault c q (told.room w h) =
         fine-before (writeChecks 8 ns ss ds cs) Last (writable-fine w) ∙ fails (ltb room (4 * numbersOf 8 s p)) Room 0 [] (lt-ltb room (4 * numbersOf 8 s p) (omega (arith, due-is)))
 
@@ -309,7 +175,7 @@ module _ (ns : List ℕ) (ss : List Float) (ds cs : List ℤ) where
               record {
                 writable = w;
                 held = omega (arith, due-is, ltb-false room (4 * numbersOf 8 s p) (t .0));
-                all = sym k ∙ file-size ns ss ds cs a (h .starts) (h .deltas) (h .coefficients) ∙ sym due-is;
+                all = sym k ∙ file-size version1 [] ns ss ds cs a refl (h .starts) (h .deltas) (h .coefficients) ∙ sym due-is;
               }
 
       of-done : (n : ℕ) → TraceAccepted ns ss ds cs room n → writeTraceOf ns ss ds cs a room .answer ≡ WriteAnswer.Done n
@@ -319,7 +185,7 @@ module _ (ns : List ℕ) (ss : List Float) (ds cs : List ℤ) where
           let x = fine-before (writeChecks 8 ns ss ds cs) Last (writable-fine (t .writable)) in
           let y = passes (ltb room (4 * numbersOf 8 s p)) Room 0 [] (le-ltb room (4 * numbersOf 8 s p) (omega (arith, due-is, t .held))) in
           ap (λ (v : Verdict). outcome room File v .answer) (x ∙ y)
-          ∙ ap WriteAnswer.Done (file-size ns ss ds cs a (h .starts) (h .deltas) (h .coefficients) ∙ sym due-is ∙ sym (t .all))
+          ∙ ap WriteAnswer.Done (file-size version1 [] ns ss ds cs a refl (h .starts) (h .deltas) (h .coefficients) ∙ sym due-is ∙ sym (t .all))
 
       pub write-done : (n : ℕ) → writeTraceOf ns ss ds cs a room .answer ≡ WriteAnswer.Done n ↔ TraceAccepted ns ss ds cs room n
       write-done n = (λ e. done-of n e, λ t. of-done n t)

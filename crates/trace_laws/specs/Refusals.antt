@@ -15,60 +15,32 @@ use Rattle.list.specs.List.{ListRooms}
 use Rattle.write_laws.specs.Refusals.{NoneOf}
 use Rattle.little.specs.Little.{numbersIn, signedIn}
 use Rattle.trace.specs.Trace.{part}
+use Rattle.trace_laws.specs.Behind.{number, S, P, OutsideAt, WildAt, LaidBy, SummedBy, PlacedBy, TamedBy, MisfitAt, WildIn, HeadedBy, HeadableBy, FittingBy, WritableBy}
 
--- ---- what a file says, by the numbers of it
-
--- number k of a file, which stands at byte 4 * k
-abbrev pub number : List ℕ → ℕ → ℕ
-number bytes k = getD (numbersIn bytes) k 0
-
--- the splines and the points that its header names
-abbrev pub S : List ℕ → ℕ
-S bytes = number bytes 1
-
-abbrev pub P : List ℕ → ℕ
-P bytes = number bytes 2
+-- ---- reading: what holds once so many checks have passed
 
 -- how long a file of s splines and p points is
 abbrev pub fileSize : ℕ → ℕ → ℕ
 fileSize s p = 32 + 524 * s + 8 * p
-
--- start number k is below -2^23, or 2^23 or more: `mag` is n both for n and for -(n + 1)
-abbrev pub OutsideAt : List ℕ → ℕ → Type 0
-OutsideAt bytes k = 2 ^ 23 ≤ mag (signedIn (number bytes (8 + S bytes + k)))
-
--- double delta number k is of magnitude 2^30 or more
-abbrev pub WildAt : List ℕ → ℕ → Type 0
-WildAt bytes k = 2 ^ 30 ≤ natAbs (signedIn (number bytes (8 + 3 * S bytes + k)))
-
--- ---- reading: what holds once so many checks have passed
 
 -- the first eight numbers are there, the version is 1, and the offsets of the four parts are as they should be
 pub record Opened (bytes : List ℕ) : Type 0 where
   pub long : 32 ≤ length bytes
   pub version : number bytes 0 ≡ 1
 
-pub record Laid (bytes : List ℕ) : Type 0 where
-  pub opened : Opened bytes
-  pub counts : number bytes 4 ≡ 32
-  pub starts : number bytes 5 ≡ 32 + 4 * S bytes
-  pub deltas : number bytes 6 ≡ 32 + 12 * S bytes
-  pub coefficients : number bytes 7 ≡ 32 + 12 * S bytes + 8 * P bytes
+abbrev pub Laid : List ℕ → Type 0
+Laid bytes = LaidBy 8 (Opened bytes) bytes
 
 -- it is as long as it should be, and its counts sum to its points
-pub record Summed (bytes : List ℕ) : Type 0 where
-  pub laid : Laid bytes
-  pub whole : length bytes ≡ fileSize (S bytes) (P bytes)
-  pub sums : pointsOf (part 8 (S bytes) (numbersIn bytes)) ≡ P bytes
+abbrev pub Summed : List ℕ → Type 0
+Summed bytes = SummedBy 8 (Laid bytes) bytes
 
 -- every start, and every double delta, is in range
-pub record Placed (bytes : List ℕ) : Type 0 where
-  pub summed : Summed bytes
-  pub inside : NoneOf (2 * S bytes) (OutsideAt bytes)
+abbrev pub Placed : List ℕ → Type 0
+Placed bytes = PlacedBy 8 (Laid bytes) bytes
 
-pub record Tamed (bytes : List ℕ) : Type 0 where
-  pub placed : Placed bytes
-  pub tame : NoneOf (2 * P bytes) (WildAt bytes)
+abbrev pub Tamed : List ℕ → Type 0
+Tamed bytes = TamedBy 8 (Laid bytes) bytes
 
 -- a buffer is too short
 pub data Lacks (rooms : ListRooms) (s p : ℕ) : Type 0 where
@@ -95,9 +67,9 @@ pub data TraceReadRefusal (rooms : ListRooms) (bytes : List ℕ) : Code → ℕ 
   -- 9: counts that do not sum to the points
   shape : Laid bytes → length bytes ≡ fileSize (S bytes) (P bytes) → (pointsOf (part 8 (S bytes) (numbersIn bytes)) ≡ P bytes → ⊥) → TraceReadRefusal rooms bytes Shape 0
   -- 3: start number k is the first out of range
-  coord : Summed bytes → (k : ℕ) → k < 2 * S bytes → NoneOf k (OutsideAt bytes) → OutsideAt bytes k → TraceReadRefusal rooms bytes Coord (32 + 4 * S bytes + 4 * k)
+  coord : Summed bytes → (k : ℕ) → k < 2 * S bytes → NoneOf k (OutsideAt 8 bytes) → OutsideAt 8 bytes k → TraceReadRefusal rooms bytes Coord (32 + 4 * S bytes + 4 * k)
   -- 5: double delta number k is the first out of range
-  delta : Placed bytes → (k : ℕ) → k < 2 * P bytes → NoneOf k (WildAt bytes) → WildAt bytes k → TraceReadRefusal rooms bytes Delta (32 + 12 * S bytes + 4 * k)
+  delta : Placed bytes → (k : ℕ) → k < 2 * P bytes → NoneOf k (WildAt 8 bytes) → WildAt 8 bytes k → TraceReadRefusal rooms bytes Delta (32 + 12 * S bytes + 4 * k)
   -- 7: nothing else is given, and a buffer is too short
   room : Tamed bytes → Lacks rooms (S bytes) (P bytes) → TraceReadRefusal rooms bytes Room 0
 
@@ -108,42 +80,19 @@ pub record TraceReadAccepted (rooms : ListRooms) (bytes : List ℕ) : Type 0 whe
 
 -- ---- writing
 
--- a number that is no start of the file; `fin s m e` has the magnitude m * up e / down e, and is negative where s is true
-pub data Misfit : Float → Type 0 where
-  no-number : Misfit nan
-  infinite : {s : Bool} → Misfit (inf s)
-  -- below -2^23, or 2^23 or more
-  below : {m : ℕ} {e : ℤ} → 2 ^ 23 * down e < m * up e → Misfit (fin true m e)
-  above : {s : Bool} {m : ℕ} {e : ℤ} → s ≡ false → 2 ^ 23 * down e ≤ m * up e → Misfit (fin s m e)
-  not-whole : {s : Bool} {m : ℕ} {e : ℤ} → (m * up e % down e ≡ 0 → ⊥) → Misfit (fin s m e)
-  minus-zero : {e : ℤ} → Misfit (fin true 0 e)
-
-abbrev pub MisfitAt : List Float → ℕ → Type 0
-MisfitAt ss k = Misfit (getD ss k nan)
-
-abbrev pub WildIn : List ℤ → ℕ → Type 0
-WildIn ds k = 2 ^ 30 ≤ natAbs (getD ds k (pos 0))
-
 -- 32 bits hold the counts and the offsets of the header
-pub record Headed (s p : ℕ) : Type 0 where
-  pub splines : s < 2 ^ 32
-  pub points : p < 2 ^ 32
-  pub starts : 32 + 4 * s < 2 ^ 32
-  pub deltas : 32 + 12 * s < 2 ^ 32
-  pub coefficients : 32 + 12 * s + 8 * p < 2 ^ 32
+abbrev pub Headed : ℕ → ℕ → Type 0
+Headed s p = HeadedBy 8 s p
 
 -- lengths agree, the header can be written, and so can every start, and every double delta
-pub record Headable (ns : List ℕ) (ss : List Float) (ds cs : List ℤ) : Type 0 where
-  pub shaped : Shaped ns ss ds cs
-  pub headed : Headed (length ns) (pointsOf ns)
+abbrev pub Headable : List ℕ → List Float → List ℤ → List ℤ → Type 0
+Headable ns ss ds cs = HeadableBy 8 (Shaped ns ss ds cs) ns
 
-pub record Fitting (ns : List ℕ) (ss : List Float) (ds cs : List ℤ) : Type 0 where
-  pub headable : Headable ns ss ds cs
-  pub fit : NoneOf (length ss) (MisfitAt ss)
+abbrev pub Fitting : List ℕ → List Float → List ℤ → List ℤ → Type 0
+Fitting ns ss ds cs = FittingBy 8 (Shaped ns ss ds cs) ns ss
 
-pub record Writable (ns : List ℕ) (ss : List Float) (ds cs : List ℤ) : Type 0 where
-  pub fitting : Fitting ns ss ds cs
-  pub tame : NoneOf (length ds) (WildIn ds)
+abbrev pub Writable : List ℕ → List Float → List ℤ → List ℤ → Type 0
+Writable ns ss ds cs = WritableBy 8 (Shaped ns ss ds cs) ns ss ds
 
 -- the table of writing: the code and the place, when; the place is the byte at which the number would stand
 pub data TraceWriteRefusal (ns : List ℕ) (ss : List Float) (ds cs : List ℤ) (room : ℕ) : Code → ℕ → Type 0 where

@@ -115,30 +115,43 @@ module _ (a b d e s p : ℕ) where
 
 -- ---- the whole file
 
--- no fault was found but for the room
-pub record Sound (bytes : List ℕ) : Type 0 where
-  pub long : 32 ≤ length bytes
-  pub whole : length bytes ≡ 4 * numbersOf 8 (splinesIn (numbersIn bytes)) (pointsIn (numbersIn bytes))
-  pub sums : pointsOf (part 8 (splinesIn (numbersIn bytes)) (numbersIn bytes)) ≡ pointsIn (numbersIn bytes)
-  pub placed : firstFault (numberChecks misplaced Coord (startsFrom 8 (splinesIn (numbersIn bytes))) (part (startsFrom 8 (splinesIn (numbersIn bytes))) (2 * splinesIn (numbersIn bytes)) (numbersIn bytes))) ≡ Fine
+-- no fault was found behind a header of h numbers
+pub record Sound (h : ℕ) (bytes : List ℕ) : Type 0 where
+  pub whole : length bytes ≡ 4 * numbersOf h (splinesIn (numbersIn bytes)) (pointsIn (numbersIn bytes))
+  pub sums : pointsOf (part h (splinesIn (numbersIn bytes)) (numbersIn bytes)) ≡ pointsIn (numbersIn bytes)
+  pub placed : firstFault (numberChecks misplaced Coord (startsFrom h (splinesIn (numbersIn bytes))) (part (startsFrom h (splinesIn (numbersIn bytes))) (2 * splinesIn (numbersIn bytes)) (numbersIn bytes))) ≡ Fine
 
-pub sound : (bytes : List ℕ) → firstFault (readChecks version1 (length bytes) (numbersIn bytes)) ≡ Fine → Sound bytes
-unfolding readChecks versionChecks bodyChecks partChecks
+pub sound-body : (h : ℕ) (bytes : List ℕ) → firstFault (bodyChecks h (length bytes) (numbersIn bytes)) ≡ Fine → Sound h bytes
+unfolding bodyChecks partChecks
+sound-body h bytes e =
+    let ns = numbersIn bytes in
+    let n = length bytes in
+    let g = both-fine (lengthChecks n (4 * numbersOf h (splinesIn ns) (pointsIn ns))) (partChecks h (splinesIn ns) (pointsIn ns) ns) e in
+    let k = passed _ Shape 0 _ (g .1) in
+    let i = both-fine (numberChecks misplaced Coord (startsFrom h (splinesIn ns)) (part (startsFrom h (splinesIn ns)) (2 * splinesIn ns) ns)) _ (k .1) in
+    record {
+      whole = length-due n (4 * numbersOf h (splinesIn ns) (pointsIn ns)) (g .0);
+      sums = eqb-true (pointsOf (part h (splinesIn ns) ns)) (pointsIn ns) (not-false _ (k .0));
+      placed = i .0;
+    }
+
+-- so a file of version 1 in which none was found but for the room
+pub sound : (bytes : List ℕ) → firstFault (readChecks version1 (length bytes) (numbersIn bytes)) ≡ Fine → Sound 8 bytes
+unfolding readChecks versionChecks
 sound bytes e =
     let ns = numbersIn bytes in
     let n = length bytes in
     let a = passed (ltb n 32) Short n _ e in
     let b = passed _ Header 0 _ (a .1) in
-    let d = both-fine (offsetChecks 8 ns) (bodyChecks 8 n ns) (b .1) in
-    let g = both-fine (lengthChecks n (4 * numbersOf 8 (splinesIn ns) (pointsIn ns))) (partChecks 8 (splinesIn ns) (pointsIn ns) ns) (d .1) in
-    let h = passed _ Shape 0 _ (g .1) in
-    let i = both-fine (numberChecks misplaced Coord (startsFrom 8 (splinesIn ns)) (part (startsFrom 8 (splinesIn ns)) (2 * splinesIn ns) ns)) _ (h .1) in
-    record {
-      long = ltb-false n 32 (a .0);
-      whole = length-due n (4 * numbersOf 8 (splinesIn ns) (pointsIn ns)) (g .0);
-      sums = eqb-true (pointsOf (part 8 (splinesIn ns) ns)) (pointsIn ns) (not-false _ (h .0));
-      placed = i .0;
-    }
+    sound-body 8 bytes (both-fine (offsetChecks 8 ns) (bodyChecks 8 n ns) (b .1) .1)
+
+-- with room for it, it can be loaded
+pub sound-loadable : (h : ℕ) (rooms : ListRooms) (bytes : List ℕ) → Sound h bytes → tight rooms (splinesIn (numbersIn bytes)) (pointsIn (numbersIn bytes)) ≡ false
+    → Loadable bytes h (splinesIn (numbersIn bytes)) (pointsIn (numbersIn bytes)) rooms
+sound-loadable h rooms bytes k t =
+    let ns = numbersIn bytes in
+    let r = roomy (rooms .counts) (rooms .starts) (rooms .deltas) (rooms .coefficients) (splinesIn ns) (pointsIn ns) t in
+    record { whole = k .whole; sums = k .sums; placed = k .placed; counts = r .0; starts = r .1; deltas = r .3; coefficients = r .2 }
 
 module _ (rooms : ListRooms) (bytes : List ℕ) where
   abbrev Content : List Check
@@ -164,9 +177,7 @@ module _ (rooms : ListRooms) (bytes : List ℕ) where
       let ns = numbersIn bytes in
       let b = both-fine Content _ e in
       let t = passed (tight rooms (splinesIn ns) (pointsIn ns)) Room 0 [] (b .1) in
-      let r = roomy (rooms .counts) (rooms .starts) (rooms .deltas) (rooms .coefficients) (splinesIn ns) (pointsIn ns) (t .0) in
-      let k = sound bytes (b .0) in
-      record { whole = k .whole; sums = k .sums; placed = k .placed; counts = r .0; starts = r .1; deltas = r .3; coefficients = r .2 }
+      sound-loadable 8 rooms bytes (sound bytes (b .0)) (t .0)
 
   pub judged-fine : firstFault (wholeChecks rooms bytes) ≡ Fine → readTrace rooms bytes ≡ got (describedIn 8 (numbersIn bytes)) []
   unfolding readTrace
@@ -182,17 +193,17 @@ unfolding startIn
 map-starts [] = refl
 map-starts (u ∷ us) = ap (λ (t : List Float). f32Of (signedIn u) ∷ t) (map-starts us)
 
-pub all-loaded : (bytes : List ℕ) (rooms : ListRooms) (s p : ℕ) (a : ℤ) (n n′ : List ℕ) (f f′ : List Float) (d d′ c c′ : List ℤ)
-    → Loadable bytes 8 (splinesIn (numbersIn bytes)) (pointsIn (numbersIn bytes)) rooms
+pub all-loaded : (h : ℕ) (bytes : List ℕ) (rooms : ListRooms) (s p : ℕ) (a : ℤ) (n n′ : List ℕ) (f f′ : List Float) (d d′ c c′ : List ℤ)
+    → Loadable bytes h (splinesIn (numbersIn bytes)) (pointsIn (numbersIn bytes)) rooms
     → s ≡ splinesIn (numbersIn bytes) → p ≡ pointsIn (numbersIn bytes) → a ≡ signedIn (getD (numbersIn bytes) 3 0)
-    → Loaded (numbersIn bytes) 8 s p n n′ f f′ d d′ c c′
-    → ListLeft (got (describedIn 8 (numbersIn bytes)) []) (ReadAnswer.Done s p a) n n′ f f′ d d′ c c′
+    → Loaded (numbersIn bytes) h s p n n′ f f′ d d′ c c′
+    → ListLeft (got (describedIn h (numbersIn bytes)) []) (ReadAnswer.Done s p a) n n′ f f′ d d′ c c′
 unfolding describedIn
-all-loaded bytes rooms s p a n n′ f f′ d d′ c c′ g is ip ia l =
+all-loaded h bytes rooms s p a n n′ f f′ d d′ c c′ g is ip ia l =
     let ns = numbersIn bytes in
-    let k : length (part 8 (splinesIn ns) ns) ≡ splinesIn ns = held-length bytes 8 (splinesIn ns) (omega (arith, g .whole)) in
+    let k : length (part h (splinesIn ns) ns) ≡ splinesIn ns = held-length bytes h (splinesIn ns) (omega (arith, g .whole)) in
     let m = rw (is, ip) at l in
-    (rw (is, ip, ia, k, g .sums), m .counts, rw (map-starts (part (startsFrom 8 (splinesIn ns)) (2 * splinesIn ns) ns)) at (m .starts), m .deltas, m .coefficients)
+    (rw (is, ip, ia, k, g .sums), m .counts, rw (map-starts (part (startsFrom h (splinesIn ns)) (2 * splinesIn ns) ns)) at (m .starts), m .deltas, m .coefficients)
 
 left-done : (x : Described) (rooms : ListRooms) (r : ReadAnswer) (n′ : List ℕ) (s′ : List Float) (d′ c′ : List ℤ)
     → ListLeft (got x []) r (replicate (rooms .counts) 0) n′ (replicate (rooms .starts) zeroF32) s′ (replicate (rooms .deltas) (pos 0)) d′ (replicate (rooms .coefficients) (pos 0)) c′
@@ -201,8 +212,9 @@ left-done x rooms (ReadAnswer.Done i m a) n′ s′ d′ c′ h = done (got x []
 left-done (described b zs ns ds cs) rooms (ReadAnswer.Refused k p) n′ s′ d′ c′ h = let z : _≡_ {A = ℕ} 0 1 = cc (h .0) in absurd (omega arith)
 
 module _ (bytes n wn : List ℕ) (s ws : List Float) (d wd c wc : List ℤ) (w : Wiped n wn s ws d wd c wc) where
-  same : roomsOf wn ws wd wc ≡ roomsOf n s d c
-  same =
+  -- clearing keeps the lengths
+  pub same-rooms : roomsOf wn ws wd wc ≡ roomsOf n s d c
+  same-rooms =
       rw (
         ap length (w .counts) ∙ length-replicate {A = ℕ} (length n) 0,
         ap length (w .starts) ∙ length-replicate (length s) zeroF32,
@@ -210,18 +222,24 @@ module _ (bytes n wn : List ℕ) (s ws : List Float) (d wd c wc : List ℤ) (w :
         ap length (w .coefficients) ∙ length-replicate (length c) (pos 0),
       )
 
+  -- what a call that clears its buffers first leaves, whatever it reads
+  pub wiped-refused : (k : Code) (q : ℕ) → leaves (ReadAnswer.Refused k q) wn ws wd wc ≡ outcome (roomsOf n s d c) (stop k q)
+  wiped-refused k q = rw (w .counts, w .starts, w .deltas, w .coefficients)
+
+  pub wiped-done : (x : Described) (r : ReadAnswer) (n′ : List ℕ) (s′ : List Float) (d′ c′ : List ℤ) → ListLeft (got x []) r wn n′ ws s′ wd d′ wc c′
+      → leaves r n′ s′ d′ c′ ≡ outcome (roomsOf n s d c) (got x [])
+  wiped-done x r n′ s′ d′ c′ h = left-done x (roomsOf n s d c) r n′ s′ d′ c′ (rw (w .counts, w .starts, w .deltas, w .coefficients) at h)
+
   pub read-refused : (k : Code) (q : ℕ) → firstFault (wholeChecks (roomsOf wn ws wd wc) bytes) ≡ Fault k q
       → leaves (ReadAnswer.Refused k q) wn ws wd wc ≡ readTraceOf (roomsOf n s d c) bytes
   unfolding readTraceOf
-  read-refused k q e =
-      rw (judged-fault (roomsOf n s d c) bytes k q (rw same at e), w .counts, w .starts, w .deltas, w .coefficients)
+  read-refused k q e = rw (judged-fault (roomsOf n s d c) bytes k q (rw same-rooms at e)) (wiped-refused k q)
 
   pub read-done : (r : ReadAnswer) (n′ : List ℕ) (s′ : List Float) (d′ c′ : List ℤ) → firstFault (wholeChecks (roomsOf wn ws wd wc) bytes) ≡ Fine
       → ListLeft (got (describedIn 8 (numbersIn bytes)) []) r wn n′ ws s′ wd d′ wc c′
       → leaves r n′ s′ d′ c′ ≡ readTraceOf (roomsOf n s d c) bytes
   unfolding readTraceOf
   read-done r n′ s′ d′ c′ e h =
-      rw (judged-fine (roomsOf n s d c) bytes (rw same at e))
-      (left-done (describedIn 8 (numbersIn bytes)) (roomsOf n s d c) r n′ s′ d′ c′ (rw (w .counts, w .starts, w .deltas, w .coefficients) at h))
+      rw (judged-fine (roomsOf n s d c) bytes (rw same-rooms at e)) (wiped-done (describedIn 8 (numbersIn bytes)) r n′ s′ d′ c′ h)
 
 -- Assumes nothing.

@@ -74,7 +74,7 @@ fn load_starts(bytes: &[u8], from: usize, n: usize, out: &mut [f32])
 // ---- the whole file
 
 // The four parts of s splines and p points, behind a header of h numbers.
-fn load_parts(
+pub fn load_parts(
     bytes: &[u8],
     h: usize,
     s: usize,
@@ -121,7 +121,7 @@ fn load(
 }
 
 // Whether buffers of these lengths lack room for s splines and p points.
-fn lacks_room(
+pub fn lacks_room(
     counts: usize,
     starts: usize,
     deltas: usize,

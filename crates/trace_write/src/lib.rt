@@ -24,7 +24,7 @@ ghost use Rattle.trace_write.specs.Steps.{startNumber, partNumbers, Putt
 // ---- a part of the file
 
 // Numbers as they are.
-fn put_numbers(numbers: &[u32], bytes: &mut [u8], from: usize)
+pub fn put_numbers(numbers: &[u32], bytes: &mut [u8], from: usize)
     requires { ⌜ 4 * (from + length (now numbers)) ≤ length (now bytes) ⌝ }
     ensures { λ _. ⌜ now (bytes .exit) ≡ sets (now (bytes .entry)) (4 * from) (bytesOf (now (numbers .entry))) ⌝ }
 {
@@ -36,7 +36,7 @@ fn put_numbers(numbers: &[u32], bytes: &mut [u8], from: usize)
 }
 
 // Signed numbers.
-fn put_signed(numbers: &[i32], bytes: &mut [u8], from: usize)
+pub fn put_signed(numbers: &[i32], bytes: &mut [u8], from: usize)
     requires { ⌜ 4 * (from + length (now numbers)) ≤ length (now bytes) ⌝ }
     ensures { λ _. ⌜ now (bytes .exit) ≡ sets (now (bytes .entry)) (4 * from) (bytesOf (map unsignedOf (now (numbers .entry)))) ⌝ }
 {
@@ -56,7 +56,7 @@ fn start_number(x: f32) -> u32
 }
 
 // Starts.
-fn put_starts(starts: &[f32], bytes: &mut [u8], from: usize)
+pub fn put_starts(starts: &[f32], bytes: &mut [u8], from: usize)
     requires { ⌜ (4 * (from + length (now starts)) ≤ length (now bytes)) × (firstFault (numberChecks misfit Code.Coord from (now starts)) ≡ Verdict.Fine) ⌝ }
     ensures { λ _. ⌜ now (bytes .exit) ≡ sets (now (bytes .entry)) (4 * from) (bytesOf (map startNumber (now (starts .entry)))) ⌝ }
 {

@@ -18,13 +18,13 @@ enum-told : tie.Need-enum-told
 enum-told c = search needs
 
 number-at-requires : tie.Need-number-at-requires
-number-at-requires c κs = omega (arith, sound (now (c .before .before .before .before .args .bytes)) (sym (c .before .before .judge .ensures) ∙ c .enum-told .given .1) .long)
+number-at-requires c κs = omega (arith, sound (now (c .before .before .before .before .args .bytes)) (sym (c .before .before .judge .ensures) ∙ c .enum-told .given .1) .whole)
 
 cast-s : tie.Need-cast-s
 cast-s c = search needs
 
 number-at-requires-2 : tie.Need-number-at-requires-2
-number-at-requires-2 c κs = omega (arith, sound (now (c .before .before .before .before .before .args .bytes)) (sym (c .before .before .before .judge .ensures) ∙ c .before .enum-told .given .1) .long)
+number-at-requires-2 c κs = omega (arith, sound (now (c .before .before .before .before .before .args .bytes)) (sym (c .before .before .before .judge .ensures) ∙ c .before .enum-told .given .1) .whole)
 
 cast-p : tie.Need-cast-p
 cast-p c = search needs

@@ -51,7 +51,7 @@ returns c =
     let a = e .before .before .before .before .before .before .before .args in
     let z = toZ-ofZ {w = w32} {z = e .signed .result} (record { sfits = e .signed .ok }) in
     let n = e .before .number-at3 .ensures in
-    all-loaded (now (a .bytes)) (roomsOf (now (a .counts)) (now (a .starts)) (now (a .deltas)) (now (a .coefficients))) _ _ _ _ _ _ _ _ _ _ _
+    all-loaded 8 (now (a .bytes)) (roomsOf (now (a .counts)) (now (a .starts)) (now (a .deltas)) (now (a .coefficients))) _ _ _ _ _ _ _ _ _ _ _
     (e .before .before .before .before .before .before .before .pre) (e .before .before .before .number-at .ensures) (e .before .before .number-at2 .ensures) (z ∙ e .signed .ensures ∙ ap signedIn n) (b .load-parts .ensures)
 
 pub load-spec : {M : Type 1} → statement M

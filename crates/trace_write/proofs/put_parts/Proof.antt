@@ -42,7 +42,7 @@ returns : tie.Need-returns
 returns c =
     let a = c .before .before .before .before .before .before .before .before .before .before .before .before .before .before .before .before .before .before .before .args in
     let h = c .before .before .before .before .before .before .before .before .before .before .before .before .before .before .before .before .before .before .before .pre in
-    parts-put (now (a .counts)) (now (a .starts)) (now (a .deltas)) (now (a .coefficients)) (now (a .bytes)) _ _ _ _ (h .pairs)
+    parts-put 8 (now (a .counts)) (now (a .starts)) (now (a .deltas)) (now (a .coefficients)) (now (a .bytes)) _ _ _ _ (h .pairs)
     (c .before .before .before .before .before .before .before .before .before .before .before .before .before .before .put-numbers .ensures) (c .before .before .before .before .before .before .before .before .before .before .put-starts .ensures) (c .before .before .before .before .before .before .put-signed .ensures) (c .before .before .put-signed2 .ensures)
 
 pub put-parts-spec : {M : Type 1} → statement M

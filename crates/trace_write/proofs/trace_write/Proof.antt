@@ -3,6 +3,8 @@ use mathlib.Core.Path.{refl, sym, _∙_}
 use native.Mathlib.Omega.{arith}
 use denote.Ref.{now}
 use lib.ListN.{length}
+use mathlib.Core.List.{[]}
+use Rattle.trace.specs.Trace.{version1}
 use mir.Syntax.{w32}
 use mir.Facts.{toZ-ofZ}
 use Rattle.trace_write.proofs.Puts.{file-put, judged, size-is, half-is, answer-fault, answer-room, answer-done}
@@ -25,7 +27,7 @@ enum-told c = search needs
 mul-size : tie.Need-mul-size
 mul-size c =
     let a = c .before .before .before .before .before .before .before .before .before .before .args in
-    let j = judged (now (a .counts)) (now (a .starts)) (now (a .deltas)) (now (a .coefficients)) (sym (c .before .before .judge .ensures) ∙ c .enum-told .given .1) in
+    let j = judged 8 (now (a .counts)) (now (a .starts)) (now (a .deltas)) (now (a .coefficients)) (sym (c .before .before .judge .ensures) ∙ c .enum-told .given .1) in
     record { fits = omega (arith, j .few, j .fewer, j .points) }
 
 mul-size-2 : tie.Need-mul-size-2
@@ -34,19 +36,19 @@ mul-size-2 c = search needs
 add-size : tie.Need-add-size
 add-size c =
     let a = c .before .before .before .before .before .before .before .before .before .before .args in
-    let j = judged (now (a .counts)) (now (a .starts)) (now (a .deltas)) (now (a .coefficients)) (sym (c .before .before .judge .ensures) ∙ c .enum-told .given .1) in
+    let j = judged 8 (now (a .counts)) (now (a .starts)) (now (a .deltas)) (now (a .coefficients)) (sym (c .before .before .judge .ensures) ∙ c .enum-told .given .1) in
     record { fits = omega (arith, j .few, j .fewer, j .points) }
 
 add-size-2 : tie.Need-add-size-2
 add-size-2 c =
     let a = c .before .before .before .before .before .before .before .before .before .before .args in
-    let j = judged (now (a .counts)) (now (a .starts)) (now (a .deltas)) (now (a .coefficients)) (sym (c .before .before .judge .ensures) ∙ c .enum-told .given .1) in
+    let j = judged 8 (now (a .counts)) (now (a .starts)) (now (a .deltas)) (now (a .coefficients)) (sym (c .before .before .judge .ensures) ∙ c .enum-told .given .1) in
     record { fits = omega (arith, j .few, j .fewer, j .points) }
 
 mul-size-3 : tie.Need-mul-size-3
 mul-size-3 c =
     let a = c .before .before .before .before .before .before .before .before .before .before .args in
-    let j = judged (now (a .counts)) (now (a .starts)) (now (a .deltas)) (now (a .coefficients)) (sym (c .before .before .judge .ensures) ∙ c .enum-told .given .1) in
+    let j = judged 8 (now (a .counts)) (now (a .starts)) (now (a .deltas)) (now (a .coefficients)) (sym (c .before .before .judge .ensures) ∙ c .enum-told .given .1) in
     record { fits = omega (arith, j .few, j .fewer, j .points) }
 
 same-length : tie.Need-same-length
@@ -60,26 +62,26 @@ returns c =
 cast-put-header : tie.Need-cast-put-header
 cast-put-header c =
     let a = c .before .before .before .before .before .before .before .before .before .before .before .before .args in
-    let j = judged (now (a .counts)) (now (a .starts)) (now (a .deltas)) (now (a .coefficients)) (sym (c .before .before .before .before .judge .ensures) ∙ c .before .before .enum-told .given .1) in
+    let j = judged 8 (now (a .counts)) (now (a .starts)) (now (a .deltas)) (now (a .coefficients)) (sym (c .before .before .before .before .judge .ensures) ∙ c .before .before .enum-told .given .1) in
     record { fits = omega (arith, j .few, j .fewer, j .points) }
 
 cast-put-header-2 : tie.Need-cast-put-header-2
 cast-put-header-2 c =
     let a = c .before .before .before .before .before .before .before .before .before .before .before .before .args in
-    let j = judged (now (a .counts)) (now (a .starts)) (now (a .deltas)) (now (a .coefficients)) (sym (c .before .before .before .before .judge .ensures) ∙ c .before .before .enum-told .given .1) in
+    let j = judged 8 (now (a .counts)) (now (a .starts)) (now (a .deltas)) (now (a .coefficients)) (sym (c .before .before .before .before .judge .ensures) ∙ c .before .before .enum-told .given .1) in
     record { fits = omega (arith, j .few, j .fewer, j .points) }
 
 put-header-requires : tie.Need-put-header-requires
 put-header-requires c κs =
     let a = c .before .before .before .before .before .before .before .before .before .before .before .before .args in
-    let j = judged (now (a .counts)) (now (a .starts)) (now (a .deltas)) (now (a .coefficients)) (sym (c .before .before .before .before .judge .ensures) ∙ c .before .before .enum-told .given .1) in
+    let j = judged 8 (now (a .counts)) (now (a .starts)) (now (a .deltas)) (now (a .coefficients)) (sym (c .before .before .before .before .judge .ensures) ∙ c .before .before .enum-told .given .1) in
     let left = c .before .if1 .left in
-    (omega (arith, left), omega (arith, j .offsets, half-is (now (a .counts)) (now (a .starts)) (now (a .deltas)) (now (a .coefficients)) j))
+    (omega (arith, left), omega (arith, j .offsets, half-is 8 (now (a .counts)) (now (a .starts)) (now (a .deltas)) (now (a .coefficients)) j))
 
 put-parts-requires : tie.Need-put-parts-requires
 put-parts-requires c κs =
     let a = c .before .before .before .before .before .before .before .before .before .before .before .before .before .before .before .before .args in
-    let j = judged (now (a .counts)) (now (a .starts)) (now (a .deltas)) (now (a .coefficients)) (sym (c .before .before .before .before .before .before .before .before .judge .ensures) ∙ c .before .before .before .before .before .before .enum-told .given .1) in
+    let j = judged 8 (now (a .counts)) (now (a .starts)) (now (a .deltas)) (now (a .coefficients)) (sym (c .before .before .before .before .before .before .before .before .judge .ensures) ∙ c .before .before .before .before .before .before .enum-told .given .1) in
     let room = c .before .before .before .before .before .if1 .left in
     record {
       few = j .few;
@@ -89,7 +91,7 @@ put-parts-requires c κs =
       points = j .points;
       rows = j .rows;
       fit = j .fit;
-      held = omega (arith, room, size-is (now (a .counts)) (now (a .starts)) (now (a .deltas)) (now (a .coefficients)) j, c .before .before .before .put-header .kept .0);
+      held = omega (arith, room, size-is 8 (now (a .counts)) (now (a .starts)) (now (a .deltas)) (now (a .coefficients)) j, c .before .before .before .put-header .kept .0);
     }
 
 same-length-2 : tie.Need-same-length-2
@@ -106,11 +108,11 @@ same-length-3 c = search needs
 returns-3 : tie.Need-returns-3
 returns-3 c =
     let a = c .before .before .before .before .before .before .before .before .before .before .before .before .before .before .before .before .before .before .before .args in
-    let j = judged (now (a .counts)) (now (a .starts)) (now (a .deltas)) (now (a .coefficients)) (sym (c .before .before .before .before .before .before .before .before .before .before .before .judge .ensures) ∙ c .before .before .before .before .before .before .before .before .before .enum-told .given .1) in
+    let j = judged 8 (now (a .counts)) (now (a .starts)) (now (a .deltas)) (now (a .coefficients)) (sym (c .before .before .before .before .before .before .before .before .before .before .before .judge .ensures) ∙ c .before .before .before .before .before .before .before .before .before .enum-told .given .1) in
     let h = c .before .before .before .before .before .before .put-header in
     let z = toZ-ofZ {w = w32} {z = a .adjustment} (c .before .before .before .before .before .before .before .before .before .before .before .before .before .before .before .before .before .before .before .fits .adjustment) in
-    let put = file-put (now (a .counts)) (now (a .starts)) (now (a .deltas)) (now (a .coefficients)) (a .adjustment) (c .before .before .before .before .before .before .before .before .before .before .before .before .before .before .clear-u8 .last .0) (h .last .0) (c .before .before .put-parts .last .1 .1 .1 .1 .0)
-    (rw (half-is (now (a .counts)) (now (a .starts)) (now (a .deltas)) (now (a .coefficients)) j, z) at (h .ensures)) (c .before .before .put-parts .ensures) in
+    let put = file-put version1 [] (now (a .counts)) (now (a .starts)) (now (a .deltas)) (now (a .coefficients)) (a .adjustment) refl (c .before .before .before .before .before .before .before .before .before .before .before .before .before .before .clear-u8 .last .0) (h .last .0) (c .before .before .put-parts .last .1 .1 .1 .1 .0)
+    (rw (half-is 8 (now (a .counts)) (now (a .starts)) (now (a .deltas)) (now (a .coefficients)) j, z) at (h .ensures)) (c .before .before .put-parts .ensures) in
     answer-done (now (a .counts)) (now (a .starts)) (now (a .deltas)) (now (a .coefficients)) (a .adjustment) (length (now (a .bytes))) (sym (c .before .before .before .before .before .before .before .before .before .before .before .judge .ensures) ∙ c .before .before .before .before .before .before .before .before .before .enum-told .given .1) (c .before .before .before .before .before .before .before .before .before .before .before .before .before .before .clear-u8 .last .0) _ _ (c .before .before .before .before .before .before .before .before .before .before .before .before .before .before .clear-u8 .ensures) refl (c .before .before .before .before .before .before .before .before .if1 .left) put
 
 pub trace-write-spec : {M : Type 1} → statement M

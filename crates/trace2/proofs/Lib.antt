@@ -1,0 +1,3 @@
+-- The laws of the crate `trace2`.
+pub mod Editions
+pub mod Versions

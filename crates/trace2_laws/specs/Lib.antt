@@ -1,0 +1,2 @@
+-- The definitions of the crate `trace2_laws`.
+pub mod Refusals

@@ -1,0 +1,2 @@
+-- The laws of the crate `trace2_read`.
+pub mod Seconds

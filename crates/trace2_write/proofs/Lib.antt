@@ -1,0 +1,2 @@
+-- The laws of the crate `trace2_write`.
+pub mod Seconds

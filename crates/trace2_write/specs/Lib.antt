@@ -1,0 +1,2 @@
+-- The definitions of the crate `trace2_write`.
+pub mod Steps
