@@ -7,3 +7,4 @@ pub mod Demands
 pub mod Requests
 pub mod ListCodes
 pub mod ProfileNumbers
+pub mod MakersNumbers

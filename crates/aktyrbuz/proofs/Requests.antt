@@ -35,12 +35,12 @@ use Rattle.hull.specs.Reach.{touched, ReachOutcome}
 use Rattle.hull.proofs.Alike.{whole-reach}
 use Rattle.hull.proofs.Hulls.{Least, one-less, Passing, touched-by, touched-if}
 use Rattle.hull.proofs.Reaches.{PassedReach, reached}
-use Rattle.picture.specs.Picture.{Lists, Found, RowPicture, rowPairs, imagePairs}
+use Rattle.picture.specs.Picture.{Lists, Found, RowPicture, rowPairs, imagePairs, built}
 use Rattle.picture.specs.Sights.{hides, KeptSight}
 use Rattle.picture.proofs.Sights.{none-hidden}
 use Rattle.picture.proofs.Keeping.{kept-count, kept-is, kept-owner, owned-for, shown-lists, kept-lists}
 use Rattle.aktyrbuz.specs.Calls.{KeptTable, RowRun, BuildDone, DrawCall, ReachCall, HideCall, HideCalls, withBits}
-use Rattle.aktyrbuz.specs.Requests.{Reaches, InReach, NoReach, HasSegment, OutsideReachUntouched, BothEnds, ReachEndsUpdated, ReachEmptyExactly, LeftEdgeReached, SegmentsNear, TablesNear, Beyond, RowIs, ColumnIs, Clear, DrawingsNear, OwnersOf, OwnersLeft, OwnersAscend, SplineOwns, OwnerIsSpline, NoOwner, SkippedHasNone, NumbersByKind, FaintCounted, FaintEnds, FaintByKind, FileReadBack, FileWrittenBack, OneFile, TraceReadCodes, TraceWriteCodes, TraceOneOutcome, NegativeFirstStart, DesksApart, OtherDeskUnseen, OwnBitsAlone, HideChangesOneBit, HideCodes, HideOneOutcome, BuiltIsLent, AsWithoutDesks, MeetsExactly, FirstBrokenRule, ProfileCodes, ProfileBuildIsBuild, ProfileBuildCodes, ProfileOneOutcome, Edition1In2, EditionExactly, OlderReaderSaysHeader, OneFilePerVersion, VersionOneAsBefore, FileReadCodes, FileWriteCodes, FileOneOutcome}
+use Rattle.aktyrbuz.specs.Requests.{Reaches, InReach, NoReach, HasSegment, OutsideReachUntouched, BothEnds, ReachEndsUpdated, ReachEmptyExactly, LeftEdgeReached, SegmentsNear, TablesNear, Beyond, RowIs, ColumnIs, Clear, DrawingsNear, OwnersOf, OwnersLeft, OwnersAscend, SplineOwns, OwnerIsSpline, NoOwner, SkippedHasNone, NumbersByKind, FaintCounted, FaintEnds, FaintByKind, FileReadBack, FileWrittenBack, OneFile, TraceReadCodes, TraceWriteCodes, TraceOneOutcome, NegativeFirstStart, DesksApart, OtherDeskUnseen, OwnBitsAlone, HideChangesOneBit, HideCodes, HideOneOutcome, BuiltIsLent, AsWithoutDesks, MeetsExactly, FirstBrokenRule, ProfileCodes, ProfileBuildIsBuild, ProfileBuildCodes, ProfileOneOutcome, Edition1In2, EditionExactly, OlderReaderSaysHeader, OneFilePerVersion, VersionOneAsBefore, FileReadCodes, FileWriteCodes, FileOneOutcome, TableAcceptedExactly, AcceptedTable, TableRefusal, FirstWrongRow, CheckCodes, CheckOneOutcome, BuiltIsAccepted, AcceptedDrawsTheSame}
 use Rattle.aktyrbuz.proofs.Readings.{starred-readings}
 use Rattle.aktyrbuz.proofs.Calls.{draw-equation, reach-equation, hide-equation, hide-told-by, built-by, kept-are, own-alike, row-by, hides-by, build-equation}
 use mathlib.Core.Bool.{Bool, true, false, true≢false, not, _&&_}
@@ -100,6 +100,16 @@ use Rattle.trace2.specs.Write.{writeFileOf}
 use Rattle.trace2.proofs.Versions.{other-as-before, write-as-before}
 use Rattle.trace2_laws.proofs.Trips.{older-header, written-older, written-then-read, read-then-written, read-so}
 use Rattle.aktyrbuz.specs.Trace2Calls.{FileReadCall, FileWriteCall}
+use Rattle.makers.specs.declared.CheckAnswer.{CheckAnswer}
+use Rattle.makers.specs.Check.{toldOf}
+use Rattle.makers.specs.Refusals as makers-table
+use Rattle.makers_laws.proofs.Refusals.{accepted-exactly, refused-row, refused-code}
+use Rattle.makers_laws.proofs.Refusals as makers-when
+use Rattle.makers_laws.specs.Cut.{cutToCounts}
+use Rattle.makers_laws.proofs.Built.{fits, fits-drawing, kept-fit, kept-is-right, kept-accepted, cut-kept, cut-tall}
+use Rattle.makers_laws.proofs.Drawn.{drawn-same, reached-same}
+use Rattle.aktyrbuz.specs.MakersCalls.{CheckCall}
+use Rattle.aktyrbuz.proofs.MakersNumbers.{check-equation}
 use Rattle.desks.specs.Hide as hide-table
 use Rattle.desks.proofs.Hides as hiding
 use Rattle.draw.proofs.Parts as parts
@@ -731,6 +741,67 @@ pub file-one-outcome : FileOneOutcome
 file-one-outcome = record {
   read = λ bytes rooms o q r t. file-read-equation bytes rooms o r ∙ sym (file-read-equation bytes rooms q t);
   write = λ ns ss ds cs a v e room o q w t. file-write-equation ns ss ds cs a v e room o w ∙ sym (file-write-equation ns ss ds cs a v e room q t);
+}
+
+-- ---- (xii) row tables from the other maker
+
+pub table-accepted-exactly : TableAcceptedExactly
+table-accepted-exactly t o c m = along (λ (u : CheckAnswer). u ≡ CheckAnswer.Done m) (check-equation t o c) (accepted-exactly _ _ _ _ _ _ m)
+
+table-refused-exactly : (t : Table) (o : CheckAnswer) → CheckCall t o → (c : Code) (p : ℕ) → o ≡ CheckAnswer.Refused c p ↔ TableRefusal t c p
+table-refused-exactly t o k c p = along (λ (u : CheckAnswer). u ≡ CheckAnswer.Refused c p) (check-equation t o k) (makers-when.refused-exactly _ _ _ _ _ _ c p)
+
+pub first-wrong-row : FirstWrongRow
+first-wrong-row = record {
+  exactly = λ t o k f w.
+      let x = table-refused-exactly t o k Code.Table w in
+      (λ e. refused-row _ _ _ _ _ _ f (x .0 e), λ h. x .1 (makers-table.row f h));
+  only = λ t o k f c p e. refused-code _ _ _ _ _ _ f (table-refused-exactly t o k c p .0 e);
+}
+
+-- an answer that is no refusal is a success
+else-done : (o : CheckAnswer) → ((c : Code) (p : ℕ) → o ≡ CheckAnswer.Refused c p → ⊥) → (n : ℕ) → ((m : ℕ) → o ≡ CheckAnswer.Done m → m ≡ n) → o ≡ CheckAnswer.Done n
+else-done (CheckAnswer.Done m) none n h = ap CheckAnswer.Done (h m refl)
+else-done (CheckAnswer.Refused c p) none n h = absurd (none c p refl)
+
+pub check-codes : CheckCodes
+check-codes = record {
+  exactly = table-refused-exactly;
+  told = λ t o k c p w. ap toldOf (table-refused-exactly t o k c p .1 w);
+  done = λ t o k m a. ap toldOf (table-accepted-exactly t o k m .1 a ∙ ap CheckAnswer.Done (a .told));
+  else-done = λ t o k none.
+      else-done o (λ c p e. none c p (table-refused-exactly t o k c p .0 e)) (t .entryCount) (λ m e. table-accepted-exactly t o k m .0 e .told);
+}
+
+pub check-one-outcome : CheckOneOutcome
+check-one-outcome t o q c k = check-equation t o c ∙ sym (check-equation t q k)
+
+pub built-is-accepted : BuiltIsAccepted
+built-is-accepted = record {
+  cut = λ d i r o s e estimate b q c.
+      let t = built-by b in
+      check-equation (cutToCounts (built i o s e)) q c ∙ kept-accepted t (cut-kept (built i o s e)) (cut-tall (built i o s e) (fits t));
+  kept = λ d i segments t k tall q c. check-equation t q c ∙ kept-accepted (built-by (k .done)) (k .kept) tall;
+}
+
+-- a table that is accepted fits and is right
+accepted-is : (u : Table) (m : ℕ) → CheckCall u (CheckAnswer.Done m) → AcceptedTable u m
+accepted-is u m c = table-accepted-exactly u (CheckAnswer.Done m) c m .0 refl
+
+pub accepted-draws-the-same : AcceptedDrawsTheSame
+accepted-draws-the-same = record {
+  draw = λ d i segments t u k same m c s y x0 n a o q z w.
+      let b = built-by (k .done) in
+      let v = accepted-is u m c in
+      draw-equation t s y x0 n a o z
+      ∙ drawn-same (same .count) (same .height) (same .floats) (kept-is-right b (k .kept)) (v .right) (kept-fit b (k .kept)) (fits-drawing u (v .fits)) s y x0 n a
+      ∙ sym (draw-equation u s y x0 n a q w);
+  reach = λ d i segments t u k same m c s y W o q z w.
+      let b = built-by (k .done) in
+      let v = accepted-is u m c in
+      reach-equation t s y W o z
+      ∙ reached-same (same .count) (same .height) (same .floats) (kept-is-right b (k .kept)) (v .right) (kept-fit b (k .kept)) (fits-drawing u (v .fits)) s y W
+      ∙ sym (reach-equation u s y W q w);
 }
 
 -- ---- (xiii) how near a listed row is

@@ -9,3 +9,5 @@ pub mod ProfileExported
 pub mod ProfileCalls
 pub mod Trace2Calls
 pub mod Trace2Exported
+pub mod MakersExported
+pub mod MakersCalls

@@ -26,7 +26,7 @@ use Rattle.hull.specs.declared.ReachAnswer.{ReachAnswer}
 use Rattle.aktyrbuz.specs.Calls.{DrawCall, ReachCall, HideCall, HideCalls, withBits, KeptTable, RowRun, ImageRun, BuildDone, BuildCall}
 use lib.Signed.{_≤ℤ_}
 use Rattle.near.specs.Near.{Edge, apart, Tight, RowsBy, ColumnsBy, RowsNear, ColumnsNear, EveryFinite}
-use Rattle.picture.specs.Picture.{Found, RowPicture, rowPairs, imagePairs}
+use Rattle.picture.specs.Picture.{Found, RowPicture, rowPairs, imagePairs, built}
 use Rattle.picture.specs.Sights.{hides, notHidden, KeptSight}
 use Rattle.painting.specs.Segments.{SplineMakes}
 use Rattle.table.specs.Segments.{MakesOwned}
@@ -64,6 +64,11 @@ use Rattle.trace2.specs.Editions.{editionIn}
 use Rattle.trace2.specs.Read.{FileOutcome, withEdition}
 use Rattle.trace2_laws.specs.Refusals.{FileReadRefusal, FileWriteRefusal, FileAccepted}
 use Rattle.aktyrbuz.specs.Trace2Calls.{FileReadCall, FileWriteCall}
+use Rattle.makers.specs.declared.CheckAnswer.{CheckAnswer}
+use Rattle.makers.specs.Check.{toldOf}
+use Rattle.makers.specs.Refusals.{Fits, FirstWrong, Accepted, CheckRefusal}
+use Rattle.makers_laws.specs.Cut.{cutToCounts}
+use Rattle.aktyrbuz.specs.MakersCalls.{CheckCall}
 use Rattle.draw.specs.Image as drawing
 use Rattle.rows.specs.Rows as listing
 use Rattle.numbers.specs.declared.KindI64.the-variants as I64
@@ -433,6 +438,61 @@ pub record FileOneOutcome : Type 0 where
   pub read : (bytes : List ℕ) (rooms : ListRooms) (o q : FileOutcome) → FileReadCall bytes rooms o → FileReadCall bytes rooms q → o ≡ q
   pub write : (ns : List ℕ) (ss : List Float) (ds cs : List ℤ) (a : ℤ) (v e room : ℕ) (o q : WriteOutcome)
       → FileWriteCall ns ss ds cs a v e room o → FileWriteCall ns ss ds cs a v e room q → o ≡ q
+
+-- ---- (xii) row tables from the other maker
+
+-- the words of the check, of a table as drawing takes it: accepted with m entries, of the right size, wrong first at row w, and refused with a code at a place
+abbrev pub AcceptedTable : Table → ℕ → Type 0
+AcceptedTable t m = Accepted (t .segments) (t .segmentCount) (t .height) (t .rowStarts) (t .entries) (t .entryCount) m
+
+abbrev pub FitsTable : Table → Type 0
+FitsTable t = Fits (t .segments) (t .segmentCount) (t .height) (t .rowStarts) (t .entries) (t .entryCount)
+
+abbrev pub FirstWrongIn : Table → ℕ → Type 0
+FirstWrongIn t w = FirstWrong (t .segments) (t .segmentCount) (t .height) (t .rowStarts) (t .entries) (t .entryCount) w
+
+abbrev pub TableRefusal : Table → Code → ℕ → Type 0
+TableRefusal t c p = CheckRefusal (t .segments) (t .segmentCount) (t .height) (t .rowStarts) (t .entries) (t .entryCount) c p
+
+-- a table is accepted exactly if each row of the image lists precisely the segments whose row range has that row, once each, ascending, with starts and entry count fitting
+abbrev pub TableAcceptedExactly : Type 0
+TableAcceptedExactly = (t : Table) (o : CheckAnswer) → CheckCall t o → (m : ℕ) → o ≡ CheckAnswer.Done m ↔ AcceptedTable t m
+
+-- where the height, the row starts and the counts fit, TABLE is answered with a row exactly if that row is the first wrong one, and there is no other code
+pub record FirstWrongRow : Type 0 where
+  pub exactly : (t : Table) (o : CheckAnswer) → CheckCall t o → FitsTable t → (w : ℕ) → o ≡ CheckAnswer.Refused Code.Table w ↔ FirstWrongIn t w
+  pub only : (t : Table) (o : CheckAnswer) → CheckCall t o → FitsTable t → (c : Code) (p : ℕ) → o ≡ CheckAnswer.Refused c p → c ≡ Code.Table
+
+-- the check refuses with a code at a place exactly when the table of refusals gives it, and tells its number, the place and no entries; else it is done and tells the entry count
+pub record CheckCodes : Type 0 where
+  pub exactly : (t : Table) (o : CheckAnswer) → CheckCall t o → (c : Code) (p : ℕ) → o ≡ CheckAnswer.Refused c p ↔ TableRefusal t c p
+  pub told : (t : Table) (o : CheckAnswer) → CheckCall t o → (c : Code) (p : ℕ) → TableRefusal t c p → toldOf o ≡ record { number = numberOf c; place = p; entries = 0 }
+  pub done : (t : Table) (o : CheckAnswer) → CheckCall t o → (m : ℕ) → AcceptedTable t m → toldOf o ≡ record { number = 0; place = 0; entries = t .entryCount }
+  pub else-done : (t : Table) (o : CheckAnswer) → CheckCall t o → ((c : Code) (p : ℕ) → TableRefusal t c p → ⊥) → o ≡ CheckAnswer.Done (t .entryCount)
+
+-- any two answers that the contract allows are equal
+abbrev pub CheckOneOutcome : Type 0
+CheckOneOutcome = (t : Table) (o q : CheckAnswer) → CheckCall t o → CheckCall t q → o ≡ q
+
+-- every table that a build leaves is accepted with its entries, cut to its counts or wherever it is kept with one more row start than rows
+pub record BuiltIsAccepted : Type 0 where
+  pub cut : (d : Description) (i : Setting) (r : BuildRooms) (o : BuildOutcome) (s e estimate : ℕ) → BuildDone d i r o s e estimate
+      → (q : CheckAnswer) → CheckCall (cutToCounts (built i o s e)) q → q ≡ CheckAnswer.Done e
+  pub kept : (d : Description) (i : Setting) (segments : List Segment) (t : Table) → KeptTable d i segments t → length (t .rowStarts) ≡ suc (t .height)
+      → (q : CheckAnswer) → CheckCall t q → q ≡ CheckAnswer.Done (t .entryCount)
+
+-- the segments in use are the same, and so is the height
+pub record SameSegments (t u : Table) : Type 0 where
+  pub count : t .segmentCount ≡ u .segmentCount
+  pub floats : take (8 * t .segmentCount) (t .segments) ≡ take (8 * t .segmentCount) (u .segments)
+  pub height : t .height ≡ u .height
+
+-- beside a table that a build left, kept anywhere, a table of the same segments that the check accepts gives every desk the same outcomes of draw and reach, in any row
+pub record AcceptedDrawsTheSame : Type 0 where
+  pub draw : (d : Description) (i : Setting) (segments : List Segment) (t u : Table) → KeptTable d i segments t → SameSegments t u → (m : ℕ) → CheckCall u (CheckAnswer.Done m)
+      → (s : Sight) (y x0 n : ℕ) (a : Channels) (o q : DrawOutcome) → DrawCall t s y x0 n a o → DrawCall u s y x0 n a q → o ≡ q
+  pub reach : (d : Description) (i : Setting) (segments : List Segment) (t u : Table) → KeptTable d i segments t → SameSegments t u → (m : ℕ) → CheckCall u (CheckAnswer.Done m)
+      → (s : Sight) (y W : ℕ) (o q : ReachOutcome) → ReachCall t s y W o → ReachCall u s y W q → o ≡ q
 
 -- ---- (xiii) how near a listed row is
 

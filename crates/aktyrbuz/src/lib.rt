@@ -14,6 +14,7 @@ ghost use Rattle.hull.specs.Reach.{reachOf};
 ghost use Rattle.aktyrbuz.specs.Exported.{signedOf, toldIn, toldRefusal, toldRead, toldWrite, toldBuild, toldDraw, toldReach, readLeaves, readExport, writeLeaves, writeExport, buildLeaves, buildExport, drawLeaves, drawExport, reachLeaves, reachExport};
 
 pub mod hiding;
+pub mod makers_tables;
 pub mod profiles;
 pub mod trace_files;
 pub mod trace_files2;

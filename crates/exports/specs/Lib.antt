@@ -4,3 +4,4 @@ pub mod TraceExports
 pub mod DeskExports
 pub mod ProfileExports
 pub mod Trace2Exports
+pub mod MakersExports

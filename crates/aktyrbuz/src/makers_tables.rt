@@ -1,0 +1,49 @@
+// The export for a row table that another maker offers: its check.
+ghost use mathlib.Core.Path.{_≡_};
+ghost use Rattle.makers.specs.Check.{checkOf};
+ghost use Rattle.aktyrbuz.specs.MakersExported.{toldCheck, checkLeaves, checkExport};
+use super::Told;
+use super::tell;
+use super::told_refusal;
+use makers::CheckAnswer;
+
+fn told_check(answer: CheckAnswer) -> Told
+    ensures { λ r. ⌜ r ≡ toldCheck answer ⌝ }
+{
+    match answer {
+        CheckAnswer::Done(entries) => Told {
+            number: 0,
+            place: 0,
+            first: entries as i64,
+            second: 0,
+            third: 0,
+            fourth: 0,
+        },
+        CheckAnswer::Refused(code, place) => told_refusal(code, place),
+    }
+}
+
+#[no_mangle]
+pub extern "C" fn aktyrbuz_check(
+    segments: &[f32],
+    segment_count: u32,
+    height: u32,
+    row_starts: &[u32],
+    entries: &[u32],
+    entry_count: u32,
+    answer: &mut [i64; 5],
+) -> u32
+    ensures { λ r. ⌜ checkLeaves r (now (answer .exit))
+        ≡ checkExport (checkOf (now (segments .entry)) «segment_count» height (now («row_starts» .entry)) (now (entries .entry)) «entry_count») ⌝ }
+{
+    let told = told_check(makers_search::check(
+        segments,
+        segment_count,
+        height,
+        row_starts,
+        entries,
+        entry_count,
+    ));
+    tell(answer, told);
+    told.number
+}

@@ -1,0 +1,3 @@
+-- The laws of the crate `makers`.
+pub mod Rows
+pub mod Short

@@ -1,0 +1,4 @@
+-- The definitions of the crate `makers`.
+pub mod Check
+pub mod Steps
+pub mod Refusals

@@ -1,0 +1,2 @@
+-- The definitions of the crate `makers_laws`.
+pub mod Cut

@@ -1,0 +1,3 @@
+-- The laws of the crate `makers_search`.
+pub mod Sums
+pub mod Answers
