@@ -40,7 +40,7 @@ use Rattle.picture.specs.Sights.{hides, KeptSight}
 use Rattle.picture.proofs.Sights.{none-hidden}
 use Rattle.picture.proofs.Keeping.{kept-count, kept-is, kept-owner, owned-for, shown-lists, kept-lists}
 use Rattle.aktyrbuz.specs.Calls.{KeptTable, RowRun, BuildDone, DrawCall, ReachCall, HideCall, HideCalls, withBits}
-use Rattle.aktyrbuz.specs.Requests.{Reaches, InReach, NoReach, HasSegment, OutsideReachUntouched, BothEnds, ReachEndsUpdated, ReachEmptyExactly, LeftEdgeReached, SegmentsNear, TablesNear, Beyond, RowIs, ColumnIs, Clear, DrawingsNear, OwnersOf, OwnersLeft, OwnersAscend, SplineOwns, OwnerIsSpline, NoOwner, SkippedHasNone, NumbersByKind, FaintCounted, FaintEnds, FaintByKind, FileReadBack, FileWrittenBack, OneFile, TraceReadCodes, TraceWriteCodes, TraceOneOutcome, NegativeFirstStart, DesksApart, OtherDeskUnseen, OwnBitsAlone, HideChangesOneBit, HideCodes, HideOneOutcome, BuiltIsLent, AsWithoutDesks, MeetsExactly, FirstBrokenRule, ProfileCodes, ProfileBuildIsBuild, ProfileBuildCodes, ProfileOneOutcome, Edition1In2, EditionExactly, OlderReaderSaysHeader, OneFilePerVersion, VersionOneAsBefore, FileReadCodes, FileWriteCodes, FileOneOutcome, TableAcceptedExactly, AcceptedTable, TableRefusal, FirstWrongRow, CheckCodes, CheckOneOutcome, BuiltIsAccepted, AcceptedDrawsTheSame}
+use Rattle.aktyrbuz.specs.Requests.{Reaches, InReach, NoReach, HasSegment, OutsideReachUntouched, BothEnds, ReachEndsUpdated, ReachEmptyExactly, LeftEdgeReached, SegmentsNear, TablesNear, Beyond, RowIs, ColumnIs, Clear, DrawingsNear, OwnersOf, OwnersLeft, OwnersAscend, SplineOwns, OwnerIsSpline, NoOwner, SkippedHasNone, NumbersByKind, FaintCounted, FaintEnds, FaintByKind, FileReadBack, FileWrittenBack, OneFile, TraceReadCodes, TraceWriteCodes, TraceOneOutcome, NegativeFirstStart, DesksApart, OtherDeskUnseen, OwnBitsAlone, HideChangesOneBit, HideCodes, HideOneOutcome, BuiltIsLent, AsWithoutDesks, MeetsExactly, FirstBrokenRule, ProfileCodes, ProfileBuildIsBuild, ProfileBuildCodes, ProfileOneOutcome, Edition1In2, EditionExactly, OlderReaderSaysHeader, OneFilePerVersion, VersionOneAsBefore, FileReadCodes, FileWriteCodes, FileOneOutcome, TableAcceptedExactly, AcceptedTable, TableRefusal, FirstWrongRow, CheckCodes, CheckOneOutcome, BuiltIsAccepted, AcceptedDrawsTheSame, PointsAsDefined, FirstBadByteTold, PointsRefusalsZero, PointsOneOutcome}
 use Rattle.aktyrbuz.proofs.Readings.{starred-readings}
 use Rattle.aktyrbuz.proofs.Calls.{draw-equation, reach-equation, hide-equation, hide-told-by, built-by, kept-are, own-alike, row-by, hides-by, build-equation}
 use mathlib.Core.Bool.{Bool, true, false, true≢false, not, _&&_}
@@ -102,14 +102,18 @@ use Rattle.trace2_laws.proofs.Trips.{older-header, written-older, written-then-
 use Rattle.aktyrbuz.specs.Trace2Calls.{FileReadCall, FileWriteCall}
 use Rattle.makers.specs.declared.CheckAnswer.{CheckAnswer}
 use Rattle.makers.specs.Check.{toldOf}
-use Rattle.makers.specs.Refusals as makers-table
 use Rattle.makers_laws.proofs.Refusals.{accepted-exactly, refused-row, refused-code}
-use Rattle.makers_laws.proofs.Refusals as makers-when
 use Rattle.makers_laws.specs.Cut.{cutToCounts}
 use Rattle.makers_laws.proofs.Built.{fits, fits-drawing, kept-fit, kept-is-right, kept-accepted, cut-kept, cut-tall}
 use Rattle.makers_laws.proofs.Drawn.{drawn-same, reached-same}
 use Rattle.aktyrbuz.specs.MakersCalls.{CheckCall}
 use Rattle.aktyrbuz.proofs.MakersNumbers.{check-equation}
+use Rattle.polyline.specs.Form.{PointsForm}
+use Rattle.polyline.specs.Read.{PointsOutcome, readPointsOf}
+use Rattle.polyline.specs.Write.{writePointsOf}
+use Rattle.aktyrbuz.specs.PolylineCalls.{PointsReadCall, PointsWriteCall}
+use Rattle.makers.specs.Refusals as makers-table
+use Rattle.makers_laws.proofs.Refusals as makers-when
 use Rattle.desks.specs.Hide as hide-table
 use Rattle.desks.proofs.Hides as hiding
 use Rattle.draw.proofs.Parts as parts
@@ -123,6 +127,8 @@ use Rattle.trace2_laws.proofs.Trips as versions
 use Rattle.trace2_laws.proofs.ReadWhen as reads-when
 use Rattle.trace2_laws.proofs.WriteWhen as writes-when
 use Rattle.aktyrbuz.specs.Trace2Calls as files
+use Rattle.polyline_laws.proofs.Answers as answers
+use Rattle.aktyrbuz.specs.PolylineCalls as polylines
 
 -- ---- (i) a trace file
 
@@ -333,6 +339,42 @@ reach-empty-exactly = record {
 pub left-edge-reached : LeftEdgeReached
 left-edge-reached t s y W first past r w j l cy e =
     reach-holds r 0 (record { in-part = w; entry = j; in-row = l; has = ap (λ (m : Segment). hasColumn m 0) e ∙ starred-readings .column-0 cy 0 })
+
+-- ---- (iv) line drawings
+
+points-read-equation : (text : List ℕ) (start deltas : ℕ) (o : PointsOutcome) → PointsReadCall text start deltas o → o ≡ readPointsOf start deltas text
+points-read-equation text start deltas o (polylines.reads κs _ _ _ _ _ _ _ p) = p
+
+points-write-equation : (ns : List ℕ) (ss : List Float) (ds cs : List ℤ) (k room : ℕ) (o : WriteOutcome) → PointsWriteCall ns ss ds cs k room o → o ≡ writePointsOf ns ss ds cs k room
+points-write-equation ns ss ds cs k room o (polylines.writes κs _ _ _ _ _ _ _ _ _ _ _ _ _ p) = p
+
+pub points-as-defined : PointsAsDefined
+points-as-defined = record { read = points-read-equation; write = points-write-equation }
+
+pub first-bad-byte : FirstBadByteTold
+first-bad-byte = record {
+  place = λ text start deltas o r p. along (λ (u : PointsOutcome). u .answer ≡ WriteAnswer.Refused Code.Text p) (points-read-equation text start deltas o r) (answers.text-exactly start deltas text p);
+  form = λ text start deltas o r.
+      subst (λ (u : PointsOutcome). PointsForm text ↔ ((p : ℕ) → u .answer ≡ WriteAnswer.Refused Code.Text p → ⊥)) (sym (points-read-equation text start deltas o r)) (answers.form-exactly start deltas text);
+}
+
+pub points-refusals-zero : PointsRefusalsZero
+points-refusals-zero = record {
+  read = λ text start deltas o r c p e.
+      let is = points-read-equation text start deltas o r in
+      let q = is ∙ answers.read-refused start deltas text c p (sym (ap (λ (u : PointsOutcome). u .answer) is) ∙ e) in
+      record { told = ap (λ (u : PointsOutcome). u .told) q; start-zero = ap (λ (u : PointsOutcome). u .start) q; deltas-zero = ap (λ (u : PointsOutcome). u .deltas) q };
+  write = λ ns ss ds cs k room o w c p e.
+      let is = points-write-equation ns ss ds cs k room o w in
+      let q = is ∙ answers.write-refused ns ss ds cs k room c p (sym (ap (λ (u : WriteOutcome). u .answer) is) ∙ e) in
+      record { answer = e; told = ap (λ (u : WriteOutcome). u .told) q; list = ap (λ (u : WriteOutcome). u .list) q };
+}
+
+pub points-one-outcome : PointsOneOutcome
+points-one-outcome = record {
+  read = λ text start deltas o q r t. points-read-equation text start deltas o r ∙ sym (points-read-equation text start deltas q t);
+  write = λ ns ss ds cs k room o q w t. points-write-equation ns ss ds cs k room o w ∙ sym (points-write-equation ns ss ds cs k room q t);
+}
 
 -- ---- (v) the number of a segment's spline
 

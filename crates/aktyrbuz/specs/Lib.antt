@@ -9,5 +9,7 @@ pub mod ProfileExported
 pub mod ProfileCalls
 pub mod Trace2Calls
 pub mod Trace2Exported
+pub mod Polylines
 pub mod MakersExported
 pub mod MakersCalls
+pub mod PolylineCalls

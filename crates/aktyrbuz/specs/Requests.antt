@@ -43,7 +43,7 @@ use Rattle.list.specs.Steps.{zeroF32}
 use Rattle.reader.specs.Read.{Outcome, padded}
 use Rattle.reader.specs.Refusals.{ReadRefused}
 use Rattle.reader.specs.declared.ReadAnswer.{ReadAnswer}
-use Rattle.writer.specs.Write.{WriteOutcome}
+use Rattle.writer.specs.Write.{WriteOutcome, Told}
 use Rattle.writer.specs.declared.WriteAnswer.{WriteAnswer}
 use Rattle.write_laws.specs.Refusals.{WriteRefused}
 use Rattle.roundtrip.specs.Enough.{Enough}
@@ -69,6 +69,11 @@ use Rattle.makers.specs.Check.{toldOf}
 use Rattle.makers.specs.Refusals.{Fits, FirstWrong, Accepted, CheckRefusal}
 use Rattle.makers_laws.specs.Cut.{cutToCounts}
 use Rattle.aktyrbuz.specs.MakersCalls.{CheckCall}
+use Rattle.polyline.specs.Form.{PointsForm}
+use Rattle.polyline.specs.Read.{PointsOutcome, readPointsOf}
+use Rattle.polyline.specs.Write.{writePointsOf}
+use Rattle.polyline_laws.specs.Begins.{FirstBad}
+use Rattle.aktyrbuz.specs.PolylineCalls.{PointsReadCall, PointsWriteCall}
 use Rattle.draw.specs.Image as drawing
 use Rattle.rows.specs.Rows as listing
 use Rattle.numbers.specs.declared.KindI64.the-variants as I64
@@ -191,6 +196,38 @@ abbrev pub LeftEdgeReached : Type 0
 LeftEdgeReached =
     (t : Table) (s : Sight) (y W first past : ℕ) → Reaches t s y W first past → 0 < W → (j : ℕ) → j < length (shownOf t s y) → (cy : Float)
     → segmentAt (t .segments) (getD (shownOf t s y) j 0) ≡ spot (fin true 5 (pos 0)) cy (fin false 1 (pos 1)) → InReach first past 0
+
+-- ---- (iv) line drawings
+
+-- the two calls answer and leave what their definitions say
+pub record PointsAsDefined : Type 0 where
+  pub read : (text : List ℕ) (start deltas : ℕ) (o : PointsOutcome) → PointsReadCall text start deltas o → o ≡ readPointsOf start deltas text
+  pub write : (ns : List ℕ) (ss : List Float) (ds cs : List ℤ) (k room : ℕ) (o : WriteOutcome) → PointsWriteCall ns ss ds cs k room o → o ≡ writePointsOf ns ss ds cs k room
+
+-- TEXT points to the first byte that no text of the form could have there, or to the end of a text that stops early, and to nothing else; it is given exactly when the text has not the form
+pub record FirstBadByteTold : Type 0 where
+  pub place : (text : List ℕ) (start deltas : ℕ) (o : PointsOutcome) → PointsReadCall text start deltas o
+      → (p : ℕ) → (o .answer ≡ WriteAnswer.Refused Code.Text p) ↔ FirstBad text p
+  pub form : (text : List ℕ) (start deltas : ℕ) (o : PointsOutcome) → PointsReadCall text start deltas o
+      → PointsForm text ↔ ((p : ℕ) → o .answer ≡ WriteAnswer.Refused Code.Text p → ⊥)
+
+-- a refusal tells its code's number and its place, and leaves nothing but zeros in every lent cell
+pub record PointsRefused (start deltas : ℕ) (c : Code) (p : ℕ) (o : PointsOutcome) : Type 0 where
+  pub told : _≡_ {A = Told} (o .told) (record { number = numberOf c; place = p; values = 0 })
+  pub start-zero : o .start ≡ replicate start zeroF32
+  pub deltas-zero : o .deltas ≡ replicate deltas (pos 0)
+
+pub record PointsRefusalsZero : Type 0 where
+  pub read : (text : List ℕ) (start deltas : ℕ) (o : PointsOutcome) → PointsReadCall text start deltas o
+      → (c : Code) (p : ℕ) → o .answer ≡ WriteAnswer.Refused c p → PointsRefused start deltas c p o
+  pub write : (ns : List ℕ) (ss : List Float) (ds cs : List ℤ) (k room : ℕ) (o : WriteOutcome) → PointsWriteCall ns ss ds cs k room o
+      → (c : Code) (p : ℕ) → o .answer ≡ WriteAnswer.Refused c p → WriteRefused room c p o
+
+-- any two outcomes are equal
+pub record PointsOneOutcome : Type 0 where
+  pub read : (text : List ℕ) (start deltas : ℕ) (o q : PointsOutcome) → PointsReadCall text start deltas o → PointsReadCall text start deltas q → o ≡ q
+  pub write : (ns : List ℕ) (ss : List Float) (ds cs : List ℤ) (k room : ℕ) (o q : WriteOutcome)
+      → PointsWriteCall ns ss ds cs k room o → PointsWriteCall ns ss ds cs k room q → o ≡ q
 
 -- ---- (v) the number of a segment's spline
 

@@ -15,6 +15,7 @@ ghost use Rattle.aktyrbuz.specs.Exported.{signedOf, toldIn, toldRefusal,
 
 pub mod hiding;
 pub mod makers_tables;
+pub mod polylines;
 pub mod profiles;
 pub mod trace_files;
 pub mod trace_files2;

@@ -5,3 +5,4 @@ pub mod DeskExports
 pub mod ProfileExports
 pub mod Trace2Exports
 pub mod MakersExports
+pub mod PolylineExports
