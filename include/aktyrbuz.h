@@ -2,7 +2,7 @@
  *
  * Every call takes any numbers and any lengths, ends, and never writes outside what it is lent. A call but aktyrbuz_ln returns a code,
  * AKTYRBUZ_DONE or a refusal, and fills five numbers: the place, then the counts that are named with the call, then zeros. A success has
- * place 0, a refusal counts 0. Where several codes apply, the first in the order of the checks is given.
+ * place 0, a refusal counts 0 (but AKTYRBUZ_PROFILE). Where several codes apply, the first in the order of the checks is given.
  *
  * A buffer is a pointer and a length in cells; a length of 0 may come with any pointer, NULL too. Buffers of one call do not overlap.
  * Nothing is kept between calls and nothing is allocated, so calls on different buffers may run at the same time.
@@ -32,21 +32,21 @@ enum aktyrbuz_code {
     AKTYRBUZ_TRAIL = 6,     /* values or bytes left over */
     AKTYRBUZ_ROOM = 7,      /* a lent buffer is too short for what is due */
     AKTYRBUZ_SIZE = 8,      /* a width or height above 2^23 */
-    AKTYRBUZ_SHAPE = 9,     /* lengths that disagree: S counts go with 2S starts, a double delta (x, y) a point and 128S coefficients; in a trace file counts that do not add up to its points */
+    AKTYRBUZ_SHAPE = 9,     /* lengths that disagree: S counts go with 2S starts, a double delta (x, y) a point and 128S coefficients; in a trace file counts that do not add up to its points; in a check row starts that are not height + 1 */
     AKTYRBUZ_POSITION = 10, /* a start, delta or point outside -2^23 up to but not including 2^23, or a NaN start */
     AKTYRBUZ_DISTANCE = 11, /* a spline whose steps add up to more than the area limit */
     AKTYRBUZ_AREA = 12,     /* splines whose estimates add up to more than the area limit */
     AKTYRBUZ_COINCIDE = 13, /* two adjacent control points are equal */
-    AKTYRBUZ_TABLE = 14,    /* a table that no build makes: a height above 2^23, more than 2^24 segments or 2^30 entries, counts that overrun the buffers, starts of row y that descend or pass the entries, an entry of it that names no segment, or one of no spline */
+    AKTYRBUZ_TABLE = 14,    /* a table that no build makes: a height above 2^23, more than 2^24 segments or 2^30 entries, counts that overrun the buffers, starts of row y that descend or pass the entries, an entry of it that names no segment, or one of no spline; in a check a row that lists anything but its segments, or entries left over */
     AKTYRBUZ_ROW = 15,      /* a row that is not below the height */
     AKTYRBUZ_SPAN = 16,     /* x0 + n above 2^23, or a channel shorter than n */
-    AKTYRBUZ_HEADER = 17,   /* a trace file of a version other than 1, or with an offset that is not its part's; writing: a count or offset of 2^32 or more */
+    AKTYRBUZ_HEADER = 17,   /* a trace file of a version that the call does not know, or with an offset that is not its part's; writing: a count or offset of 2^32 or more */
     AKTYRBUZ_TEXT = 18,     /* a byte that no text of points could have there, or a text that stops early */
     AKTYRBUZ_DESK = 19,     /* a desk other than 0 and 1 */
     AKTYRBUZ_TRACE = 20,    /* fewer shared bytes than the description had splines, or a bit of a spline without a byte */
     AKTYRBUZ_PROFILE = 21,  /* a description that breaks a rule of the fineness profile: the rule is the first count, the one refusal whose counts are not all 0 */
     AKTYRBUZ_EDITION = 22,  /* an edition other than 1 and 2, or edition 2 in a trace file of version 1 */
-    AKTYRBUZ_BAND = 23      /* a band past the last */
+    AKTYRBUZ_BAND = 23      /* kept for a band past the last; no call gives it yet */
 };
 
 /* The natural logarithm that building uses: a fixed sequence of operations, the same on every machine. */
@@ -112,6 +112,13 @@ uint32_t aktyrbuz_reach(const float *segments, size_t segments_len, const uint64
  * Checks: DESK, TRACE for a spline without a byte. Place: 0. Counts: none. */
 uint32_t aktyrbuz_hide(uint8_t *bits, size_t bits_len, uint32_t desk, uint64_t spline, bool hidden, int64_t answer[5]);
 
+/* Checks the row starts and entries of another maker for the segments of a build. They are accepted exactly if each row of the image lists just the segments whose rows have
+ * it, once each and ascending, with starts and entry count that fit: then they are those of the build, and draw the same.
+ * Checks: SIZE, SHAPE where row_starts are not height + 1 in number, TABLE for the counts (place 0), TABLE for the rows.
+ * Place: the first wrong row; a first start other than 0 makes row 0 wrong, and entries left after the last row give the height; SIZE, SHAPE: 0. Counts: entries. */
+uint32_t aktyrbuz_check(const float *segments, size_t segments_len, uint32_t segment_count, uint32_t height,
+                        const uint32_t *row_starts, size_t row_starts_len, const uint32_t *entries, size_t entries_len, uint32_t entry_count, int64_t answer[5]);
+
 /* Reads a trace file, a description without its picture, into a description. It has no limit of splines or points but its own length.
  *
  * The file is little-endian, four bytes a number: version 1, splines S, points P, adjustment, the byte offsets of the four parts, then from byte 32 on with no
@@ -128,6 +135,54 @@ uint32_t aktyrbuz_trace_read(const uint8_t *bytes, size_t bytes_len, uint32_t *c
 uint32_t aktyrbuz_trace_write(const uint32_t *counts, size_t counts_len, const float *starts, size_t starts_len,
                               const int32_t *deltas, size_t deltas_len, const int32_t *coefficients, size_t coefficients_len,
                               int32_t adjustment, uint8_t *bytes, size_t bytes_len, int64_t answer[5]);
+
+/* Reads the points of a line drawing, the value of an SVG points attribute, into a start and double deltas.
+ *
+ * The form is strict: pairs x,y with one comma, one space between pairs, decimal whole numbers of any length, a minus where needed, no leading zeros, no -0, nothing
+ * else, and at least one pair. Rooms: 2 cells of start, and 2 of deltas for each pair after the first. Cells past these, and all after a refusal, are 0.
+ * Checks: TEXT, then pair by pair POSITION and COINCIDE, then ROOM. What is taken is what building takes, but for distance and area.
+ * Place: TEXT: the first byte that no text of the form could have there, or the length of a text that stops early; POSITION, COINCIDE: the first byte of the later
+ * pair; ROOM: 0. Counts: double deltas, as pairs. */
+uint32_t aktyrbuz_points_read(const uint8_t *text, size_t text_len, float *start, size_t start_len, int32_t *deltas, size_t deltas_len, int64_t answer[5]);
+
+/* Writes the control points of one spline as such a text, the one that is read back as its rounded start and its double deltas. The lengths are exact (SHAPE).
+ * Bytes past the text, and all after a refusal, are 0. Checks: SHAPE (also no such spline), DELTA, POSITION, COINCIDE, ROOM; other splines' points are not looked at.
+ * Place: the spline; SHAPE: 0. Counts: bytes written. */
+uint32_t aktyrbuz_points_write(const uint32_t *counts, size_t counts_len, const float *starts, size_t starts_len,
+                               const int32_t *deltas, size_t deltas_len, const int32_t *coefficients, size_t coefficients_len,
+                               uint64_t spline, uint8_t *text, size_t text_len, int64_t answer[5]);
+
+/* Holds a description against an edition of the fineness profile, 1 or 2. The lengths are exact (SHAPE).
+ *
+ * The rules by their numbers: 1: 1 to 4096 splines; 2: each with 1 to 64 double deltas (edition 2: 256); 3: adjustment 0 (edition 2: -8 to 8); 4: sigma coefficients
+ * zero after the first; 5: first sigma coefficient 1 to 400 (edition 2: 1600); 6: X and B coefficients all zero. Rules 1 and 3 come first, then each spline's in order.
+ * Checks: SHAPE, EDITION, PROFILE. Place: PROFILE: the spline, 0 for rules 1 and 3; SHAPE, EDITION: 0. Counts: none; with PROFILE the number of the first broken
+ * rule, the one refusal whose counts are not all 0. */
+uint32_t aktyrbuz_profile(const uint32_t *counts, size_t counts_len, const float *starts, size_t starts_len,
+                          const int32_t *deltas, size_t deltas_len, const int32_t *coefficients, size_t coefficients_len,
+                          int32_t adjustment, uint32_t edition, int64_t answer[5]);
+
+/* Builds what meets an edition of the profile: as aktyrbuz_build, every cell, with EDITION and PROFILE as above checked after SIZE and SHAPE and before any room. */
+uint32_t aktyrbuz_build_profile(const uint32_t *counts, size_t counts_len, const float *starts, size_t starts_len,
+                                const int32_t *deltas, size_t deltas_len, const int32_t *coefficients, size_t coefficients_len,
+                                int32_t adjustment, uint32_t width, uint32_t height, float y_to_x, float y_to_b,
+                                bool high_precision, bool level10, uint32_t edition,
+                                float *path, size_t path_len, float *walk, size_t walk_len, float *segments, size_t segments_len, uint64_t *owners, size_t owners_len,
+                                uint32_t *row_starts, size_t row_starts_len, uint32_t *entries, size_t entries_len, int64_t answer[5]);
+
+/* Reads a trace file of either version, as aktyrbuz_trace_read reads one of version 1. A file of version 2 has a ninth header number, its edition, 1 or 2, and its
+ * parts start at byte 36; one of version 1 is of edition 1. Whether the description meets the edition's profile is not asked.
+ * Checks: SHORT below 32 bytes, HEADER for the version, SHORT below 36 bytes of version 2, HEADER for the offsets, EDITION, then SHORT and on as there.
+ * Place: as there; EDITION: 32. Counts: splines, points, adjustment, edition. */
+uint32_t aktyrbuz_trace_read2(const uint8_t *bytes, size_t bytes_len, uint32_t *counts, size_t counts_len, float *starts, size_t starts_len,
+                              int32_t *deltas, size_t deltas_len, int32_t *coefficients, size_t coefficients_len, int64_t answer[5]);
+
+/* Writes a description with its edition as its trace file of a version: of version 1 and edition 1 as aktyrbuz_trace_write.
+ * Checks: SHAPE, EDITION (other than 1 and 2, or 2 in version 1), HEADER (a version other than 1 and 2, then as there), COORD, DELTA, ROOM.
+ * Place: as there; EDITION: 32; HEADER for the version: 0. Counts: bytes written. */
+uint32_t aktyrbuz_trace_write2(const uint32_t *counts, size_t counts_len, const float *starts, size_t starts_len,
+                               const int32_t *deltas, size_t deltas_len, const int32_t *coefficients, size_t coefficients_len,
+                               int32_t adjustment, uint32_t version, uint32_t edition, uint8_t *bytes, size_t bytes_len, int64_t answer[5]);
 
 #ifdef __cplusplus
 }

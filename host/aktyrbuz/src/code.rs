@@ -42,12 +42,15 @@ pub enum Code {
     Span = 16,
     /// A trace file of another version or with an offset that is not its part's; writing: a count or offset of 2^32 or more.
     Header = 17,
+    /// A byte that no text of points could have there, or a text that stops early.
     Text = 18,
     /// A desk other than 0 and 1.
     Desk = 19,
     /// Fewer shared bytes than the description had splines, or a bit of a spline without a byte.
     Trace = 20,
+    /// A rule of the fineness profile is broken.
     Profile = 21,
+    /// An edition other than 1 and 2, or edition 2 in a trace file of version 1.
     Edition = 22,
     Band = 23,
 }
@@ -147,8 +150,8 @@ impl Code {
 
 /// A refusal: what, and where.
 ///
-/// The place is an index of the list for reading and writing, a byte of the file for trace files, the number of a spline for building, and 0 for
-/// drawing and reach.
+/// The place is an index of the list for reading and writing, a byte of the file or text for trace files and for reading points, the number of a
+/// spline for building and for writing points, and 0 for drawing and reach.
 #[derive(Clone, Copy, Debug, PartialEq, Eq, Hash)]
 pub struct Refusal {
     pub code: Code,

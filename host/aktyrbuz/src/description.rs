@@ -38,22 +38,23 @@ pub struct Description {
     pub adjustment: i32,
 }
 
-/// What a call leaves in the four parts of a description, each with so many cells.
-fn filled(
+/// What a call leaves in the four parts of a description, each with so many cells, and its last count.
+pub(crate) fn filled(
     room: usize,
     call: impl FnOnce(&mut [u32], &mut [f32], &mut [i32], &mut [i32]) -> (u32, port::Answer),
-) -> Result<Description, Refusal> {
+) -> Result<(Description, i64), Refusal> {
     let (mut counts, mut starts) = (zeros(room)?, zeros(room)?);
     let (mut deltas, mut coefficients) = (zeros(room)?, zeros(room)?);
     let told = call(&mut counts, &mut starts, &mut deltas, &mut coefficients);
-    let [splines, points, adjustment, _] = judged(told)?;
-    Ok(Description {
+    let [splines, points, adjustment, last] = judged(told)?;
+    let description = Description {
         counts: first(counts, splines as usize),
         starts: first(starts, 2 * splines as usize),
         deltas: first(deltas, 2 * points as usize),
         coefficients: first(coefficients, 128 * splines as usize),
         adjustment: adjustment as i32,
-    })
+    };
+    Ok((description, last))
 }
 
 impl Description {
@@ -86,6 +87,7 @@ impl Description {
                 coefficients,
             )
         })
+        .map(|(description, _)| description)
     }
 
     /// The list that is read back as this description under the same limit.
@@ -101,15 +103,16 @@ impl Description {
         Ok(first(list, values as usize))
     }
 
-    /// Reads a trace file, which holds a description without its picture. A first start may be negative here.
+    /// Reads a trace file of version 1, which holds a description without its picture. A first start may be negative here.
     pub fn from_trace(file: &[u8]) -> Result<Description, Refusal> {
         // Each cell of a description is four bytes of the file, and a file of another length is refused before any cell is asked for.
         filled(file.len() / 4, |counts, starts, deltas, coefficients| {
             port::trace_read(file, counts, starts, deltas, coefficients)
         })
+        .map(|(description, _)| description)
     }
 
-    /// The one trace file that is read back as this description.
+    /// The one trace file of version 1 that is read back as this description.
     pub fn to_trace(&self) -> Result<Vec<u8>, Refusal> {
         // The header, and four bytes for each cell of the four parts.
         let mut file = zeros(32 + 4 * self.cells())?;
@@ -117,7 +120,7 @@ impl Description {
         Ok(first(file, bytes as usize))
     }
 
-    fn cells(&self) -> usize {
+    pub(crate) fn cells(&self) -> usize {
         self.counts.len() + self.starts.len() + self.deltas.len() + self.coefficients.len()
     }
 

@@ -1,6 +1,6 @@
 //! JPEG XL splines, from a list of decoded values to pixel rows: the proved library behind owned types.
 //!
-//! A [`Description`] is read from a list or a trace file, or written as one; a [`Table`] is built from it for an image; rows of the image are then drawn,
+//! A [`Description`] is read from a list or a trace file, or written as one, and each of its splines as the [`points`] of a line drawing; a [`Table`] is built from it for an image; rows of the image are then drawn,
 //! whole or in parts, in any order, for either of two desks without what it has [`Hidden`]. No input makes a call panic or take more memory than it may: what cannot be done is a [`Refusal`] with its
 //! code and place.
 //!
@@ -27,13 +27,17 @@ mod cells;
 mod code;
 mod description;
 mod desk;
+pub mod points;
+mod profile;
 mod rooms;
 mod table;
+mod trace;
 
 pub use code::{Code, Refusal};
 pub use description::{Description, Limit};
 pub use desk::{Desk, Hidden};
 pub use port::Image;
+pub use profile::{Broken, Edition, Profile, Unbuilt};
 pub use rooms::Rooms;
 pub use table::{Counts, Near, Table};
 

@@ -31,8 +31,13 @@ impl Buffers {
         })
     }
 
-    fn build(mut self, description: &Description, image: &Image) -> Result<Table, Refusal> {
-        let [made, listed, estimate, faint] = judged(port::build(
+    fn build(
+        mut self,
+        description: &Description,
+        image: &Image,
+        call: impl BuildCall,
+    ) -> Result<Table, Refusal> {
+        let [made, listed, estimate, faint] = judged(call(
             &description.parts(),
             image,
             port::Buffers {
@@ -60,6 +65,14 @@ impl Buffers {
         })
     }
 }
+
+/// A call that builds in what it is lent.
+pub(crate) trait BuildCall:
+    Fn(&port::Parts, &Image, port::Buffers) -> (u32, port::Answer)
+{
+}
+
+impl<F: Fn(&port::Parts, &Image, port::Buffers) -> (u32, port::Answer)> BuildCall for F {}
 
 /// What a build counts.
 #[derive(Clone, Copy, Debug, PartialEq, Eq)]
@@ -108,10 +121,29 @@ impl Table {
         image: &Image,
         most: Rooms,
     ) -> Result<Table, Refusal> {
+        Table::grown(description, image, most, port::build)
+    }
+
+    /// By another call, within [`Rooms::USUAL`].
+    pub(crate) fn build_by(
+        description: &Description,
+        image: &Image,
+        call: impl BuildCall,
+    ) -> Result<Table, Refusal> {
+        Table::grown(description, image, Rooms::USUAL, call)
+    }
+
+    fn grown(
+        description: &Description,
+        image: &Image,
+        most: Rooms,
+        call: impl BuildCall,
+    ) -> Result<Table, Refusal> {
         let most = most.within(Rooms::MOST);
         let mut rooms = Rooms::first(description.longest_path()).within(most);
         loop {
-            let refusal = match Buffers::new(rooms, image.height)?.build(description, image) {
+            let lent = Buffers::new(rooms, image.height)?;
+            let refusal = match lent.build(description, image, &call) {
                 Err(refusal) if refusal.code == Code::Room => refusal,
                 other => return other,
             };
@@ -246,6 +278,36 @@ impl Table {
         let sight = hidden.seen_by(desk, self.splines());
         judged(port::reach(&self.lent(), &sight, y, self.image.width))
             .map(|[first, past, ..]| first as u32..past as u32)
+    }
+
+    /// Checks row starts and entries that another maker has for the segments of this table: accepted exactly if they are this table's own. Else the
+    /// refusal is [`Code::Shape`] where the starts are not one more than rows, or [`Code::Table`] with the first wrong row as its place, which is
+    /// the height where entries are left over.
+    pub fn check(&self, row_starts: &[u32], entries: &[u32]) -> Result<(), Refusal> {
+        let Ok(entry_count) = u32::try_from(entries.len()) else {
+            // No table has so many.
+            return Err(Refusal {
+                code: Code::Table,
+                place: 0,
+            });
+        };
+        let theirs = port::Table {
+            entries,
+            entry_count,
+            row_starts,
+            ..self.lent()
+        };
+        judged(port::check(&theirs)).map(|_| ())
+    }
+
+    /// Where the entries of each row begin, and where the last row's end.
+    pub fn row_starts(&self) -> &[u32] {
+        &self.row_starts
+    }
+
+    /// The segments that each row lists, row after row.
+    pub fn entries(&self) -> &[u32] {
+        &self.entries
     }
 
     fn lent(&self) -> port::Table<'_> {
@@ -402,6 +464,29 @@ mod tests {
         let few = Hidden::nothing(2).expect("two bytes");
         let refused = table.reach_for(Desk::Operator, &few, 8);
         assert_eq!(refused.expect_err("a byte too few").code, Code::Trace);
+    }
+
+    #[test]
+    fn another_makers_rows_are_checked() {
+        let table = Table::build(&three(), &Image::new(64, 16)).expect("a good description");
+        let (starts, entries) = (table.row_starts().to_vec(), table.entries().to_vec());
+        assert_eq!(table.check(&starts, &entries), Ok(()));
+        let wrong = |starts: &[u32], entries: &[u32]| {
+            let refusal = table.check(starts, entries).expect_err("a wrong table");
+            (refusal.code, refusal.place)
+        };
+        let mut swapped = entries.clone();
+        swapped.swap(starts[8] as usize, starts[8] as usize + 1);
+        assert_eq!(wrong(&starts, &swapped), (Code::Table, 8));
+        let more = [&entries[..], &[0]].concat();
+        assert_eq!(wrong(&starts, &more), (Code::Table, 16));
+        let fewer = &entries[..entries.len() - 1];
+        let last = (0..16).rev().find(|&y| table.entries_of(y) > 0);
+        assert_eq!(
+            wrong(&starts, fewer),
+            (Code::Table, last.map_or(16, u64::from))
+        );
+        assert_eq!(wrong(&starts[..16], &entries), (Code::Shape, 0));
     }
 
     #[test]

@@ -1,15 +1,17 @@
-//! What drawing a picture, drawing it for a desk that has hidden half of its splines, drawing a strip again and again, and building cost, against spline.rs on the same prepared input: processor time of the thread, runs by turns; or
+//! What drawing a picture, drawing it for a desk that has hidden half of its splines, drawing a strip again and again, and building cost, against spline.rs on the same prepared input, and what the calls that it lacks cost: processor time of the thread, runs by turns; or
 //! under an emulator, where times say nothing, instructions.
 //!
 //! `bench` prints the table of times, `bench counts` that of instructions (started by tools/counts). `bench CALL SIDE WIDTH`
-//! makes one run, for another counter of instructions, which finds it as the function `counted_run`; the port's says its first count.
+//! makes one run of these, for another counter of instructions, which finds it as the function `counted_run`; the port's says its first count.
 
+mod alone;
 mod building;
 mod clock;
 mod counter;
 mod drawing;
 mod picture;
 
+use alone::Alone;
 use building::Building;
 use counter::Counter;
 use drawing::Drawing;
@@ -121,6 +123,23 @@ fn each(mut measure: impl FnMut(&str, &mut dyn Work)) {
     }
 }
 
+/// Each call that spline.rs has nothing beside, on each picture and on the one of the widest segments in the tallest image, with its line's first words.
+fn each_alone(mut measure: impl FnMut(&str, &mut Alone, &str)) {
+    println!(
+        "calls of the port alone; in the tallest image, with 2^23 rows, the segments of width 48"
+    );
+    for call in alone::CALLS {
+        for (width, sigmas) in WIDTHS {
+            let mut alone = Alone::of(sigmas);
+            let words = format!("{call:<6} {width:>5} {:>8}", alone.entries(call));
+            measure(&words, &mut alone, call);
+        }
+        let mut tall = Alone::tall(WIDTHS[2].1);
+        let words = format!("{call:<6} {:>5} {:>8}", "2^23", tall.entries(call));
+        measure(&words, &mut tall, call);
+    }
+}
+
 fn times() -> ExitCode {
     println!("{SIDE} by {SIDE} pixels, milliseconds of processor time, {RUNS} runs of each side by turns");
     pictures();
@@ -143,6 +162,12 @@ fn times() -> ExitCode {
             port[0] / rust[0],
             port[1] / rust[1],
         );
+    });
+    println!("call   width  entries  port least  median");
+    each_alone(|line, alone, call| {
+        let taken = (0..RUNS).map(|_| clock::taken(|| alone.call(call)));
+        let [least, median] = least_and_median(taken.collect());
+        println!("{line} {least:>11.1} {median:>7.1}");
     });
     ExitCode::SUCCESS
 }
@@ -167,6 +192,10 @@ fn counts(counter: &Counter) -> ExitCode {
             "{line} {rust:>14} {port:>14} {:>12.2}",
             port as f64 / rust as f64
         );
+    });
+    println!("call   width  entries           port");
+    each_alone(|line, alone, call| {
+        println!("{line} {:>14}", counter.taken(|| alone.call(call)));
     });
     ExitCode::SUCCESS
 }

@@ -5,6 +5,9 @@
 pub mod descriptions;
 pub mod desks;
 pub mod lists;
+pub mod makers;
+pub mod polylines;
+pub mod profiles;
 pub mod random;
 pub mod segments;
 pub mod tables;
@@ -25,6 +28,14 @@ pub struct Description {
     /// 32 values each for X, Y, B and sigma, spline after spline.
     pub coefficients: Vec<i32>,
     pub adjustment: i32,
+}
+
+/// What a text of points stands for: one spline's start and double deltas.
+#[derive(Clone, Debug, Default, PartialEq)]
+pub struct Polyline {
+    pub start: [f32; 2],
+    /// x and y of each double delta.
+    pub deltas: Vec<i32>,
 }
 
 /// What a build takes beside the description.

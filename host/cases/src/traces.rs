@@ -20,23 +20,38 @@ pub const FILE_KINDS: [&str; 11] = [
 
 pub const TRACED_KINDS: [&str; 6] = ["sound", "starts", "deltas", "several", "shape", "anything"];
 
-/// The file of this kind and seed.
+/// The kinds that there are of version 2 beside those above.
+pub const FILE2_KINDS: [&str; 2] = ["edition", "version"];
+
+/// The file of version 1 of this kind and seed.
 pub fn trace_file(kind: &str, seed: u64) -> Vec<u8> {
+    file_of(kind, seed, None)
+}
+
+/// The file of version 2 of this kind and seed: 1024 of edition 1, then as many of edition 2, and so on.
+pub fn trace_file2(kind: &str, seed: u64) -> Vec<u8> {
+    file_of(kind, seed, Some(1 + (seed / 1024 % 2) as u32))
+}
+
+/// Of version 2 if there is an edition.
+fn file_of(kind: &str, seed: u64, edition: Option<u32>) -> Vec<u8> {
     let mut random = Random::new(kind, seed);
     let r = &mut random;
-    let mut file = TraceFile::of(&traced_well(r));
+    let mut file = TraceFile::of(&traced_well(r), edition);
     match kind {
         "sound" => {}
+        "edition" => another_edition(r, &mut file),
+        "version" => file.header[0] = r.pick(&[0, 1, 2, 3, 1 << 8, 2 << 24, u32::MAX]),
         "head" => head(r, &mut file),
         "wrapped" => wrapped(r, &mut file),
-        "cut" => return cut(seed),
+        "cut" => return cut(seed, edition),
         "left-over" => return left_over(r, &file),
         "counts" => counts(r, &mut file),
         "starts" => damage(r, &mut file.starts, 1 << 23),
         "deltas" => damage(r, &mut file.deltas, 1 << 30),
         "several" => return several(r, &mut file),
-        "replaced" => return replaced(r, seed),
-        "bare" => return bare(seed),
+        "replaced" => return replaced(r, seed, edition),
+        "bare" => return bare(seed, edition),
         _ => panic!("no kind of trace file is called {kind}"),
     }
     file.bytes()
@@ -118,7 +133,7 @@ fn damage(r: &mut Random, numbers: &mut [i32], edge: i64) {
 
 /// A trace file's numbers, whether they go together or not.
 struct TraceFile {
-    header: [u32; 8],
+    header: Vec<u32>,
     counts: Vec<u32>,
     starts: Vec<i32>,
     deltas: Vec<i32>,
@@ -127,15 +142,19 @@ struct TraceFile {
 
 impl TraceFile {
     /// Of a description whose starts are whole numbers and whose lengths agree.
-    fn of(description: &Description) -> TraceFile {
+    fn of(description: &Description, edition: Option<u32>) -> TraceFile {
         let splines = description.counts.len() as u32;
         let points = description.deltas.len() as u32 / 2;
         let adjustment = description.adjustment as u32;
-        let offsets = [32, 32 + 4 * splines, 32 + 12 * splines];
-        let [first, second, third] = offsets;
+        let (version, first) = if edition.is_some() { (2, 36) } else { (1, 32) };
+        let (second, third) = (first + 4 * splines, first + 12 * splines);
         let last = third + 8 * points;
+        let mut header = vec![
+            version, splines, points, adjustment, first, second, third, last,
+        ];
+        header.extend(edition);
         TraceFile {
-            header: [1, splines, points, adjustment, first, second, third, last],
+            header,
             counts: description.counts.clone(),
             starts: description.starts.iter().map(|&x| x as i32).collect(),
             deltas: description.deltas.clone(),
@@ -153,7 +172,7 @@ impl TraceFile {
 
 /// One number of the header another one.
 fn head(r: &mut Random, file: &mut TraceFile) {
-    let place = r.below(8) as usize;
+    let place = r.below(file.header.len() as u64) as usize;
     let number = &mut file.header[place];
     *number = match r.below(4) {
         0 => *number ^ 1 << r.below(32),
@@ -173,9 +192,9 @@ fn wrapped(r: &mut Random, file: &mut TraceFile) {
         file.header[2] = file.header[2].wrapping_add(more);
     }
     if r.once_in(4) {
-        let [_, splines, points, ..] = file.header;
-        file.header[5] = 32u32.wrapping_add(splines.wrapping_mul(4));
-        file.header[6] = 32u32.wrapping_add(splines.wrapping_mul(12));
+        let (splines, points, first) = (file.header[1], file.header[2], file.header[4]);
+        file.header[5] = first.wrapping_add(splines.wrapping_mul(4));
+        file.header[6] = first.wrapping_add(splines.wrapping_mul(12));
         file.header[7] = file.header[6].wrapping_add(points.wrapping_mul(8));
     }
 }
@@ -196,19 +215,19 @@ fn counts(r: &mut Random, file: &mut TraceFile) {
 }
 
 /// Seeds that follow each other cut the same file at one place after another; each 1024 of them take the next file of one spline.
-fn cut(seed: u64) -> Vec<u8> {
-    let mut file = one_spline("cut-file", seed / 1024);
+fn cut(seed: u64, edition: Option<u32>) -> Vec<u8> {
+    let mut file = one_spline("cut-file", seed / 1024, edition);
     file.truncate(seed as usize % 1024 % (file.len() + 1));
     file
 }
 
 /// A sound file of one spline with up to three points, which is shorter than 600 bytes.
-fn one_spline(name: &str, seed: u64) -> Vec<u8> {
+fn one_spline(name: &str, seed: u64, edition: Option<u32>) -> Vec<u8> {
     let mut random = Random::new(name, seed);
     loop {
         let description = traced_well(&mut random);
         if description.counts.len() == 1 {
-            return TraceFile::of(&description).bytes();
+            return TraceFile::of(&description, edition).bytes();
         }
     }
 }
@@ -233,6 +252,9 @@ fn several(r: &mut Random, file: &mut TraceFile) -> Vec<u8> {
             }
         }
     }
+    if file.header.len() == 9 && r.once_in(2) {
+        another_edition(r, file);
+    }
     let mut bytes = file.bytes();
     if r.once_in(4) {
         bytes.push(0);
@@ -240,18 +262,26 @@ fn several(r: &mut Random, file: &mut TraceFile) -> Vec<u8> {
     bytes
 }
 
+/// An edition of a version 2 file, or a number that is none, and sometimes a file that is cut behind it.
+fn another_edition(r: &mut Random, file: &mut TraceFile) {
+    file.header[8] = r.pick(&[0, 1, 2, 3, 4, 1 << 8, 2 << 24, 1 << 31, u32::MAX]);
+    if r.once_in(4) {
+        file.coefficients.clear();
+    }
+}
+
 /// Each byte of a file in its turn another one: 2048 seeds take one file of one spline, each of its bytes three times at least.
-fn replaced(r: &mut Random, seed: u64) -> Vec<u8> {
-    let mut file = one_spline("replaced-file", seed / 2048);
+fn replaced(r: &mut Random, seed: u64, edition: Option<u32>) -> Vec<u8> {
+    let mut file = one_spline("replaced-file", seed / 2048, edition);
     let place = seed as usize % 2048 % file.len();
     file[place] = file[place].wrapping_add(1 + r.below(255) as u8);
     file
 }
 
-/// A file without splines, each of its 32 bytes in its turn each other one.
-fn bare(seed: u64) -> Vec<u8> {
-    let mut file = TraceFile::of(&Description::default()).bytes();
-    let place = (seed / 255 % 32) as usize;
+/// A file without splines, each of its bytes in its turn each other one.
+fn bare(seed: u64, edition: Option<u32>) -> Vec<u8> {
+    let mut file = TraceFile::of(&Description::default(), edition).bytes();
+    let place = (seed / 255) as usize % file.len();
     file[place] = file[place].wrapping_add(1 + (seed % 255) as u8);
     file
 }

@@ -5,14 +5,15 @@
 
 use compare::tally::Tally;
 use compare::{
-    build, curve, dequantize, desks, draw, numbers, reach, read, segments, trace, transform, write,
+    build, check, curve, dequantize, desks, draw, numbers, polyline, profile, reach, read,
+    segments, trace, transform, write,
 };
 use std::process::ExitCode;
 
 /// A layer's name, and what runs its cases.
 type Layer = (&'static str, fn(&mut Tally));
 
-const LAYERS: [Layer; 15] = [
+const LAYERS: [Layer; 19] = [
     ("numbers", numbers::compare),
     ("read", read::compare),
     ("write", write::compare),
@@ -27,7 +28,11 @@ const LAYERS: [Layer; 15] = [
     ("draw", draw::compare),
     ("reach", reach::compare),
     ("desks", desks::compare),
+    ("check", check::compare),
     ("trace", trace::compare),
+    ("trace2", trace::compare2),
+    ("points", polyline::compare),
+    ("profile", profile::compare),
 ];
 
 fn main() -> ExitCode {

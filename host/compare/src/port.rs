@@ -1,6 +1,7 @@
 //! The proved port, through its C interface, against spline.rs where that decides and against the second reading everywhere.
 
 pub mod build;
+pub mod check;
 pub mod desks;
 pub mod draw;
 pub mod fuzz;
@@ -11,10 +12,13 @@ pub mod limits;
 pub mod ln;
 pub mod null;
 pub mod pages;
+pub mod polyline;
+pub mod profile;
 pub mod reach;
 pub mod read;
 pub mod tally;
 pub mod trace;
+pub mod trace2;
 pub mod write;
 
 use cases::{Description, Refusal, Table};
@@ -37,7 +41,7 @@ fn told_read(expected: &Result<Description, Refusal>) -> (u32, Answer) {
     }
 }
 
-/// The code and answer that stand for a list or a trace file that was written, or for a refusal.
+/// The code and answer that stand for a list, a trace file or a text that was written, or for a refusal.
 fn told_write<T>(expected: &Result<Vec<T>, Refusal>) -> (u32, Answer) {
     match expected {
         Ok(written) => (0, [0, written.len() as i64, 0, 0, 0]),

@@ -6,7 +6,7 @@ use std::collections::BTreeMap;
 use std::fmt::{self, Debug, Display, Formatter};
 
 /// The codes of requests whose calls are not there yet.
-const NO_CALL_YET: [Code; 4] = [Code::Text, Code::Profile, Code::Edition, Code::Band];
+const NO_CALL_YET: [Code; 1] = [Code::Band];
 
 /// Counts by kind of verdict, and the smallest input on which the parties differ.
 pub struct Tally {
@@ -73,7 +73,7 @@ impl Tally {
         }
     }
 
-    /// The codes of the scope that no case gave, those apart that no call has.
+    /// The codes of the scope that no case gave.
     pub fn never_given(&self) -> Vec<String> {
         let given =
             |name: &String| self.refused.contains_key(name) || self.outside.contains_key(name);

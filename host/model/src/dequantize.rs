@@ -74,7 +74,7 @@ pub fn dequantize(
 }
 
 /// POSITION's condition: "outside -2^23 up to but not including 2^23" (Codes).
-fn position(x: i64, y: i64) -> Result<(), Code> {
+pub(crate) fn position(x: i64, y: i64) -> Result<(), Code> {
     let inside = |value| (-(1 << 23)..1 << 23).contains(&value);
     if inside(x) && inside(y) {
         Ok(())
@@ -85,7 +85,10 @@ fn position(x: i64, y: i64) -> Result<(), Code> {
 
 /// The control points and the Manhattan sum: "A start is rounded half away from zero, then POSITION x then y judges it",
 /// then point by point.
-fn control_points(spline: &Quantized, limit: u64) -> Result<(Vec<(i64, i64)>, u64), Code> {
+pub(crate) fn control_points(
+    spline: &Quantized,
+    limit: u64,
+) -> Result<(Vec<(i64, i64)>, u64), Code> {
     let (start_x, start_y) = spline.start;
     // POSITION: "or NaN start".
     if start_x.is_nan() || start_y.is_nan() {

@@ -1,6 +1,6 @@
-//! The trace file (document 02, request (i)): reading one into a description, and writing a description as one.
+//! The trace file (document 02, requests (i) and (x)): reading one into a description, and writing a description as one.
 //!
-//! Counts and offsets are whole numbers of 128 bits here, which nothing in 64 bits makes wrap. A comment in quotes is a sentence of that request.
+//! Counts and offsets are whole numbers of 128 bits here, which nothing in 64 bits makes wrap. A comment in quotes is a sentence of those requests.
 
 use crate::list::{outrageous, well_shaped, ListRooms};
 use cases::{Code, Description, Refusal};
@@ -8,7 +8,8 @@ use std::ops::Range;
 
 /// "The file opens with a header of eight little-endian 32-bit numbers: version 1, ..".
 const HEADER: u128 = 32;
-const VERSION: u32 = 1;
+/// "Trace file version 2 has a ninth header number, the edition, so its parts start at byte 36".
+const HEADER_2: u128 = 36;
 /// "starts as signed whole numbers from -2^23 up to but not including 2^23".
 const COORDINATES: Range<i32> = -(1 << 23)..1 << 23;
 /// What 32 bits cannot hold.
@@ -19,10 +20,18 @@ fn refuse<T>(code: Code, place: u128) -> Result<T, Refusal> {
     Err(Refusal { code, place })
 }
 
+/// The byte at which the parts of a version start, which is one of the two.
+fn start_of_parts(version: u32) -> u128 {
+    match version {
+        1 => HEADER,
+        _ => HEADER_2,
+    }
+}
+
 /// "The parts follow in that order from byte 32, with no gaps, each number four bytes": where each begins, and where the file ends.
-fn layout(splines: u128, points: u128) -> [u128; 5] {
+fn layout(version: u32, splines: u128, points: u128) -> [u128; 5] {
     let numbers = [splines, 2 * splines, 2 * points, 128 * splines];
-    let mut places = [HEADER; 5];
+    let mut places = [start_of_parts(version); 5];
     for part in 0..4 {
         places[part + 1] = places[part] + 4 * numbers[part];
     }
@@ -45,14 +54,39 @@ fn signed(numbers: Vec<u32>) -> Vec<i32> {
 /// P, COORD, DELTA, ROOM last". "Places are the byte offset of the number refused, for TRAIL of the first byte left over, for SHORT the file
 /// length, for SHAPE and ROOM 0."
 pub fn trace_read(bytes: &[u8], rooms: &ListRooms) -> Result<Description, Refusal> {
+    read_versions(bytes, &[1], rooms).map(|(description, _)| description)
+}
+
+/// A file of either version, and its edition: "version 1 files are read as edition 1". "Refusals: SHORT for a version 2 file below 36 bytes, after
+/// the version is read; 22 EDITION for an edition other than 1 or 2, after HEADER and before part lengths".
+pub fn trace_read2(bytes: &[u8], rooms: &ListRooms) -> Result<(Description, u32), Refusal> {
+    read_versions(bytes, &[1, 2], rooms)
+}
+
+fn read_versions(
+    bytes: &[u8],
+    known: &[u32],
+    rooms: &ListRooms,
+) -> Result<(Description, u32), Refusal> {
     let length = bytes.len() as u128;
     if length < HEADER {
         return refuse(Code::Short, length);
     }
-    let header = numbers(&bytes[..HEADER as usize]);
+    let version = numbers(&bytes[..4])[0];
+    if !known.contains(&version) {
+        return refuse(Code::Header, 0);
+    }
+    if length < start_of_parts(version) {
+        return refuse(Code::Short, length);
+    }
+    let header = numbers(&bytes[..start_of_parts(version) as usize]);
     let (splines, points) = (u128::from(header[1]), u128::from(header[2]));
-    let places = layout(splines, points);
-    check_header(&header, &places)?;
+    let places = layout(version, splines, points);
+    check_offsets(&header, &places)?;
+    let edition = header.get(8).copied().unwrap_or(1);
+    if !is_edition(edition) {
+        return refuse(Code::Edition, EDITION_AT);
+    }
     let end = places[4];
     if length < end {
         return refuse(Code::Short, length);
@@ -86,17 +120,23 @@ pub fn trace_read(bytes: &[u8], rooms: &ListRooms) -> Result<Description, Refusa
     {
         return refuse(Code::Room, 0);
     }
-    Ok(Description {
-        starts: starts.into_iter().map(|start| start as f32).collect(),
+    let starts = starts.into_iter().map(|start| start as f32).collect();
+    let description = Description {
+        starts,
         ..description
-    })
+    };
+    Ok((description, edition))
 }
 
-/// "version 1, .. then four byte offsets for counts, starts, double deltas and coefficients".
-fn check_header(header: &[u32], places: &[u128; 5]) -> Result<(), Refusal> {
-    if header[0] != VERSION {
-        return refuse(Code::Header, 0);
-    }
+/// Where the ninth number of a header stands.
+const EDITION_AT: u128 = 32;
+
+fn is_edition(edition: u32) -> bool {
+    edition == 1 || edition == 2
+}
+
+/// "then four byte offsets for counts, starts, double deltas and coefficients".
+fn check_offsets(header: &[u32], places: &[u128; 5]) -> Result<(), Refusal> {
     for (number, &place) in (4..8).zip(places) {
         if u128::from(header[number]) != place {
             return refuse(Code::Header, 4 * number as u128);
@@ -120,12 +160,28 @@ fn refuse_first<T>(
 
 /// "on writing SHAPE, HEADER (a count or offset of 2^32 or more), COORD (out of range, not whole, minus zero or NaN), DELTA, ROOM."
 pub fn trace_write(description: &Description, room: u64) -> Result<Vec<u8>, Refusal> {
+    trace_write2(description, 1, 1, room)
+}
+
+/// "on writing after SHAPE, also for edition 2 in version 1": EDITION comes there, and HEADER also for a version that there is not.
+pub fn trace_write2(
+    description: &Description,
+    version: u32,
+    edition: u32,
+    room: u64,
+) -> Result<Vec<u8>, Refusal> {
     if !well_shaped(description) {
         return refuse(Code::Shape, 0);
     }
+    if !is_edition(edition) || version == 1 && edition == 2 {
+        return refuse(Code::Edition, EDITION_AT);
+    }
+    if version != 1 && version != 2 {
+        return refuse(Code::Header, 0);
+    }
     let splines = description.counts.len() as u128;
     let points = description.deltas.len() as u128 / 2;
-    let places = layout(splines, points);
+    let places = layout(version, splines, points);
     check_sizes(splines, points, &places)?;
     let starts = &description.starts;
     refuse_first(Code::Coord, places[1], starts, |&start| {
@@ -136,9 +192,12 @@ pub fn trace_write(description: &Description, room: u64) -> Result<Vec<u8>, Refu
     if places[4] > room.into() {
         return refuse(Code::Room, 0);
     }
-    let mut numbers = vec![VERSION, splines as u32, points as u32];
+    let mut numbers = vec![version, splines as u32, points as u32];
     numbers.push(description.adjustment as u32);
     numbers.extend(places[..4].iter().map(|&place| place as u32));
+    if version == 2 {
+        numbers.push(edition);
+    }
     numbers.extend(&description.counts);
     numbers.extend(starts.iter().filter_map(|&start| whole(start)));
     numbers.extend(deltas.iter().map(|&delta| delta as u32));
@@ -275,7 +334,7 @@ mod tests {
         assert_eq!(refused(|d| d.deltas[1] = -(1 << 30), 0), delta);
         // One that 32 bits cannot hold, first in the order of the header.
         let sizes = |splines, points| {
-            let refusal = check_sizes(splines, points, &layout(splines, points)).err();
+            let refusal = check_sizes(splines, points, &layout(1, splines, points)).err();
             refusal.map(|refusal| refusal.place)
         };
         assert_eq!(sizes(1 << 32, 1 << 32), Some(4));
@@ -284,5 +343,77 @@ mod tests {
         assert_eq!(sizes(357_913_939, 0), Some(24));
         assert_eq!(sizes(1, 1 << 29), Some(28));
         assert_eq!(sizes(1, (1 << 29) - 6), None);
+    }
+
+    fn file_2(edition: u32) -> Vec<u8> {
+        trace_write2(&description(), 2, edition, u64::MAX).unwrap()
+    }
+
+    #[test]
+    fn files_of_version_2() {
+        let (old, new) = (file(), file_2(2));
+        assert_eq!(new.len(), old.len() + 4);
+        assert_eq!((new[0], &new[1..16]), (2, &old[1..16]));
+        let offsets = [36, 0, 0, 0, 44, 0, 0, 0, 60, 0, 0, 0, 68, 0, 0, 0];
+        assert_eq!(
+            (&new[16..32], &new[32..36]),
+            (&offsets[..], &[2, 0, 0, 0][..])
+        );
+        assert_eq!(new[36..], old[32..]);
+        for edition in [1, 2] {
+            let read = trace_read2(&file_2(edition), &ROOMS);
+            assert_eq!(read, Ok((description(), edition)));
+        }
+        assert_eq!(trace_read2(&old, &ROOMS), Ok((description(), 1)));
+        assert_eq!(refused(&new, &ROOMS), Some((Code::Header, 0)));
+    }
+
+    #[test]
+    fn files_of_version_2_that_are_refused() {
+        let refused = |file: &[u8]| {
+            let refusal = trace_read2(file, &ROOMS).err();
+            refusal.map(|refusal| (refusal.code, refusal.place))
+        };
+        let file = file_2(2);
+        for length in 0..file.len() {
+            assert_eq!(refused(&file[..length]), Some((Code::Short, length as u64)));
+        }
+        for (byte, value, refusal) in [
+            (0, 3, (Code::Header, 0)),
+            (0, 1, (Code::Header, 16)),
+            (16, 32, (Code::Header, 16)),
+            (28, 0, (Code::Header, 28)),
+            (32, 3, (Code::Edition, 32)),
+            (32, 0, (Code::Edition, 32)),
+            (35, 1, (Code::Edition, 32)),
+            (36, 2, (Code::Shape, 0)),
+            (55, 127, (Code::Coord, 52)),
+        ] {
+            let mut file = file.clone();
+            file[byte] = value;
+            assert_eq!(refused(&file), Some(refusal), "byte {byte}");
+            // The edition is looked at after the offsets and before the length.
+            if refusal.0 == Code::Edition {
+                assert_eq!(refused(&file[..36]), Some(refusal));
+                file[16] = 0;
+                assert_eq!(refused(&file), Some((Code::Header, 16)));
+            }
+        }
+    }
+
+    #[test]
+    fn versions_and_editions_that_are_refused() {
+        let refused = |version, edition| {
+            let refusal = trace_write2(&description(), version, edition, 0).err();
+            refusal.map(|refusal| (refusal.code, refusal.place))
+        };
+        let edition = Some((Code::Edition, 32));
+        for (version, number) in [(1, 2), (1, 0), (2, 3), (2, 0), (3, 3), (0, u32::MAX)] {
+            assert_eq!(refused(version, number), edition);
+        }
+        for version in [0, 3, u32::MAX] {
+            assert_eq!(refused(version, 2), Some((Code::Header, 0)));
+        }
+        assert_eq!(refused(2, 2), Some((Code::Room, 0)));
     }
 }

@@ -1,7 +1,14 @@
 //! The proved port through its C interface, as safe calls on slices.
 
+mod points;
+mod profile;
 pub mod stack;
 pub mod symbols;
+mod trace2;
+
+pub use points::{points_read, points_read_into, points_write, points_write_into};
+pub use profile::{build_profile, build_profile_into, profile, profile_into};
+pub use trace2::{trace_read2, trace_read2_into, trace_write2, trace_write2_into};
 
 /// What a call fills: the place, then the counts, then zeros.
 pub type Answer = [i64; 5];
@@ -326,6 +333,30 @@ pub fn hide_into(
 ) -> u32 {
     // SAFETY: the pointer comes with its slice's length.
     unsafe { symbols::aktyrbuz_hide(bits.as_mut_ptr(), bits.len(), desk, spline, hidden, answer) }
+}
+
+/// Checks the row starts and entries of another maker for the segments of a table, whose owners are not lent: the code's number and the answer.
+pub fn check(table: &Table) -> (u32, Answer) {
+    answered(|answer| check_into(table, answer))
+}
+
+/// The same, with an answer that is lent too.
+pub fn check_into(table: &Table, answer: &mut Answer) -> u32 {
+    // SAFETY: each pointer comes with its slice's length.
+    unsafe {
+        symbols::aktyrbuz_check(
+            table.segments.as_ptr(),
+            table.segments.len(),
+            table.segment_count,
+            table.height,
+            table.row_starts.as_ptr(),
+            table.row_starts.len(),
+            table.entries.as_ptr(),
+            table.entries.len(),
+            table.entry_count,
+            answer,
+        )
+    }
 }
 
 /// Reads a trace file into the lent buffers: the code's number and the answer.

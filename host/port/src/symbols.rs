@@ -125,6 +125,19 @@ extern "C" {
         answer: *mut [i64; 5],
     ) -> u32;
 
+    pub fn aktyrbuz_check(
+        segments: *const f32,
+        segments_len: usize,
+        segment_count: u32,
+        height: u32,
+        row_starts: *const u32,
+        row_starts_len: usize,
+        entries: *const u32,
+        entries_len: usize,
+        entry_count: u32,
+        answer: *mut [i64; 5],
+    ) -> u32;
+
     pub fn aktyrbuz_trace_read(
         bytes: *const u8,
         bytes_len: usize,
@@ -149,6 +162,108 @@ extern "C" {
         coefficients: *const i32,
         coefficients_len: usize,
         adjustment: i32,
+        bytes: *mut u8,
+        bytes_len: usize,
+        answer: *mut [i64; 5],
+    ) -> u32;
+
+    pub fn aktyrbuz_points_read(
+        text: *const u8,
+        text_len: usize,
+        start: *mut f32,
+        start_len: usize,
+        deltas: *mut i32,
+        deltas_len: usize,
+        answer: *mut [i64; 5],
+    ) -> u32;
+
+    pub fn aktyrbuz_points_write(
+        counts: *const u32,
+        counts_len: usize,
+        starts: *const f32,
+        starts_len: usize,
+        deltas: *const i32,
+        deltas_len: usize,
+        coefficients: *const i32,
+        coefficients_len: usize,
+        spline: u64,
+        text: *mut u8,
+        text_len: usize,
+        answer: *mut [i64; 5],
+    ) -> u32;
+
+    pub fn aktyrbuz_profile(
+        counts: *const u32,
+        counts_len: usize,
+        starts: *const f32,
+        starts_len: usize,
+        deltas: *const i32,
+        deltas_len: usize,
+        coefficients: *const i32,
+        coefficients_len: usize,
+        adjustment: i32,
+        edition: u32,
+        answer: *mut [i64; 5],
+    ) -> u32;
+
+    pub fn aktyrbuz_build_profile(
+        counts: *const u32,
+        counts_len: usize,
+        starts: *const f32,
+        starts_len: usize,
+        deltas: *const i32,
+        deltas_len: usize,
+        coefficients: *const i32,
+        coefficients_len: usize,
+        adjustment: i32,
+        width: u32,
+        height: u32,
+        y_to_x: f32,
+        y_to_b: f32,
+        high_precision: bool,
+        level10: bool,
+        edition: u32,
+        path: *mut f32,
+        path_len: usize,
+        walk: *mut f32,
+        walk_len: usize,
+        segments: *mut f32,
+        segments_len: usize,
+        owners: *mut u64,
+        owners_len: usize,
+        row_starts: *mut u32,
+        row_starts_len: usize,
+        entries: *mut u32,
+        entries_len: usize,
+        answer: *mut [i64; 5],
+    ) -> u32;
+
+    pub fn aktyrbuz_trace_read2(
+        bytes: *const u8,
+        bytes_len: usize,
+        counts: *mut u32,
+        counts_len: usize,
+        starts: *mut f32,
+        starts_len: usize,
+        deltas: *mut i32,
+        deltas_len: usize,
+        coefficients: *mut i32,
+        coefficients_len: usize,
+        answer: *mut [i64; 5],
+    ) -> u32;
+
+    pub fn aktyrbuz_trace_write2(
+        counts: *const u32,
+        counts_len: usize,
+        starts: *const f32,
+        starts_len: usize,
+        deltas: *const i32,
+        deltas_len: usize,
+        coefficients: *const i32,
+        coefficients_len: usize,
+        adjustment: i32,
+        version: u32,
+        edition: u32,
         bytes: *mut u8,
         bytes_len: usize,
         answer: *mut [i64; 5],

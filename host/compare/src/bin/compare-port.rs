@@ -1,18 +1,21 @@
 //! The port through its C interface on fixed cases: reading and writing with both round trips, building, drawing whole and in parts,
-//! reach, two desks that hide and draw by turns, trace files with both round trips, and the logarithm; every cell of every lent buffer, and each buffer against an inaccessible page. Before that, empty buffers by NULL.
+//! reach, two desks that hide and draw by turns, tables of another maker, trace files of both versions and texts of points with both round trips, the fineness profile, and the logarithm; every cell of every lent buffer, and each buffer against an inaccessible page. Before that, empty buffers by NULL.
 //!
 //! `compare-port` runs the standing cases, `compare-port --long` more than a million of other seeds, with lines of progress, and
 //! `compare-port --one-in N` the first N-th of each kind's standing cases. Names of calls behind that leave the others out.
 //! Prints a table; ends with 1, and the smallest input, where an answer differs.
 
 use compare::port::tally::Tally;
-use compare::port::{build, desks, draw, limits, ln, null, pages, reach, read, trace, write};
+use compare::port::{
+    build, check, desks, draw, limits, ln, null, pages, polyline, profile, reach, read, trace,
+    trace2, write,
+};
 use std::process::ExitCode;
 
 /// A call's name, and what runs its cases.
 type Call = (&'static str, fn(&mut Tally));
 
-const CALLS: [Call; 11] = [
+const CALLS: [Call; 18] = [
     ("read", read::compare),
     ("write", write::compare),
     ("build", build::compare),
@@ -21,8 +24,15 @@ const CALLS: [Call; 11] = [
     ("desks", desks::compare),
     ("hide", desks::compare_hide),
     ("limits", limits::compare),
+    ("check", check::compare),
     ("trace-in", trace::compare_read),
     ("trace-out", trace::compare_write),
+    ("trace2-in", trace2::compare_read),
+    ("trace2-out", trace2::compare_write),
+    ("line-in", polyline::compare_read),
+    ("line-out", polyline::compare_write),
+    ("profile", profile::compare_check),
+    ("by-profile", profile::compare_build),
     ("ln", ln::compare),
 ];
 

@@ -84,7 +84,7 @@ fn compare_case(tally: &mut Tally, kind: &str, seed: u64) {
 }
 
 /// The lengths with which the build is just done, or some where it is refused; `None` for a table past all memory.
-fn exact_rooms(case: &BuildCase) -> Option<BuildRooms> {
+pub(super) fn exact_rooms(case: &BuildCase) -> Option<BuildRooms> {
     let some = BuildRooms {
         path: 2 * SOME,
         walk: 3 * SOME,
@@ -100,7 +100,7 @@ fn exact_rooms(case: &BuildCase) -> Option<BuildRooms> {
 
 /// Exact, larger, one short each, and none; no owners beside exact others; and owners or segments one short beside larger
 /// others, so that each of the two bounds the segments alone.
-fn rooms(exact: &BuildRooms, r: &mut Random) -> Vec<BuildRooms> {
+pub(super) fn rooms(exact: &BuildRooms, r: &mut Random) -> Vec<BuildRooms> {
     let mut more = |n: u64| n + r.within(1, 9) as u64;
     let larger = BuildRooms {
         path: more(exact.path),
@@ -155,7 +155,7 @@ fn rust_decides(expected: &Result<Table, Refusal>) -> bool {
 }
 
 /// What spline.rs makes of a description in the scope's words; `None` if its lengths disagree, or if it lacks memory or panics.
-fn original(case: &BuildCase) -> Option<Result<Table, Refusal>> {
+pub(super) fn original(case: &BuildCase) -> Option<Result<Table, Refusal>> {
     let BuildCase { description, given } = case;
     if !well_shaped(description) {
         return None;
@@ -206,24 +206,33 @@ pub struct PortBuilt {
 
 impl PortBuilt {
     pub fn of(case: &BuildCase, rooms: &BuildRooms) -> PortBuilt {
+        let (parts, image) = (parts(&case.description), image(&case.given));
+        PortBuilt::by(rooms, |lent| guarded::build(&parts, &image, lent))
+    }
+
+    pub fn of_profile(case: &BuildCase, edition: u32, rooms: &BuildRooms) -> PortBuilt {
+        let (parts, image) = (parts(&case.description), image(&case.given));
+        PortBuilt::by(rooms, |lent| {
+            guarded::build_profile(&parts, &image, edition, lent)
+        })
+    }
+
+    /// By a call that is lent the buffers of a build.
+    fn by(rooms: &BuildRooms, call: impl FnOnce(Buffers) -> (u32, Answer)) -> PortBuilt {
         let mut path = lent(rooms.path);
         let mut walk = lent(rooms.walk);
         let mut segments = lent(rooms.segments);
         let mut owners = lent(rooms.owners);
         let mut row_starts = lent(rooms.row_starts);
         let mut entries = lent(rooms.entries);
-        let (code, answer) = guarded::build(
-            &parts(&case.description),
-            &image(&case.given),
-            Buffers {
-                path: path.lend(),
-                walk: walk.lend(),
-                segments: segments.lend(),
-                owners: owners.lend(),
-                row_starts: row_starts.lend(),
-                entries: entries.lend(),
-            },
-        );
+        let (code, answer) = call(Buffers {
+            path: path.lend(),
+            walk: walk.lend(),
+            segments: segments.lend(),
+            owners: owners.lend(),
+            row_starts: row_starts.lend(),
+            entries: entries.lend(),
+        });
         PortBuilt {
             code,
             answer,
@@ -243,9 +252,12 @@ impl PortBuilt {
     /// Whether code, place, counts and every cell are as expected; any NaN counts as NaN.
     pub fn is(&self, expected: &Result<Table, Refusal>) -> bool {
         let nothing = Table::default();
-        let table = expected.as_ref().unwrap_or(&nothing);
-        self.told() == told_build(expected)
-            && self.path.holds(&[])
+        self.told() == told_build(expected) && self.holds(expected.as_ref().unwrap_or(&nothing))
+    }
+
+    /// Whether every cell is this table's.
+    pub fn holds(&self, table: &Table) -> bool {
+        self.path.holds(&[])
             && self.walk.holds(&[])
             && self
                 .segments
@@ -253,6 +265,17 @@ impl PortBuilt {
             && self.owners.holds(&table.owners)
             && self.row_starts.holds(&table.row_starts)
             && self.entries.holds(&table.entries)
+    }
+
+    /// Whether another build of as many cells told and left the same, bit by bit.
+    pub fn is_as(&self, other: &PortBuilt) -> bool {
+        self.told() == other.told()
+            && self.path.holds(other.path.lent())
+            && self.walk.holds(other.walk.lent())
+            && self.segments.holds(other.segments.lent())
+            && self.owners.holds(other.owners.lent())
+            && self.row_starts.holds(other.row_starts.lent())
+            && self.entries.holds(other.entries.lent())
     }
 }
 

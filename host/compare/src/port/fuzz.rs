@@ -3,7 +3,10 @@
 
 mod build;
 pub mod bytes;
+mod check;
 mod list;
+mod polyline;
+mod profile;
 mod seeds;
 mod table;
 mod trace;
@@ -26,8 +29,15 @@ pub fn run(input: &[u8]) {
         DRAW => table::draw(&mut bytes),
         REACH => table::reach(&mut bytes),
         HIDE => table::hide(&mut bytes),
+        CHECK => check::check(&mut bytes),
         TRACE_READ => trace::read(&mut bytes),
         TRACE_WRITE => trace::write(&mut bytes),
+        TRACE_READ2 => trace::read2(&mut bytes),
+        TRACE_WRITE2 => trace::write2(&mut bytes),
+        POINTS_READ => polyline::read(&mut bytes),
+        POINTS_WRITE => polyline::write(&mut bytes),
+        PROFILE => profile::check(&mut bytes),
+        BUILD_PROFILE => profile::build(&mut bytes),
         _ => table::ln(&mut bytes),
     }
 }
@@ -40,5 +50,12 @@ const REACH: u8 = 4;
 const LN: u8 = 5;
 const TRACE_READ: u8 = 6;
 const TRACE_WRITE: u8 = 7;
-const HIDE: u8 = 8;
-const CALLS: u8 = 9;
+const POINTS_READ: u8 = 8;
+const POINTS_WRITE: u8 = 9;
+const PROFILE: u8 = 10;
+const BUILD_PROFILE: u8 = 11;
+const TRACE_READ2: u8 = 12;
+const TRACE_WRITE2: u8 = 13;
+const HIDE: u8 = 14;
+const CHECK: u8 = 15;
+const CALLS: u8 = 16;

@@ -129,18 +129,31 @@ impl GuardedParts {
     }
 }
 
-pub fn write(parts: &Parts, configured: u32, pixels: u32, list: &mut [u32]) -> (u32, Answer) {
+/// The code and the answer of a call that writes a description into what is lent.
+fn written<T: Cell>(
+    parts: &Parts,
+    lent: &mut [T],
+    call: impl FnOnce(&Parts, &mut [T], &mut Answer) -> u32,
+) -> (u32, Answer) {
     let guarded = GuardedParts::of(parts);
-    let mut lent = Guarded::of(list);
-    let told = answered(|answer| {
-        port::write_into(&guarded.lent(), configured, pixels, lent.lend(), answer)
-    });
+    let mut cells = Guarded::of(lent);
+    let told = answered(|answer| call(&guarded.lent(), cells.lend(), answer));
     guarded.are_still(parts);
-    lent.back_to(list);
+    cells.back_to(lent);
     told
 }
 
+pub fn write(parts: &Parts, configured: u32, pixels: u32, list: &mut [u32]) -> (u32, Answer) {
+    written(parts, list, |parts, list, answer| {
+        port::write_into(parts, configured, pixels, list, answer)
+    })
+}
+
+/// One of the two calls that fill the four parts of a description from a trace file.
+pub type TraceRead = fn(&[u8], &mut [u32], &mut [f32], &mut [i32], &mut [i32], &mut Answer) -> u32;
+
 pub fn trace_read(
+    call: TraceRead,
     bytes: &[u8],
     counts: &mut [u32],
     starts: &mut [f32],
@@ -154,7 +167,7 @@ pub fn trace_read(
         deltas,
         coefficients,
         |counts, starts, deltas, coefficients, answer| {
-            port::trace_read_into(guarded.lent(), counts, starts, deltas, coefficients, answer)
+            call(guarded.lent(), counts, starts, deltas, coefficients, answer)
         },
     );
     guarded.is_still(bytes);
@@ -162,15 +175,58 @@ pub fn trace_read(
 }
 
 pub fn trace_write(parts: &Parts, bytes: &mut [u8]) -> (u32, Answer) {
+    written(parts, bytes, port::trace_write_into)
+}
+
+pub fn trace_write2(parts: &Parts, version: u32, edition: u32, bytes: &mut [u8]) -> (u32, Answer) {
+    written(parts, bytes, |parts, bytes, answer| {
+        port::trace_write2_into(parts, version, edition, bytes, answer)
+    })
+}
+
+pub fn points_read(text: &[u8], start: &mut [f32], deltas: &mut [i32]) -> (u32, Answer) {
+    let guarded = Guarded::of(text);
+    let mut lent = (Guarded::of(start), Guarded::of(deltas));
+    let told = answered(|answer| {
+        port::points_read_into(guarded.lent(), lent.0.lend(), lent.1.lend(), answer)
+    });
+    guarded.is_still(text);
+    lent.0.back_to(start);
+    lent.1.back_to(deltas);
+    told
+}
+
+pub fn points_write(parts: &Parts, spline: u64, text: &mut [u8]) -> (u32, Answer) {
+    written(parts, text, |parts, text, answer| {
+        port::points_write_into(parts, spline, text, answer)
+    })
+}
+
+pub fn profile(parts: &Parts, edition: u32) -> (u32, Answer) {
     let guarded = GuardedParts::of(parts);
-    let mut lent = Guarded::of(bytes);
-    let told = answered(|answer| port::trace_write_into(&guarded.lent(), lent.lend(), answer));
+    let told = answered(|answer| port::profile_into(&guarded.lent(), edition, answer));
     guarded.are_still(parts);
-    lent.back_to(bytes);
     told
 }
 
 pub fn build(parts: &Parts, image: &Image, lent: Buffers) -> (u32, Answer) {
+    built(parts, lent, |parts, lent, answer| {
+        port::build_into(parts, image, lent, answer)
+    })
+}
+
+pub fn build_profile(parts: &Parts, image: &Image, edition: u32, lent: Buffers) -> (u32, Answer) {
+    built(parts, lent, |parts, lent, answer| {
+        port::build_profile_into(parts, image, edition, lent, answer)
+    })
+}
+
+/// The code and the answer of a call that builds a table in what is lent.
+fn built(
+    parts: &Parts,
+    lent: Buffers,
+    call: impl FnOnce(&Parts, Buffers, &mut Answer) -> u32,
+) -> (u32, Answer) {
     let guarded = GuardedParts::of(parts);
     let mut floats = [&*lent.path, &*lent.walk, &*lent.segments].map(Guarded::of);
     let mut owners = Guarded::of(lent.owners);
@@ -186,7 +242,7 @@ pub fn build(parts: &Parts, image: &Image, lent: Buffers) -> (u32, Answer) {
             row_starts: row_starts.lend(),
             entries: entries.lend(),
         };
-        port::build_into(&guarded.lent(), image, lent, answer)
+        call(&guarded.lent(), lent, answer)
     });
     guarded.are_still(parts);
     for (buffer, guarded) in [lent.path, lent.walk, lent.segments]
@@ -288,5 +344,17 @@ pub fn hide(bits: &mut [u8], desk: u32, spline: u64, hidden: bool) -> (u32, Answ
     let mut lent = Guarded::of(bits);
     let told = answered(|answer| port::hide_into(lent.lend(), desk, spline, hidden, answer));
     lent.back_to(bits);
+    told
+}
+
+pub fn check(table: &Table) -> (u32, Answer) {
+    let nobody = Sight {
+        splines: 0,
+        bits: &[],
+        desk: 0,
+    };
+    let guarded = GuardedTable::of(table, &nobody);
+    let told = answered(|answer| port::check_into(&guarded.lent().0, answer));
+    guarded.is_still();
     told
 }

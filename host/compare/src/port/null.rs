@@ -37,12 +37,18 @@ impl Lender {
 /// A call that makes its own slices, each with cells, and lends them.
 type Call = fn(&mut Lender) -> Told;
 
-const CALLS: [(&str, Call); 13] = [
+const CALLS: [(&str, Call); 21] = [
     ("read", read),
     ("write", write),
     ("trace_read", trace_read),
     ("trace_write", trace_write),
     ("trace_write of nothing", trace_write_nothing),
+    ("trace_read2", trace_read2),
+    ("trace_write2", trace_write2),
+    ("points_read", points_read),
+    ("points_write", points_write),
+    ("profile", profile),
+    ("build_profile", build_profile),
     ("build", build),
     ("build of nothing", build_nothing),
     ("draw", draw),
@@ -51,6 +57,8 @@ const CALLS: [(&str, Call); 13] = [
     ("reach", reach),
     ("reach of no segments", reach_no_segments),
     ("hide", hide),
+    ("check", check_one),
+    ("check of no segments", check_no_segments),
 ];
 
 /// Every set of slices of every call. A call without an emptied one is done, so that all of it is gone through.
@@ -214,6 +222,31 @@ fn trace_read(lender: &mut Lender) -> Told {
     })
 }
 
+fn trace_read2(lender: &mut Lender) -> Told {
+    let mut file = vec![0; 1024];
+    let (_, written) = port::trace_write2(&Spline::new().parts(), 2, 2, &mut file);
+    file.truncate(written[1] as usize);
+    let (file_at, file_len) = lender.lend(&mut file);
+    filled(lender, |lent, answer| {
+        // SAFETY: as above.
+        unsafe {
+            symbols::aktyrbuz_trace_read2(
+                file_at,
+                file_len,
+                lent.counts.0,
+                lent.counts.1,
+                lent.starts.0,
+                lent.starts.1,
+                lent.deltas.0,
+                lent.deltas.1,
+                lent.coefficients.0,
+                lent.coefficients.1,
+                answer,
+            )
+        }
+    })
+}
+
 /// What a call that fills the four parts of a description tells and leaves.
 fn filled(lender: &mut Lender, call: impl FnOnce(LentSpline, &mut Answer) -> u32) -> Told {
     let mut rooms = Spline::rooms();
@@ -260,14 +293,133 @@ fn write(lender: &mut Lender) -> Told {
     }
 }
 
+/// What a call that writes bytes tells and leaves.
+fn bytes_by(lender: &mut Lender, call: impl FnOnce(*mut u8, usize, &mut Answer) -> u32) -> Told {
+    let mut bytes = vec![7u8; 1024];
+    let (bytes_at, bytes_len) = lender.lend(&mut bytes);
+    let mut answer = UNFILLED;
+    let code = call(bytes_at, bytes_len, &mut answer);
+    Told {
+        code,
+        answer,
+        cells: bytes.into_iter().map(u32::from).collect(),
+    }
+}
+
 fn trace_write_of(lender: &mut Lender, mut spline: Spline) -> Told {
     let lent = spline.lend(lender);
-    let mut file = vec![7u8; 1024];
-    let (file_at, file_len) = lender.lend(&mut file);
+    bytes_by(lender, |file_at, file_len, answer| {
+        // SAFETY: as above.
+        unsafe {
+            symbols::aktyrbuz_trace_write(
+                lent.counts.0,
+                lent.counts.1,
+                lent.starts.0,
+                lent.starts.1,
+                lent.deltas.0,
+                lent.deltas.1,
+                lent.coefficients.0,
+                lent.coefficients.1,
+                0,
+                file_at,
+                file_len,
+                answer,
+            )
+        }
+    })
+}
+
+fn trace_write(lender: &mut Lender) -> Told {
+    trace_write_of(lender, Spline::new())
+}
+
+fn trace_write_nothing(lender: &mut Lender) -> Told {
+    trace_write_of(lender, Spline::none())
+}
+
+fn trace_write2(lender: &mut Lender) -> Told {
+    let mut spline = Spline::new();
+    let lent = spline.lend(lender);
+    bytes_by(lender, |file_at, file_len, answer| {
+        // SAFETY: as above.
+        unsafe {
+            symbols::aktyrbuz_trace_write2(
+                lent.counts.0,
+                lent.counts.1,
+                lent.starts.0,
+                lent.starts.1,
+                lent.deltas.0,
+                lent.deltas.1,
+                lent.coefficients.0,
+                lent.coefficients.1,
+                0,
+                2,
+                2,
+                file_at,
+                file_len,
+                answer,
+            )
+        }
+    })
+}
+
+fn points_read(lender: &mut Lender) -> Told {
+    let mut text = b"20,20 28,24 38,25".to_vec();
+    let (mut start, mut deltas) = (vec![7.0; 3], vec![7; 6]);
+    let (text_at, text_len) = lender.lend(&mut text);
+    let (start_at, start_len) = lender.lend(&mut start);
+    let (deltas_at, deltas_len) = lender.lend(&mut deltas);
     let mut answer = UNFILLED;
     // SAFETY: as above.
     let code = unsafe {
-        symbols::aktyrbuz_trace_write(
+        symbols::aktyrbuz_points_read(
+            text_at,
+            text_len,
+            start_at,
+            start_len,
+            deltas_at,
+            deltas_len,
+            &mut answer,
+        )
+    };
+    Told {
+        code,
+        answer,
+        cells: bits(&start).chain(unsigned(&deltas)).collect(),
+    }
+}
+
+fn points_write(lender: &mut Lender) -> Told {
+    let mut spline = Spline::new();
+    let lent = spline.lend(lender);
+    bytes_by(lender, |text_at, text_len, answer| {
+        // SAFETY: as above.
+        unsafe {
+            symbols::aktyrbuz_points_write(
+                lent.counts.0,
+                lent.counts.1,
+                lent.starts.0,
+                lent.starts.1,
+                lent.deltas.0,
+                lent.deltas.1,
+                lent.coefficients.0,
+                lent.coefficients.1,
+                0,
+                text_at,
+                text_len,
+                answer,
+            )
+        }
+    })
+}
+
+fn profile(lender: &mut Lender) -> Told {
+    let mut spline = Spline::new();
+    let lent = spline.lend(lender);
+    let mut answer = UNFILLED;
+    // SAFETY: as above.
+    let code = unsafe {
+        symbols::aktyrbuz_profile(
             lent.counts.0,
             lent.counts.1,
             lent.starts.0,
@@ -277,24 +429,15 @@ fn trace_write_of(lender: &mut Lender, mut spline: Spline) -> Told {
             lent.coefficients.0,
             lent.coefficients.1,
             0,
-            file_at,
-            file_len,
+            1,
             &mut answer,
         )
     };
     Told {
         code,
         answer,
-        cells: file.into_iter().map(u32::from).collect(),
+        cells: Vec::new(),
     }
-}
-
-fn trace_write(lender: &mut Lender) -> Told {
-    trace_write_of(lender, Spline::new())
-}
-
-fn trace_write_nothing(lender: &mut Lender) -> Told {
-    trace_write_of(lender, Spline::none())
 }
 
 /// The buffers of a build, with room for the spline above.
@@ -320,26 +463,31 @@ impl Rooms {
     }
 }
 
-fn build_in(lender: &mut Lender, mut spline: Spline, rooms: &mut Rooms) -> (u32, Answer) {
-    let lent = spline.lend(lender);
-    let (path_at, path_len) = lender.lend(&mut rooms.path);
-    let (walk_at, walk_len) = lender.lend(&mut rooms.walk);
-    let (segments_at, segments_len) = lender.lend(&mut rooms.segments);
-    let (owners_at, owners_len) = lender.lend(&mut rooms.owners);
-    let (row_starts_at, row_starts_len) = lender.lend(&mut rooms.row_starts);
-    let (entries_at, entries_len) = lender.lend(&mut rooms.entries);
-    let mut answer = UNFILLED;
+/// Each buffer as a pointer and a length.
+struct LentRooms {
+    path: (*mut f32, usize),
+    walk: (*mut f32, usize),
+    segments: (*mut f32, usize),
+    owners: (*mut u64, usize),
+    row_starts: (*mut u32, usize),
+    entries: (*mut u32, usize),
+}
+
+/// A call that builds in what is lent.
+type Build = fn(&LentSpline, &LentRooms, &mut Answer) -> u32;
+
+fn by_build(spline: &LentSpline, rooms: &LentRooms, answer: &mut Answer) -> u32 {
     // SAFETY: as above.
-    let code = unsafe {
+    unsafe {
         symbols::aktyrbuz_build(
-            lent.counts.0,
-            lent.counts.1,
-            lent.starts.0,
-            lent.starts.1,
-            lent.deltas.0,
-            lent.deltas.1,
-            lent.coefficients.0,
-            lent.coefficients.1,
+            spline.counts.0,
+            spline.counts.1,
+            spline.starts.0,
+            spline.starts.1,
+            spline.deltas.0,
+            spline.deltas.1,
+            spline.coefficients.0,
+            spline.coefficients.1,
             0,
             SIDE,
             SIDE,
@@ -347,27 +495,83 @@ fn build_in(lender: &mut Lender, mut spline: Spline, rooms: &mut Rooms) -> (u32,
             1.0,
             false,
             false,
-            path_at,
-            path_len,
-            walk_at,
-            walk_len,
-            segments_at,
-            segments_len,
-            owners_at,
-            owners_len,
-            row_starts_at,
-            row_starts_len,
-            entries_at,
-            entries_len,
-            &mut answer,
+            rooms.path.0,
+            rooms.path.1,
+            rooms.walk.0,
+            rooms.walk.1,
+            rooms.segments.0,
+            rooms.segments.1,
+            rooms.owners.0,
+            rooms.owners.1,
+            rooms.row_starts.0,
+            rooms.row_starts.1,
+            rooms.entries.0,
+            rooms.entries.1,
+            answer,
         )
+    }
+}
+
+fn by_build_profile(spline: &LentSpline, rooms: &LentRooms, answer: &mut Answer) -> u32 {
+    // SAFETY: as above.
+    unsafe {
+        symbols::aktyrbuz_build_profile(
+            spline.counts.0,
+            spline.counts.1,
+            spline.starts.0,
+            spline.starts.1,
+            spline.deltas.0,
+            spline.deltas.1,
+            spline.coefficients.0,
+            spline.coefficients.1,
+            0,
+            SIDE,
+            SIDE,
+            0.0,
+            1.0,
+            false,
+            false,
+            1,
+            rooms.path.0,
+            rooms.path.1,
+            rooms.walk.0,
+            rooms.walk.1,
+            rooms.segments.0,
+            rooms.segments.1,
+            rooms.owners.0,
+            rooms.owners.1,
+            rooms.row_starts.0,
+            rooms.row_starts.1,
+            rooms.entries.0,
+            rooms.entries.1,
+            answer,
+        )
+    }
+}
+
+fn build_in(
+    lender: &mut Lender,
+    spline: &mut Spline,
+    rooms: &mut Rooms,
+    build: Build,
+) -> (u32, Answer) {
+    let spline = spline.lend(lender);
+    let rooms = LentRooms {
+        path: lender.lend(&mut rooms.path),
+        walk: lender.lend(&mut rooms.walk),
+        segments: lender.lend(&mut rooms.segments),
+        owners: lender.lend(&mut rooms.owners),
+        row_starts: lender.lend(&mut rooms.row_starts),
+        entries: lender.lend(&mut rooms.entries),
     };
+    let mut answer = UNFILLED;
+    let code = build(&spline, &rooms, &mut answer);
     (code, answer)
 }
 
-fn told_of_build(lender: &mut Lender, spline: Spline) -> Told {
+fn told_of_build(lender: &mut Lender, mut spline: Spline, build: Build) -> Told {
     let mut rooms = Rooms::new();
-    let (code, answer) = build_in(lender, spline, &mut rooms);
+    let (code, answer) = build_in(lender, &mut spline, &mut rooms, build);
     let floats = [&rooms.path, &rooms.walk, &rooms.segments];
     let left = floats.into_iter().flat_map(|floats| bits(floats));
     let halves = |&owner: &u64| [owner as u32, (owner >> 32) as u32];
@@ -381,11 +585,15 @@ fn told_of_build(lender: &mut Lender, spline: Spline) -> Told {
 }
 
 fn build(lender: &mut Lender) -> Told {
-    told_of_build(lender, Spline::new())
+    told_of_build(lender, Spline::new(), by_build)
 }
 
 fn build_nothing(lender: &mut Lender) -> Told {
-    told_of_build(lender, Spline::none())
+    told_of_build(lender, Spline::none(), by_build)
+}
+
+fn build_profile(lender: &mut Lender) -> Told {
+    told_of_build(lender, Spline::new(), by_build_profile)
 }
 
 /// A table of the spline above or of none, with the counts in use.
@@ -396,14 +604,14 @@ struct Built {
 }
 
 impl Built {
-    fn of(spline: Spline) -> Built {
+    fn of(mut spline: Spline) -> Built {
         let mut rooms = Rooms::new();
         let mut nothing_emptied = Lender {
             emptied: 0,
             null: false,
             slices: 0,
         };
-        let (_, answer) = build_in(&mut nothing_emptied, spline, &mut rooms);
+        let (_, answer) = build_in(&mut nothing_emptied, &mut spline, &mut rooms, by_build);
         Built {
             rooms,
             segment_count: answer[1] as u32,
@@ -542,4 +750,44 @@ fn hide(lender: &mut Lender) -> Told {
         answer,
         cells: bytes.into_iter().map(u32::from).collect(),
     }
+}
+
+fn check_of(lender: &mut Lender, spline: Spline) -> Told {
+    let Built {
+        mut rooms,
+        segment_count,
+        entry_count,
+    } = Built::of(spline);
+    let (segments_at, segments_len) = lender.lend(&mut rooms.segments);
+    let (row_starts_at, row_starts_len) = lender.lend(&mut rooms.row_starts);
+    let (entries_at, entries_len) = lender.lend(&mut rooms.entries);
+    let mut answer = UNFILLED;
+    // SAFETY: as above.
+    let code = unsafe {
+        symbols::aktyrbuz_check(
+            segments_at,
+            segments_len,
+            segment_count,
+            SIDE,
+            row_starts_at,
+            row_starts_len,
+            entries_at,
+            entries_len,
+            entry_count,
+            &mut answer,
+        )
+    };
+    Told {
+        code,
+        answer,
+        cells: Vec::new(),
+    }
+}
+
+fn check_one(lender: &mut Lender) -> Told {
+    check_of(lender, Spline::new())
+}
+
+fn check_no_segments(lender: &mut Lender) -> Told {
+    check_of(lender, Spline::none())
 }

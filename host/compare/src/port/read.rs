@@ -173,8 +173,16 @@ impl PortRead {
     }
 
     pub fn of_trace(file: &[u8], rooms: &ListRooms) -> PortRead {
+        PortRead::by_trace(port::trace_read_into, file, rooms)
+    }
+
+    pub fn of_trace2(file: &[u8], rooms: &ListRooms) -> PortRead {
+        PortRead::by_trace(port::trace_read2_into, file, rooms)
+    }
+
+    fn by_trace(call: guarded::TraceRead, file: &[u8], rooms: &ListRooms) -> PortRead {
         PortRead::by(rooms, |counts, starts, deltas, coefficients| {
-            guarded::trace_read(file, counts, starts, deltas, coefficients)
+            guarded::trace_read(call, file, counts, starts, deltas, coefficients)
         })
     }
 
@@ -210,9 +218,12 @@ impl PortRead {
     /// Whether code, place, counts and every cell are as expected.
     pub fn is(&self, expected: &Result<Description, Refusal>) -> bool {
         let nothing = Description::default();
-        let description = expected.as_ref().unwrap_or(&nothing);
-        self.told() == told_read(expected)
-            && self.counts.holds(&description.counts)
+        self.told() == told_read(expected) && self.holds(expected.as_ref().unwrap_or(&nothing))
+    }
+
+    /// Whether every cell is this description's.
+    pub fn holds(&self, description: &Description) -> bool {
+        self.counts.holds(&description.counts)
             && self.starts.holds(&description.starts)
             && self.deltas.holds(&description.deltas)
             && self.coefficients.holds(&description.coefficients)

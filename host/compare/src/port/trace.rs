@@ -30,7 +30,8 @@ pub fn compare_read(tally: &mut Tally) {
 
 fn compare_file(tally: &mut Tally, kind: &str, seed: u64, file: &[u8]) {
     tally.cases += 1;
-    for rooms in &rooms(said_rooms(file), &mut Random::new("rooms", seed)) {
+    let said = said_rooms(file, MOST_SPLINES, MOST_POINTS);
+    for rooms in &rooms(said, &mut Random::new("rooms", seed)) {
         let expected = model::trace_read(file, rooms);
         tally.called(&expected);
         let wrong = wrong_read(file, rooms, &expected);
@@ -65,17 +66,17 @@ pub fn wrong_read(
     (!same).then(|| format!("written back: {:?}, or other bytes", written.told()))
 }
 
-/// What the file says of itself, as far as it goes.
-fn said_rooms(file: &[u8]) -> ListRooms {
+/// What the file says of itself, as far as it goes, up to so many splines and points.
+pub(super) fn said_rooms(file: &[u8], most_splines: u64, most_points: u64) -> ListRooms {
     let number = |first: usize| match file.get(first..first + 4) {
         Some(four) => u64::from(u32::from_le_bytes(four.try_into().expect("four of them"))),
         None => 1,
     };
-    let splines = number(4).min(MOST_SPLINES);
+    let splines = number(4).min(most_splines);
     ListRooms {
         counts: splines,
         starts: 2 * splines,
-        deltas: 2 * number(8).min(MOST_POINTS),
+        deltas: 2 * number(8).min(most_points),
         coefficients: 128 * splines,
     }
 }
@@ -89,8 +90,19 @@ pub struct PortTrace {
 
 impl PortTrace {
     pub fn of(parts: &Parts, room: u64) -> PortTrace {
+        PortTrace::by(room, |bytes| guarded::trace_write(parts, bytes))
+    }
+
+    pub fn of_version(parts: &Parts, version: u32, edition: u32, room: u64) -> PortTrace {
+        PortTrace::by(room, |bytes| {
+            guarded::trace_write2(parts, version, edition, bytes)
+        })
+    }
+
+    /// By a call that is lent so many bytes.
+    fn by(room: u64, call: impl FnOnce(&mut [u8]) -> (u32, Answer)) -> PortTrace {
         let mut bytes = Lent::new(room as usize);
-        let (code, answer) = guarded::trace_write(parts, bytes.lend());
+        let (code, answer) = call(bytes.lend());
         PortTrace {
             code,
             answer,
@@ -174,6 +186,18 @@ fn too_great() -> Vec<(u64, (u64, u64))> {
 }
 
 fn compare_too_great(tally: &mut Tally, place: u64, (splines, points): (u64, u64)) {
+    compare_zeros(tally, place, (splines, points), |parts, bytes| {
+        port::trace_write(parts, bytes)
+    });
+}
+
+/// A description of zeros that is to be refused with HEADER at this place.
+pub(super) fn compare_zeros(
+    tally: &mut Tally,
+    place: u64,
+    (splines, points): (u64, u64),
+    call: impl FnOnce(&Parts, &mut [u8]) -> (u32, Answer),
+) {
     tally.cases += 1;
     let expected: Result<Vec<u8>, Refusal> = Err(Refusal {
         code: Code::Header,
@@ -193,7 +217,7 @@ fn compare_too_great(tally: &mut Tally, place: u64, (splines, points): (u64, u64
         adjustment: 0,
     };
     let mut bytes = Lent::new(64);
-    let (code, answer) = port::trace_write(&parts, bytes.lend());
+    let (code, answer) = call(&parts, bytes.lend());
     if (code, answer) != told_write(&expected) || !bytes.holds(&[]) {
         tally.differs(format!(
             "trace to be written, {splines} splines, {points} points: {:?}, due {expected:?}",

@@ -1,6 +1,6 @@
 //! What a call costs: the stack that it takes and its time; reading and writing at 2^10 and at 2^20 points, building and drawing at 2^4 and at 2^12 splines.
 //!
-//! `measure` prints both. `measure CALL POINTS` makes one call of read, write, trace_read or trace_write, for a counter of instructions.
+//! `measure` prints both. `measure CALL POINTS` makes one call of read, write, trace_read, trace_write, points_read or points_write, for a counter of instructions.
 
 use port::stack::stack_of;
 use std::process::ExitCode;
@@ -18,23 +18,33 @@ fn main() -> ExitCode {
     let words: Vec<String> = std::env::args().skip(1).collect();
     match words.iter().map(String::as_str).collect::<Vec<_>>()[..] {
         [] => table(),
-        [call @ ("read" | "write" | "trace_read" | "trace_write"), points]
-            if points.parse::<usize>().is_ok_and(|n| n > 0) =>
+        [call, points]
+            if CALLED.contains(&call) && points.parse::<usize>().is_ok_and(|n| n > 0) =>
         {
             let mut fibre = Fibre::of(points.parse().expect("a number"));
             fibre.call(call);
         }
         _ => {
-            eprintln!("usage: measure [read | write | trace_read | trace_write POINTS]");
+            eprintln!("usage: measure [{} POINTS]", CALLED.join(" | "));
             return ExitCode::from(2);
         }
     }
     ExitCode::SUCCESS
 }
 
+/// The calls on one spline.
+const CALLED: [&str; 6] = [
+    "read",
+    "write",
+    "trace_read",
+    "trace_write",
+    "points_read",
+    "points_write",
+];
+
 fn table() {
     println!("call           size  stack (bytes)  least time of {CALLS} (microseconds)");
-    for call in ["nothing", "read", "write", "trace_read", "trace_write"] {
+    for call in ["nothing"].into_iter().chain(CALLED) {
         for points in SIZES {
             let mut fibre = Fibre::of(points);
             line(call, points, || fibre.call(call));
@@ -62,10 +72,13 @@ fn line<F: FnMut()>(call: &str, size: usize, mut make: F) {
     println!("{call:<11} {size:>7} {stack:>14} {least:>12.1}");
 }
 
-/// One spline as a list, as a trace file and as a description: each call writes one of them again from another.
+/// One spline as a list, as a trace file and as a description: each call writes one of them again from another. Beside it a straight one as a
+/// text of points and as double deltas, since the other one soon leaves all positions.
 struct Fibre {
     list: Vec<u32>,
     file: Vec<u8>,
+    text: Vec<u8>,
+    straight: Vec<i32>,
     counts: Vec<u32>,
     starts: Vec<f32>,
     deltas: Vec<i32>,
@@ -86,12 +99,15 @@ impl Fibre {
         let mut fibre = Fibre {
             list,
             file: vec![0; 32 + 524 + 8 * points],
+            text: straight_text(points),
+            straight: vec![0; 2 * points],
             counts: vec![points as u32],
             starts: vec![5.0, 6.0],
             deltas,
             coefficients,
         };
         fibre.call("trace_write");
+        fibre.call("points_read");
         fibre
     }
 
@@ -103,6 +119,8 @@ impl Fibre {
             "write" => self.write(),
             "trace_read" => self.trace_read(),
             "trace_write" => self.trace_write(),
+            "points_read" => self.points_read(),
+            "points_write" => self.points_write(),
             _ => 0,
         };
         assert_eq!(code, 0, "{call} is refused");
@@ -151,6 +169,27 @@ impl Fibre {
     fn trace_write(&mut self) -> u32 {
         self.written(|parts, _, file| port::trace_write(parts, file).0)
     }
+
+    fn points_read(&mut self) -> u32 {
+        port::points_read(&self.text, &mut self.starts, &mut self.straight).0
+    }
+
+    fn points_write(&mut self) -> u32 {
+        let parts = port::Parts {
+            counts: &self.counts,
+            starts: &self.starts,
+            deltas: &self.straight,
+            coefficients: &self.coefficients,
+            adjustment: 0,
+        };
+        port::points_write(&parts, 0, &mut self.text).0
+    }
+}
+
+/// From (5, 6) to the right, one pixel a point.
+fn straight_text(points: usize) -> Vec<u8> {
+    let pairs: Vec<String> = (0..=points).map(|k| format!("{},6", 5 + k)).collect();
+    pairs.join(" ").into_bytes()
 }
 
 /// Short strands below each other in an image of SIDE by SIDE, with the buffers of its table and of one row.

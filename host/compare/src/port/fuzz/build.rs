@@ -15,7 +15,8 @@ use oracle::Outcome;
 /// Most cells of path, walk, segments, owners, row starts and entries.
 const MOST_ROOMS: [usize; 6] = [2000, 6000, 16_000, 2000, 1100, 20_000];
 
-pub fn build(bytes: &mut Bytes) {
+/// Rooms of a build, and the image.
+pub fn rooms_and_image(bytes: &mut Bytes) -> (BuildRooms, Given) {
     let rooms = rooms(MOST_ROOMS.map(|most| bytes.length(most) as u64));
     let given = Given {
         width: bytes.number(),
@@ -25,6 +26,11 @@ pub fn build(bytes: &mut Bytes) {
         high_precision: bytes.flag(),
         level10: bytes.flag(),
     };
+    (rooms, given)
+}
+
+pub fn build(bytes: &mut Bytes) {
+    let (rooms, given) = rooms_and_image(bytes);
     let (y, x0, n) = (bytes.number(), bytes.number(), bytes.byte());
     let description = description(bytes);
     let case = BuildCase { description, given };

@@ -1,15 +1,21 @@
 //! Inputs to begin with: cases of the generator as bytes.
 
 use super::bytes::Put;
-use super::{BUILD, DRAW, HIDE, LN, REACH, READ, TRACE_READ, TRACE_WRITE, WRITE};
+use super::{
+    BUILD, BUILD_PROFILE, CHECK, DRAW, HIDE, LN, POINTS_READ, POINTS_WRITE, PROFILE, REACH, READ,
+    TRACE_READ, TRACE_READ2, TRACE_WRITE, TRACE_WRITE2, WRITE,
+};
 use crate::draw::sight_by_turns;
 use cases::descriptions::{self, build_case, BuildCase};
 use cases::desks::{sight, Sight, SIGHT_KINDS};
 use cases::lists::{list_case, write_case, KINDS, WRITE_KINDS};
+use cases::polylines::{text, TEXT_KINDS};
+use cases::profiles::{profile_case, ProfileCase, PROFILE_KINDS};
 use cases::random::Random;
+use cases::segments::{record, RECORD_KINDS};
 use cases::tables::{edge_row, request, table, EDGE_KINDS, REQUEST_KINDS, TABLE_KINDS};
-use cases::traces::{trace_file, traced, FILE_KINDS, TRACED_KINDS};
-use cases::{each, Description, FlatTable};
+use cases::traces::{trace_file, trace_file2, traced, FILE2_KINDS, FILE_KINDS, TRACED_KINDS};
+use cases::{each, Description, FlatTable, Given};
 
 /// So many of each kind.
 const A_KIND: u64 = 3;
@@ -44,11 +50,35 @@ pub fn seeds() -> Vec<(String, Vec<u8>)> {
         let sight = sight(kind, seed, &table);
         seeds.push((format!("hide-{kind}-{seed}"), hide(&sight)));
     }
+    for (kind, seed) in each(&RECORD_KINDS, A_KIND) {
+        seeds.push((format!("check-{kind}-{seed}"), check(kind, seed)));
+    }
     for (kind, seed) in each(&FILE_KINDS, A_KIND) {
-        seeds.push((format!("trace-in-{kind}-{seed}"), trace_in(kind, seed)));
+        let file = trace_file(kind, seed);
+        let input = trace_in(TRACE_READ, &file);
+        seeds.push((format!("trace-in-{kind}-{seed}"), input));
+    }
+    for (kind, seed) in each(&FILE_KINDS, A_KIND).chain(each(&FILE2_KINDS, A_KIND)) {
+        let file = trace_file2(kind, seed);
+        let input = trace_in(TRACE_READ2, &file);
+        seeds.push((format!("trace2-in-{kind}-{seed}"), input));
     }
     for (kind, seed) in each(&TRACED_KINDS, A_KIND) {
-        seeds.push((format!("trace-out-{kind}-{seed}"), trace_out(kind, seed)));
+        let description = traced(kind, seed);
+        seeds.push((format!("trace-out-{kind}-{seed}"), trace_out(&description)));
+        let input = trace2_out(&description, seed);
+        seeds.push((format!("trace2-out-{kind}-{seed}"), input));
+    }
+    for (kind, seed) in each(&TEXT_KINDS, A_KIND) {
+        seeds.push((format!("line-in-{kind}-{seed}"), line_in(kind, seed)));
+    }
+    for (kind, seed) in each(&descriptions::KINDS, A_KIND) {
+        seeds.push((format!("line-out-{kind}-{seed}"), line_out(kind, seed)));
+    }
+    for (kind, seed) in each(&PROFILE_KINDS, A_KIND) {
+        let case = profile_case(kind, seed);
+        seeds.push((format!("profile-{kind}-{seed}"), profile(&case)));
+        seeds.push((format!("by-profile-{kind}-{seed}"), by_profile(&case)));
     }
     seeds.push((String::from("ln"), ln()));
     seeds
@@ -84,18 +114,23 @@ fn build(kind: &str, seed: u64) -> Vec<u8> {
     let BuildCase { description, given } = build_case(kind, seed);
     let mut put = Put::default();
     put.byte(BUILD);
+    put_rooms_and_image(&mut put, &given);
+    // A row and a part of it to be drawn.
+    put_all(&mut put, &[given.height / 2, 5, 60]);
+    put_description(&mut put, &description);
+    put.0
+}
+
+/// Rooms for what most builds make, and the image.
+fn put_rooms_and_image(put: &mut Put, given: &Given) {
     put_all(
-        &mut put,
+        put,
         &[200, 1200, 3200, 400, 250, 4000, given.width, given.height],
     );
     put.float(given.y_to_x);
     put.float(given.y_to_b);
     put.byte(given.high_precision.into());
     put.byte(given.level10.into());
-    // A row and a part of it to be drawn.
-    put_all(&mut put, &[given.height / 2, 5, 60]);
-    put_description(&mut put, &description);
-    put.0
 }
 
 fn put_description(put: &mut Put, description: &Description) {
@@ -161,19 +196,75 @@ fn hide(sight: &Sight) -> Vec<u8> {
     put.0
 }
 
-fn trace_in(kind: &str, seed: u64) -> Vec<u8> {
+/// Three segments of a kind: the right table, one with an entry more behind the first, and one with a start moved.
+fn check(kind: &str, seed: u64) -> Vec<u8> {
     let mut put = Put::default();
-    put.byte(TRACE_READ);
-    put_all(&mut put, &ROOMS);
-    put.0.extend(trace_file(kind, seed));
+    put.byte(CHECK);
+    put.number(40);
+    let records = [0, 1, 2].map(|other| record(kind, 3 * seed + other));
+    put.floats(&records.concat());
+    for step in [[2, 1, 0], [4, 0, 2], [0, 3, 1]] {
+        step.into_iter().for_each(|byte| put.byte(byte));
+    }
     put.0
 }
 
-fn trace_out(kind: &str, seed: u64) -> Vec<u8> {
+fn trace_in(call: u8, file: &[u8]) -> Vec<u8> {
+    let mut put = Put::default();
+    put.byte(call);
+    put_all(&mut put, &ROOMS);
+    put.0.extend(file);
+    put.0
+}
+
+fn trace_out(description: &Description) -> Vec<u8> {
     let mut put = Put::default();
     put.byte(TRACE_WRITE);
     put.number(2000);
-    put_description(&mut put, &traced(kind, seed));
+    put_description(&mut put, description);
+    put.0
+}
+
+fn trace2_out(description: &Description, seed: u64) -> Vec<u8> {
+    let mut put = Put::default();
+    put.byte(TRACE_WRITE2);
+    let edition = 1 + (seed % 2) as u32;
+    put_all(&mut put, &[2000, 2, edition]);
+    put_description(&mut put, description);
+    put.0
+}
+
+fn line_in(kind: &str, seed: u64) -> Vec<u8> {
+    let mut put = Put::default();
+    put.byte(POINTS_READ);
+    put_all(&mut put, &[2, 80]);
+    put.0.extend(text(kind, seed));
+    put.0
+}
+
+fn line_out(kind: &str, seed: u64) -> Vec<u8> {
+    let mut put = Put::default();
+    put.byte(POINTS_WRITE);
+    put_all(&mut put, &[200, (seed % 2) as u32]);
+    put.byte(0);
+    put_description(&mut put, &build_case(kind, seed).description);
+    put.0
+}
+
+fn profile(case: &ProfileCase) -> Vec<u8> {
+    let mut put = Put::default();
+    put.byte(PROFILE);
+    put.number(case.edition);
+    put_description(&mut put, &case.case.description);
+    put.0
+}
+
+fn by_profile(case: &ProfileCase) -> Vec<u8> {
+    let mut put = Put::default();
+    put.byte(BUILD_PROFILE);
+    put_rooms_and_image(&mut put, &case.case.given);
+    put.number(case.edition);
+    put_description(&mut put, &case.case.description);
     put.0
 }
 
