@@ -14,23 +14,21 @@ const BYTES: usize = 24576;
 // The bytes of the longest head, and more.
 const HEAD: usize = 64;
 
-// The splines that a description may have here, and a byte for each: the operator's desk, which hides none.
-const SPLINES: u64 = 512;
-
-const TRACES: usize = 512;
-
-// What is asked of a description: to be told, its rows, its picture, the traces that have the pixel in this column and row, why the segment of this number sits where it does, its trace file, or its list.
+// What is asked of a description: to be told, its rows, its picture, the traces that have the pixel in this column and row, why the segment of this number sits where it does, its row table, whether that in the file of this argument is it, whether it meets this edition of the profile, its trace file, or its list.
 pub enum Asked {
     Told,
     Rows,
     Picture,
     Touch(u32, u32),
     Why(u32),
+    Table,
+    Check(u8),
+    Profile(u32),
     Trace,
     List,
 }
 
-// What is asked, of an image of this size (no rows and columns where there is none), and where a picture of either kind or a file goes.
+// What is asked, of an image of this size (no rows and columns where there is none), where a picture of either kind or a file goes, and which argument names the traces that are hidden for the desk (0: none), by which edition of the profile it is to be built (0: by none), and which edition a trace file is to hold (0: a file of version 1).
 pub struct Task {
     pub width: u32,
     pub height: u32,
@@ -39,6 +37,10 @@ pub struct Task {
     pub floats: bool,
     pub progress: bool,
     pub high: bool,
+    pub hide: u8,
+    pub desk: u32,
+    pub profile: u32,
+    pub edition: u32,
 }
 
 // How many updates a part took; or it was not drawn, or not written.
@@ -85,6 +87,7 @@ fn draw_part(
     entries: &[u32],
     entry_count: u32,
     row_starts: &[u32],
+    bits: &[u8],
     task: Task,
     y: u32,
     x0: u32,
@@ -96,7 +99,8 @@ fn draw_part(
     let mut r1 = [0.0f32; CELLS];
     let mut r2 = [0.0f32; CELLS];
     let height = task.height;
-    let bits = [0u8; TRACES];
+    let desk = task.desk;
+    let splines = bits.len() as u64;
     match draw::draw(
         segments,
         owners,
@@ -105,9 +109,9 @@ fn draw_part(
         entry_count,
         row_starts,
         height,
-        SPLINES,
-        &bits,
-        0,
+        splines,
+        bits,
+        desk,
         y,
         x0,
         n,
@@ -134,6 +138,7 @@ fn draw_row(
     entries: &[u32],
     entry_count: u32,
     row_starts: &[u32],
+    bits: &[u8],
     task: Task,
     y: u32,
 ) -> Part {
@@ -149,6 +154,7 @@ fn draw_row(
             entries,
             entry_count,
             row_starts,
+            bits,
             task,
             y,
             x0,
@@ -190,6 +196,7 @@ fn draw_rows(
     entries: &[u32],
     entry_count: u32,
     row_starts: &[u32],
+    bits: &[u8],
     task: Task,
 ) -> Part {
     let height = task.height;
@@ -205,6 +212,7 @@ fn draw_rows(
             entries,
             entry_count,
             row_starts,
+            bits,
             task,
             y,
         ) else {
@@ -231,32 +239,102 @@ fn write_head(task: Task) -> bool {
     io::write_all(fd, &head[..n])
 }
 
-// How many entries a row has.
-fn entries_of(row_starts: &[u32], y: u32) -> u32 {
+fn index(n: u32) -> usize {
+    n as usize
+}
+
+// One for an entry whose trace is not hidden for the desk, else none.
+fn shows(owners: &[u64], bits: &[u8], desk: u32, entry: u32) -> u32
+    ensures { λ r. ⌜ r ≤ 1 ⌝ }
+{
+    let at = entry as usize;
+    if owners.len() <= at {
+        return 0;
+    }
+    let owner = owners[at] as usize;
+    if bits.len() <= owner {
+        return 0;
+    }
+    if 1 < desk {
+        return 0;
+    }
+    if desks::hidden(owners, bits.len() as u64, bits, desk, at) {
+        0
+    } else {
+        1
+    }
+}
+
+// How many of these entries are shown.
+fn shown_in(owners: &[u64], entries: &[u32], bits: &[u8], desk: u32) -> usize
+    ensures { λ r. ⌜ r ≤ length (now (entries .entry)) ⌝ }
+{
+    let mut n: usize = 0;
+    let mut k: usize = 0;
+    while k < entries.len() {
+        n += shows(owners, bits, desk, entries[k]) as usize;
+        k += 1;
+    }
+    n
+}
+
+// How many entries of a row are shown.
+fn shown_of(
+    owners: &[u64],
+    entries: &[u32],
+    row_starts: &[u32],
+    bits: &[u8],
+    desk: u32,
+    y: u32,
+) -> usize {
     let at = y as usize;
     if row_starts.len() <= at + 1 {
         return 0;
     }
-    let first = row_starts[at];
-    let past = row_starts[at + 1];
-    if past < first { 0 } else { past - first }
+    let first = index(row_starts[at]);
+    let past = index(row_starts[at + 1]);
+    if past < first {
+        return 0;
+    }
+    if entries.len() < past {
+        return 0;
+    }
+    shown_in(owners, &entries[first..past], bits, desk)
+}
+
+fn has_some(
+    owners: &[u64],
+    entries: &[u32],
+    row_starts: &[u32],
+    bits: &[u8],
+    desk: u32,
+    y: u32,
+) -> u32
+    ensures { λ r. ⌜ r ≤ 1 ⌝ }
+{
+    if shown_of(owners, entries, row_starts, bits, desk, y) == 0 {
+        0
+    } else {
+        1
+    }
 }
 
 // How many rows have any.
-fn rows_held(row_starts: &[u32], height: u32) -> u32 {
+fn rows_held(
+    owners: &[u64],
+    entries: &[u32],
+    row_starts: &[u32],
+    bits: &[u8],
+    desk: u32,
+    height: u32,
+) -> u32 {
     let mut held: u32 = 0;
     let mut y: u32 = 0;
     while y < height {
-        held += has_some(row_starts, y);
+        held += has_some(owners, entries, row_starts, bits, desk, y);
         y += 1;
     }
     held
-}
-
-fn has_some(row_starts: &[u32], y: u32) -> u32
-    ensures { λ r. ⌜ r ≤ 1 ⌝ }
-{
-    if entries_of(row_starts, y) == 0 { 0 } else { 1 }
 }
 
 // The status, after a line that says why the picture could not be written.
@@ -275,11 +353,13 @@ pub fn draw(
     entries: &[u32],
     entry_count: u32,
     row_starts: &[u32],
+    bits: &[u8],
     task: Task,
 ) -> u8
     ensures { λ r. ⌜ r ≤ 3 ⌝ }
 {
     let height = task.height;
+    let desk = task.desk;
     if !write_head(task) {
         return no_picture();
     }
@@ -290,17 +370,21 @@ pub fn draw(
         entries,
         entry_count,
         row_starts,
+        bits,
         task,
     ) {
         Part::Failed => no_picture(),
         Part::Updates(updates) => words::out(
             b"# updates, # rows that hold anything\n",
-            &[updates, rows_held(row_starts, height) as u64],
+            &[
+                updates,
+                rows_held(owners, entries, row_starts, bits, desk, height) as u64,
+            ],
         ),
     }
 }
 
-fn say_row(y: u32, entries: u32, first: u32, past: u32) -> u8
+fn say_row(y: u32, entries: usize, first: u32, past: u32) -> u8
     ensures { λ r. ⌜ r ≤ 3 ⌝ }
 {
     words::out(
@@ -309,7 +393,7 @@ fn say_row(y: u32, entries: u32, first: u32, past: u32) -> u8
     )
 }
 
-// One row, where it has entries; the status so far.
+// One row, where it shows any entry; the status so far.
 fn reach_row(
     segments: &[f32],
     owners: &[u64],
@@ -317,18 +401,20 @@ fn reach_row(
     entries: &[u32],
     entry_count: u32,
     row_starts: &[u32],
+    bits: &[u8],
     task: Task,
     y: u32,
 ) -> u8
     ensures { λ r. ⌜ r ≤ 3 ⌝ }
 {
-    let held = entries_of(row_starts, y);
+    let desk = task.desk;
+    let held = shown_of(owners, entries, row_starts, bits, desk, y);
     if held == 0 {
         return 0;
     }
     let height = task.height;
     let width = task.width;
-    let bits = [0u8; TRACES];
+    let splines = bits.len() as u64;
     match hull::reach(
         segments,
         owners,
@@ -337,9 +423,9 @@ fn reach_row(
         entry_count,
         row_starts,
         height,
-        SPLINES,
-        &bits,
-        0,
+        splines,
+        bits,
+        desk,
         y,
         width,
     ) {
@@ -348,7 +434,7 @@ fn reach_row(
     }
 }
 
-// `gauge rows`: each row with entries, and its reach.
+// `gauge rows`: each row that shows entries, and its reach.
 pub fn rows(
     segments: &[f32],
     owners: &[u64],
@@ -356,6 +442,7 @@ pub fn rows(
     entries: &[u32],
     entry_count: u32,
     row_starts: &[u32],
+    bits: &[u8],
     task: Task,
 ) -> u8
     ensures { λ r. ⌜ r ≤ 3 ⌝ }
@@ -370,6 +457,7 @@ pub fn rows(
             entries,
             entry_count,
             row_starts,
+            bits,
             task,
             y,
         );

@@ -1,14 +1,15 @@
-// What a list of decoded values or a trace file holds, what it draws, which rows, whose a pixel is, why a segment sits where it does, and either made from the other:
-// `gauge read`, `gauge draw`, `gauge rows`, `gauge touch`, `gauge why`, `gauge trace`.
+// What a list of decoded values or a trace file holds, what it draws, which rows, whose a pixel is, why a segment sits where it does, its row table and another maker's, whether it meets the fineness profile,
+// and either made from the other: `gauge read`, `gauge draw`, `gauge rows`, `gauge touch`, `gauge why`, `gauge table`, `gauge check`, `gauge profile`, `gauge trace`.
 // A program has no exit status: with `--status` it is written as a digit to descriptor 3 (0: done, 1: refused, 2: wrong use).
 mod arguments;
-mod files;
+mod options;
 
 ghost use Prim.Native.Nat.{_≤_};
 use arguments::Number;
 use canvas::Asked;
 use canvas::Task;
 use files::Loaded;
+use options::Options;
 
 const VALUES: usize = 65536;
 
@@ -32,7 +33,7 @@ enum Kind {
 fn usage() -> u8 {
     words::wrong(
         2,
-        b"usage: gauge read VALUES, rows VALUES WIDTH HEIGHT, touch VALUES WIDTH HEIGHT X Y, why VALUES WIDTH HEIGHT N, draw VALUES WIDTH HEIGHT PICTURE.ppm or .pfm, trace out VALUES FILE.trace, or trace in FILE.trace VALUES\n",
+        b"usage: gauge read, rows, touch, why, table, check, profile, draw, trace out or trace in, each with the file VALUES and what it asks for: ./gauge --help tells the words of each\n",
         &[],
     )
 }
@@ -90,19 +91,25 @@ fn perform(i: usize, task: Task) -> u8 {
     }
 }
 
-fn read(i: u8) -> u8 {
-    perform(
-        i as usize,
-        Task {
-            width: 0,
-            height: 0,
-            asked: Asked::Told,
-            fd: 1,
-            floats: false,
-            progress: false,
-            high: false,
-        },
-    )
+// A task of these options, in words to standard output.
+fn task(options: Options, width: u32, height: u32, asked: Asked) -> Task {
+    Task {
+        width: width,
+        height: height,
+        asked: asked,
+        fd: 1,
+        floats: false,
+        progress: false,
+        high: options.high,
+        hide: options.hide,
+        desk: options.desk,
+        profile: options.profile,
+        edition: options.edition,
+    }
+}
+
+fn read(i: u8, options: Options) -> u8 {
+    perform(i as usize, task(options, 0, 0, Asked::Told))
 }
 
 fn is_within(n: u32, most: u32) -> bool {
@@ -114,7 +121,7 @@ fn is_within(n: u32, most: u32) -> bool {
 
 // The two numbers that the arguments from i on say.
 fn two_at(i: u8) -> Two
-    requires { ⌜ i ≤ 8 ⌝ }
+    requires { ⌜ i ≤ 60 ⌝ }
 {
     let Number::Is(a) = arguments::argument(i as usize) else {
         return Two::Not;
@@ -127,7 +134,7 @@ fn two_at(i: u8) -> Two
 
 // The width and the height that the arguments from i on say.
 fn size_at(i: u8) -> Two
-    requires { ⌜ i ≤ 8 ⌝ }
+    requires { ⌜ i ≤ 60 ⌝ }
 {
     let Two::Are(width, height) = two_at(i) else {
         return Two::Not;
@@ -141,29 +148,18 @@ fn size_at(i: u8) -> Two
     Two::Are(width, height)
 }
 
-fn rows(i: u8, high: bool) -> u8
-    requires { ⌜ i ≤ 5 ⌝ }
+fn rows(i: u8, options: Options) -> u8
+    requires { ⌜ i ≤ 40 ⌝ }
 {
     match size_at(i + 1) {
         Two::Not => say_size(),
-        Two::Are(width, height) => perform(
-            i as usize,
-            Task {
-                width: width,
-                height: height,
-                asked: Asked::Rows,
-                fd: 1,
-                floats: false,
-                progress: false,
-                high: high,
-            },
-        ),
+        Two::Are(width, height) => perform(i as usize, task(options, width, height, Asked::Rows)),
     }
 }
 
 // The column and the row, in an image of this size, that the arguments from i on say.
 fn pixel_at(i: u8, width: u32, height: u32) -> Two
-    requires { ⌜ i ≤ 8 ⌝ }
+    requires { ⌜ i ≤ 60 ⌝ }
 {
     let Two::Are(x, y) = two_at(i) else {
         return Two::Not;
@@ -178,63 +174,63 @@ fn pixel_at(i: u8, width: u32, height: u32) -> Two
 }
 
 // The traces of the file that argument i names that have a pixel of an image of this size.
-fn touch_in(i: u8, width: u32, height: u32, high: bool) -> u8
-    requires { ⌜ i ≤ 5 ⌝ }
+fn touch_in(i: u8, width: u32, height: u32, options: Options) -> u8
+    requires { ⌜ i ≤ 40 ⌝ }
 {
     match pixel_at(i + 3, width, height) {
         Two::Not => say_pixel(),
-        Two::Are(x, y) => perform(
-            i as usize,
-            Task {
-                width: width,
-                height: height,
-                asked: Asked::Touch(x, y),
-                fd: 1,
-                floats: false,
-                progress: false,
-                high: high,
-            },
-        ),
+        Two::Are(x, y) => perform(i as usize, task(options, width, height, Asked::Touch(x, y))),
     }
 }
 
-fn touch(i: u8, high: bool) -> u8
-    requires { ⌜ i ≤ 5 ⌝ }
+fn touch(i: u8, options: Options) -> u8
+    requires { ⌜ i ≤ 40 ⌝ }
 {
     match size_at(i + 1) {
         Two::Not => say_size(),
-        Two::Are(width, height) => touch_in(i, width, height, high),
+        Two::Are(width, height) => touch_in(i, width, height, options),
     }
 }
 
 // Why the segment that the argument after the size says sits where it does.
-fn why_in(i: u8, width: u32, height: u32, high: bool) -> u8
-    requires { ⌜ i ≤ 5 ⌝ }
+fn why_in(i: u8, width: u32, height: u32, options: Options) -> u8
+    requires { ⌜ i ≤ 40 ⌝ }
 {
     match arguments::argument(i as usize + 3) {
-        Number::Is(n) => perform(
-            i as usize,
-            Task {
-                width: width,
-                height: height,
-                asked: Asked::Why(n),
-                fd: 1,
-                floats: false,
-                progress: false,
-                high: high,
-            },
-        ),
+        Number::Is(n) => perform(i as usize, task(options, width, height, Asked::Why(n))),
         _ => words::wrong(2, b"the number of a segment is due\n", &[]),
     }
 }
 
-fn why(i: u8, high: bool) -> u8
-    requires { ⌜ i ≤ 5 ⌝ }
+fn why(i: u8, options: Options) -> u8
+    requires { ⌜ i ≤ 40 ⌝ }
 {
     match size_at(i + 1) {
         Two::Not => say_size(),
-        Two::Are(width, height) => why_in(i, width, height, high),
+        Two::Are(width, height) => why_in(i, width, height, options),
     }
+}
+
+// The row starts and the entries of a table, or whether those of the file that the argument after the size names are it.
+fn table(i: u8, options: Options, asked: Asked) -> u8
+    requires { ⌜ i ≤ 40 ⌝ }
+{
+    match size_at(i + 1) {
+        Two::Not => say_size(),
+        Two::Are(width, height) => perform(i as usize, task(options, width, height, asked)),
+    }
+}
+
+// Whether the file that argument i names meets the edition that the next argument is, or edition 1 where there is none.
+fn profile(i: u8, more: usize, options: Options) -> u8
+    requires { ⌜ i ≤ 40 ⌝ }
+{
+    let edition = if more == 1 {
+        1
+    } else {
+        options::edition_at(i as usize + 1)
+    };
+    perform(i as usize, task(options, 0, 0, Asked::Profile(edition)))
 }
 
 // Whether a name ends so.
@@ -274,8 +270,7 @@ fn write_to(
     asked: Asked,
     path: &[u8],
     floats: bool,
-    progress: bool,
-    high: bool,
+    options: Options,
 ) -> u8 {
     let fd = os::open_overwrite(path);
     if fd < 0 {
@@ -293,59 +288,54 @@ fn write_to(
             asked: asked,
             fd: fd,
             floats: floats,
-            progress: progress,
-            high: high,
+            progress: options.progress,
+            high: options.high,
+            hide: options.hide,
+            desk: options.desk,
+            profile: options.profile,
+            edition: options.edition,
         },
     );
     libc::close(fd);
     status
 }
 
-fn draw_named(i: u8, width: u32, height: u32, path: &[u8], progress: bool, high: bool) -> u8 {
+fn draw_named(i: u8, width: u32, height: u32, path: &[u8], options: Options) -> u8 {
     match kind_of(path) {
-        Kind::Tones => write_to(
-            i,
-            width,
-            height,
-            Asked::Picture,
-            path,
-            false,
-            progress,
-            high,
-        ),
-        Kind::Floats => write_to(i, width, height, Asked::Picture, path, true, progress, high),
+        Kind::Tones => write_to(i, width, height, Asked::Picture, path, false, options),
+        Kind::Floats => write_to(i, width, height, Asked::Picture, path, true, options),
         _ => usage(),
     }
 }
 
-fn draw(i: u8, progress: bool, high: bool) -> u8
-    requires { ⌜ i ≤ 5 ⌝ }
+fn draw(i: u8, options: Options) -> u8
+    requires { ⌜ i ≤ 40 ⌝ }
 {
     match size_at(i + 1) {
         Two::Not => say_size(),
         Two::Are(width, height) => {
             let mut held = io::buffer();
             let n = os::arg(i as usize + 3, &mut held);
-            draw_named(i, width, height, &held[..n], progress, high)
+            draw_named(i, width, height, &held[..n], options)
         }
     }
 }
 
 // The trace file of the file that argument i names, into the file that the next one names.
-fn trace_out(i: u8) -> u8
-    requires { ⌜ i ≤ 7 ⌝ }
+fn trace_out(i: u8, options: Options) -> u8
+    requires { ⌜ i ≤ 60 ⌝ }
 {
     let mut held = io::buffer();
     let n = os::arg(i as usize + 1, &mut held);
     match kind_of(&held[..n]) {
-        Kind::Trace => write_to(i, 0, 0, Asked::Trace, &held[..n], false, false, false),
+        Kind::Trace => write_to(i, 0, 0, Asked::Trace, &held[..n], false, options),
         _ => usage(),
     }
 }
 
 // The list of the trace file that argument i names, into the file that the next one names, which is none.
-fn trace_in(i: u8) -> u8
-    requires { ⌜ i ≤ 7 ⌝ }
+fn trace_in(i: u8, options: Options) -> u8
+    requires { ⌜ i ≤ 60 ⌝ }
 {
     let Kind::Trace = kind_at(i as usize) else {
         return usage();
@@ -353,88 +343,123 @@ fn trace_in(i: u8) -> u8
     let mut held = io::buffer();
     let n = os::arg(i as usize + 1, &mut held);
     match kind_of(&held[..n]) {
-        Kind::Other => write_to(i, 0, 0, Asked::List, &held[..n], false, false, false),
+        Kind::Other => write_to(i, 0, 0, Asked::List, &held[..n], false, options),
         _ => usage(),
     }
 }
 
 // `out` or `in` at argument i, and two files.
-fn trace(i: u8) -> u8
-    requires { ⌜ i ≤ 6 ⌝ }
+fn trace(i: u8, options: Options) -> u8
+    requires { ⌜ i ≤ 40 ⌝ }
 {
     if arguments::is_argument(i as usize, b"out") {
-        return trace_out(i + 1);
+        return trace_out(i + 1, options);
     }
     if arguments::is_argument(i as usize, b"in") {
-        return trace_in(i + 1);
+        return trace_in(i + 1, options);
     }
     usage()
 }
 
-// The command whose words begin at argument `at`.
-fn run(at: u8, progress: bool, high: bool) -> u8
-    requires { ⌜ at ≤ 4 ⌝ }
+// Whether the command is this one, with so many words behind it.
+fn is_command(at: u8, word: &[u8]) -> bool {
+    arguments::is_argument(at as usize, word)
+}
+
+// The command with these options, whose words behind it are so many.
+fn run_words(at: u8, more: usize, options: Options) -> u8
+    requires { ⌜ at ≤ 20 ⌝ }
 {
-    let first = at as usize;
-    let words = os::arg_count();
-    if arguments::is_argument(first, b"read") {
-        if words != first + 2 {
-            return usage();
-        }
-        return read(at + 1);
+    if is_command(at, b"read") {
+        return if more == 1 {
+            read(at + 1, options)
+        } else {
+            usage()
+        };
     }
-    if arguments::is_argument(first, b"rows") {
-        if words != first + 4 {
-            return usage();
-        }
-        return rows(at + 1, high);
+    if is_command(at, b"rows") {
+        return if more == 3 {
+            rows(at + 1, options)
+        } else {
+            usage()
+        };
     }
-    if arguments::is_argument(first, b"touch") {
-        if words != first + 6 {
-            return usage();
-        }
-        return touch(at + 1, high);
+    if is_command(at, b"touch") {
+        return if more == 5 {
+            touch(at + 1, options)
+        } else {
+            usage()
+        };
     }
-    if arguments::is_argument(first, b"why") {
-        if words != first + 5 {
-            return usage();
-        }
-        return why(at + 1, high);
+    if is_command(at, b"why") {
+        return if more == 4 {
+            why(at + 1, options)
+        } else {
+            usage()
+        };
     }
-    if arguments::is_argument(first, b"trace") {
-        if words != first + 4 {
-            return usage();
-        }
-        return trace(at + 1);
+    if is_command(at, b"trace") {
+        return if more == 3 {
+            trace(at + 1, options)
+        } else {
+            usage()
+        };
     }
-    if arguments::is_argument(first, b"draw") {
-        if words != first + 5 {
+    if is_command(at, b"table") {
+        return if more == 3 {
+            table(at + 1, options, Asked::Table)
+        } else {
+            usage()
+        };
+    }
+    if is_command(at, b"check") {
+        return if more == 4 {
+            table(at + 1, options, Asked::Check(at + 4))
+        } else {
+            usage()
+        };
+    }
+    if is_command(at, b"profile") {
+        if more == 0 {
             return usage();
         }
-        return draw(at + 1, progress, high);
+        return if more < 3 {
+            profile(at + 1, more, options)
+        } else {
+            usage()
+        };
+    }
+    if is_command(at, b"draw") {
+        return if more == 4 {
+            draw(at + 1, options)
+        } else {
+            usage()
+        };
     }
     usage()
 }
 
-// Progress is told where it is asked for, or to a terminal; the precision is high where that is asked for. The two words may stand in any order.
+// The command behind the options that begin at argument `at`.
 fn run_from(at: u8) -> u8
     requires { ⌜ at ≤ 2 ⌝ }
 {
-    let first = at as usize;
-    if arguments::is_argument(first, b"--progress") {
-        if arguments::is_argument(first + 1, b"--high") {
-            return run(at + 2, true, true);
-        }
-        return run(at + 1, true, false);
+    let options = options::options_from(at);
+    if !options.good {
+        return usage();
     }
-    let told = libc::isatty(2) == 1;
-    if arguments::is_argument(first, b"--high") {
-        if arguments::is_argument(first + 1, b"--progress") {
-            return run(at + 2, true, true);
-        }
-        return run(at + 1, told, true);
+    if 1 < options.desk {
+        return words::wrong(
+            2,
+            b"a desk is 0, the operator's, or 1, the class checker's\n",
+            &[],
+        );
     }
-    run(at, told, false)
+    let first = options.at;
+    let words = os::arg_count();
+    if words <= first as usize {
+        return usage();
+    }
+    run_words(first, words - first as usize - 1, options)
 }
 
 // A status, as one digit; none after an end that is to be quiet.

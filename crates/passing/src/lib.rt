@@ -5,8 +5,8 @@ ghost use Prim.Native.Nat.{_≤_};
 use codes::Code;
 use writer::WriteAnswer;
 
-// As much as a trace file of 512 splines and 16384 points has.
-const BYTES: usize = 399392;
+// As much as a trace file of 512 splines and 16384 points has, of version 2.
+const BYTES: usize = 399396;
 
 const VALUES: usize = 65536;
 
@@ -55,19 +55,31 @@ fn refuse(code: Code, place: usize) -> u8
     words::of_trace(code, place, &[])
 }
 
-// `gauge trace out`; the status.
+// `gauge trace out`, in a file of version 2 with this edition, or of version 1 where the edition is 0; the status.
 pub fn as_trace(
     counts: &[u32],
     starts: &[f32],
     deltas: &[i32],
     coefficients: &[i32],
     adjustment: i32,
+    edition: u32,
     fd: i32,
 ) -> u8
     ensures { λ r. ⌜ r ≤ 3 ⌝ }
 {
     let mut bytes = [0u8; BYTES];
-    match trace_write::trace_write(counts, starts, deltas, coefficients, adjustment, &mut bytes) {
+    let version = if edition == 0 { 1 } else { 2 };
+    let held = if edition == 0 { 1 } else { edition };
+    match trace2_write::trace_write2(
+        counts,
+        starts,
+        deltas,
+        coefficients,
+        adjustment,
+        version,
+        held,
+        &mut bytes,
+    ) {
         WriteAnswer::Refused(code, place) => refuse(code, place),
         WriteAnswer::Done(n) => write_trace(fd, &bytes, n),
     }

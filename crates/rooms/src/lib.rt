@@ -5,6 +5,7 @@ ghost use Prim.Native.Nat.{_≤_};
 use canvas::Asked;
 use canvas::Task;
 use reader::ReadAnswer;
+use trace2::FileAnswer;
 
 const SPLINES: usize = 512;
 
@@ -17,10 +18,32 @@ const COEFFICIENTS: usize = 65536;
 // The usual configured limit.
 const CONFIGURED: u32 = 1048576;
 
-// What a description was read from: a list of so many values, or a trace file of so many bytes.
+// What a description was read from: a list of so many values, or a trace file of so many bytes and its edition.
 pub enum Source {
     List(usize),
-    File(usize),
+    File(usize, u32),
+}
+
+// What is asked of the table of a description, which is built only if it meets the edition that is asked for.
+fn build(
+    counts: &[u32],
+    starts: &[f32],
+    deltas: &[i32],
+    coefficients: &[i32],
+    adjustment: i32,
+    task: Task,
+) -> u8
+    ensures { λ r. ⌜ r ≤ 3 ⌝ }
+{
+    let edition = task.profile;
+    if edition == 0 {
+        return tables::build(counts, starts, deltas, coefficients, adjustment, task);
+    }
+    let status = fineness::judge(counts, starts, deltas, coefficients, adjustment, edition);
+    if status != 0 {
+        return status;
+    }
+    tables::build(counts, starts, deltas, coefficients, adjustment, task)
 }
 
 // What is asked of a description.
@@ -40,13 +63,25 @@ fn answer(
         Asked::Told => telling::say(counts, starts, deltas.len() / 2, adjustment, source),
         Asked::Trace => {
             let fd = task.fd;
-            passing::as_trace(counts, starts, deltas, coefficients, adjustment, fd)
+            let edition = task.edition;
+            passing::as_trace(
+                counts,
+                starts,
+                deltas,
+                coefficients,
+                adjustment,
+                edition,
+                fd,
+            )
         }
         Asked::List => {
             let fd = task.fd;
             passing::as_list(counts, starts, deltas, coefficients, adjustment, fd)
         }
-        _ => tables::build(counts, starts, deltas, coefficients, adjustment, task),
+        Asked::Profile(edition) => {
+            fineness::say(counts, starts, deltas, coefficients, adjustment, edition)
+        }
+        _ => build(counts, starts, deltas, coefficients, adjustment, task),
     }
 }
 
@@ -147,15 +182,15 @@ pub fn of_trace(bytes: &[u8], task: Task) -> u8
     let mut starts = [0.0f32; STARTS];
     let mut deltas = [0i32; DELTAS];
     let mut coefficients = [0i32; COEFFICIENTS];
-    match trace_read::trace_read(
+    match trace2_read::trace_read2(
         bytes,
         &mut counts,
         &mut starts,
         &mut deltas,
         &mut coefficients,
     ) {
-        ReadAnswer::Refused(code, place) => words::of_trace(code, place, bytes),
-        ReadAnswer::Done(splines, points, adjustment) => answer_first(
+        FileAnswer::Refused(code, place) => words::of_trace(code, place, bytes),
+        FileAnswer::Done(splines, points, adjustment, edition) => answer_first(
             &counts,
             &starts,
             &deltas,
@@ -163,7 +198,7 @@ pub fn of_trace(bytes: &[u8], task: Task) -> u8
             splines,
             points,
             adjustment,
-            Source::File(bytes.len()),
+            Source::File(bytes.len(), edition),
             task,
         ),
     }

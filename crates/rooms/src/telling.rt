@@ -11,9 +11,9 @@ fn say_counts(source: Source, splines: u64, points: u64, adjustment: i32) -> u8
             b"# values: # splines, # points, adjustment ~\n",
             &[values as u64, splines, points, packed],
         ),
-        Source::File(bytes) => words::out(
-            b"# bytes: # splines, # points, adjustment ~\n",
-            &[bytes as u64, splines, points, packed],
+        Source::File(bytes, edition) => words::out(
+            b"# bytes: # splines, # points, adjustment ~, edition #\n",
+            &[bytes as u64, splines, points, packed, edition as u64],
         ),
     }
 }

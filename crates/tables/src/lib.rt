@@ -1,4 +1,4 @@
-// The table of a description, built in fixed rooms, and what is asked of it: its rows, a picture, the traces that have a pixel, or why a segment sits where it does.
+// The table of a description, built in fixed rooms, and what is asked of it: its rows, a picture, the traces that have a pixel, why a segment sits where it does, its row starts and entries, or whether another maker's are they.
 mod explaining;
 mod touching;
 
@@ -7,6 +7,9 @@ use canvas::Asked;
 use canvas::Task;
 use codes::Code;
 use table::BuildAnswer;
+
+// As many as a description of this program has splines.
+const TRACES: usize = 512;
 
 const PATH: usize = 16384;
 
@@ -30,31 +33,20 @@ fn say_built(segments: u32, faint: u32, entries: u32, estimate: u64) -> u8
     )
 }
 
-// What is asked of a table of these counts.
-fn perform(
+// The picture or the rows of a table of these counts, without what the bytes hide, a byte a spline.
+fn show(
     segments: &[f32],
     owners: &[u64],
     segment_count: u32,
     entries: &[u32],
     entry_count: u32,
     row_starts: &[u32],
-    estimate: u64,
-    faint: u32,
+    bits: &[u8],
     task: Task,
 ) -> u8
     ensures { λ r. ⌜ r ≤ 3 ⌝ }
 {
     let asked = task.asked;
-    if let Asked::Touch(x, y) = asked {
-        return touching::say(segments, owners, segment_count, x, y);
-    }
-    if let Asked::Why(n) = asked {
-        return explaining::say(segments, owners, segment_count, n);
-    }
-    let status = say_built(segment_count, faint, entry_count, estimate);
-    if status != 0 {
-        return status;
-    }
     match asked {
         Asked::Picture => canvas::draw(
             segments,
@@ -63,6 +55,7 @@ fn perform(
             entries,
             entry_count,
             row_starts,
+            bits,
             task,
         ),
         _ => canvas::rows(
@@ -72,8 +65,96 @@ fn perform(
             entries,
             entry_count,
             row_starts,
+            bits,
             task,
         ),
+    }
+}
+
+// The same, with the counts before it, of so many splines of which some are hidden, with a byte for each.
+fn show_hidden(
+    segments: &[f32],
+    owners: &[u64],
+    segment_count: u32,
+    entries: &[u32],
+    entry_count: u32,
+    row_starts: &[u32],
+    bytes: &mut [u8],
+    splines: usize,
+    estimate: u64,
+    faint: u32,
+    task: Task,
+) -> u8
+    ensures { λ r. ⌜ r ≤ 3 ⌝ }
+{
+    if bytes.len() < splines {
+        return 1;
+    }
+    let hide = task.hide;
+    let desk = task.desk;
+    let status = hiding::hide_named(hide, desk, &mut bytes[0..splines]);
+    if status != 0 {
+        return status;
+    }
+    let status = say_built(segment_count, faint, entry_count, estimate);
+    if status != 0 {
+        return status;
+    }
+    show(
+        segments,
+        owners,
+        segment_count,
+        entries,
+        entry_count,
+        row_starts,
+        &bytes[0..splines],
+        task,
+    )
+}
+
+// What is asked of a table of these counts.
+fn perform(
+    segments: &[f32],
+    owners: &[u64],
+    segment_count: u32,
+    entries: &[u32],
+    entry_count: u32,
+    row_starts: &[u32],
+    splines: usize,
+    estimate: u64,
+    faint: u32,
+    task: Task,
+) -> u8
+    ensures { λ r. ⌜ r ≤ 3 ⌝ }
+{
+    let asked = task.asked;
+    match asked {
+        Asked::Touch(x, y) => touching::say(segments, owners, segment_count, x, y),
+        Asked::Why(n) => explaining::say(segments, owners, segment_count, n),
+        Asked::Table => {
+            let height = task.height;
+            listing::say(entries, entry_count, row_starts, height)
+        }
+        Asked::Check(i) => {
+            let height = task.height;
+            listing::check(segments, segment_count, height, i)
+        }
+        _ => {
+            let mut bytes = [0u8; TRACES];
+            show_hidden(
+                segments,
+                owners,
+                segment_count,
+                entries,
+                entry_count,
+                row_starts,
+                &mut bytes,
+                splines,
+                estimate,
+                faint,
+                task,
+            )
+        }
     }
 }
 
@@ -148,6 +229,7 @@ fn build_in(
             entries,
             listed,
             row_starts,
+            counts.len(),
             estimate,
             faint,
             task,

@@ -42,7 +42,7 @@ fn of_header(place: u64, number: u64) -> u8
     if place == 0 {
         wrong(
             1,
-            b"refused: HEADER (17) at byte 0: version #, and the only one is 1\n",
+            b"refused: HEADER (17) at byte 0: version #, and there are 1 and 2\n",
             &[number],
         )
     } else {
@@ -67,6 +67,11 @@ pub fn of_trace(code: Code, place: usize, bytes: &[u8]) -> u8
             &[at],
         ),
         Code::Header => of_header(at, here),
+        Code::Edition => wrong(
+            1,
+            b"refused: EDITION (22) at byte #: an edition is 1 or 2, and a file of version 1 holds edition 1\n",
+            &[at],
+        ),
         Code::Trail => wrong(
             1,
             b"refused: TRAIL (6) at byte #: the trace file goes on after its last coefficient\n",

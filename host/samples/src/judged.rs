@@ -1,7 +1,7 @@
 //! The sample as spline.rs takes it, for an image of some size.
 
 use crate::fibres;
-use cases::{Description, Given, Table};
+use cases::{desks, Description, Given, Table};
 use oracle::Outcome;
 
 /// The usual configured limit.
@@ -43,16 +43,32 @@ pub fn judged(size: Size) -> Result<Judged, String> {
     if read.outcome != Outcome::Done(description.clone()) || read.consumed != list.len() {
         return Err(String::from("spline.rs does not read the fibres back"));
     }
+    let table = table_of(&description, size)?;
+    Ok(Judged {
+        description,
+        list,
+        table,
+    })
+}
+
+/// The sample without the fibres of these numbers, as a desk draws that has hidden them.
+pub fn without(judged: &Judged, size: Size, hidden: &[u64]) -> Result<Judged, String> {
+    let description = desks::without(&judged.description, |spline| hidden.contains(&spline));
+    let table = table_of(&description, size)?;
+    Ok(Judged {
+        description,
+        list: Vec::new(),
+        table,
+    })
+}
+
+fn table_of(description: &Description, size: Size) -> Result<Table, String> {
     let given = Given {
         high_precision: size.high,
         ..Given::of(size.width, size.height)
     };
-    match oracle::build(&description, &given) {
-        Outcome::Done(built) => Ok(Judged {
-            description,
-            list,
-            table: built.table,
-        }),
+    match oracle::build(description, &given) {
+        Outcome::Done(built) => Ok(built.table),
         other => Err(format!(
             "spline.rs does not build the fibres: {:?}",
             other.map(|_| ())

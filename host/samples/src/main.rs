@@ -7,7 +7,7 @@ mod picture;
 mod said;
 mod values;
 
-use judged::{judged, Judged, Size, WHOLE};
+use judged::{judged, without, Judged, Size, WHOLE};
 use std::process::ExitCode;
 
 const FILE: &str = "samples/fibres.values";
@@ -18,7 +18,7 @@ usage, from the repository's top:
   samples make | check                 samples/fibres.values, and what it holds
   samples examples                     what examples/ have to print of it
   samples trace                        what tools/trace_reader.py has to print of its trace file
-  samples read | [--high] rows WIDTH HEIGHT | [--high] draw WIDTH HEIGHT PICTURE | touch WIDTH HEIGHT X Y
+  samples read | [--high] rows [--hide N,N..] WIDTH HEIGHT | [--high] draw [--hide N,N..] WIDTH HEIGHT PICTURE | touch WIDTH HEIGHT X Y | table WIDTH HEIGHT
                                        what ./gauge has to print of it, and its picture
 ";
 
@@ -51,15 +51,26 @@ fn check() -> Result<String, String> {
     Ok(said::sample(&judged))
 }
 
-fn draw(size: Size, path: &str) -> Result<String, String> {
-    let judged = judged(size)?;
+fn draw(size: Size, hidden: &[u64], path: &str) -> Result<String, String> {
+    let whole = judged(size)?;
+    let shown = without(&whole, size, hidden)?;
     let bytes = if path.ends_with(".pfm") {
-        picture::pfm(&judged.table, size)?
+        picture::pfm(&shown.table, size)?
     } else {
-        picture::ppm(&judged.table, size)?
+        picture::ppm(&shown.table, size)?
     };
     put(path, &bytes)?;
-    said::draw(&judged, size)
+    said::draw(&whole, &shown, size)
+}
+
+fn rows(size: Size, hidden: &[u64]) -> Result<String, String> {
+    let whole = judged(size)?;
+    said::rows(&whole, &without(&whole, size, hidden)?, size)
+}
+
+/// The numbers of hidden fibres, as `3,7`.
+fn numbers(text: &str) -> Option<Vec<u64>> {
+    text.split(',').map(|word| word.parse().ok()).collect()
 }
 
 fn size(width: &str, height: &str, high: bool) -> Option<Size> {
@@ -79,15 +90,21 @@ fn run(words: &[&str]) -> Option<Result<String, String>> {
         ["examples"] => judged(WHOLE).and_then(|judged| said::examples(&judged, WHOLE)),
         ["trace"] => judged(WHOLE).map(|judged| said::trace(&judged)),
         ["read"] => judged(WHOLE).map(|judged| said::read(&judged)),
-        ["rows", width, height] => {
-            let size = size(width, height, high)?;
-            judged(size).and_then(|judged| said::rows(&judged, size))
+        ["rows", width, height] => rows(size(width, height, high)?, &[]),
+        ["rows", "--hide", hidden, width, height] => {
+            rows(size(width, height, high)?, &numbers(hidden)?)
+        }
+        ["table", width, height] => {
+            judged(size(width, height, high)?).map(|judged| said::table(&judged))
         }
         ["touch", width, height, x, y] => {
             let (x, y) = (x.parse().ok()?, y.parse().ok()?);
             judged(size(width, height, high)?).map(|judged| said::touch(&judged, x, y))
         }
-        ["draw", width, height, path] => draw(size(width, height, high)?, path),
+        ["draw", width, height, path] => draw(size(width, height, high)?, &[], path),
+        ["draw", "--hide", hidden, width, height, path] => {
+            draw(size(width, height, high)?, &numbers(hidden)?, path)
+        }
         _ => return None,
     })
 }

@@ -158,10 +158,11 @@ fn numbers(name: &str, numbers: &[i32]) -> String {
 }
 
 /// `gauge rows`: the entries by the table of spline.rs, the reach of them by the second reading, since the Rust has none.
-pub fn rows(judged: &Judged, size: Size) -> Result<String, String> {
-    let (flat, sight) = (FlatTable::from(&judged.table), open(judged));
-    let mut text = built(&judged.table) + "\n";
-    for (y, entries) in (0..).zip(held(&judged.table)).filter(|&(_, held)| held > 0) {
+/// Of the whole table the counts, the rows of what is shown of it.
+pub fn rows(whole: &Judged, shown: &Judged, size: Size) -> Result<String, String> {
+    let (flat, sight) = (FlatTable::from(&shown.table), open(shown));
+    let mut text = built(&whole.table) + "\n";
+    for (y, entries) in (0..).zip(held(&shown.table)).filter(|&(_, held)| held > 0) {
         let (first, past) = model::reach(&flat, &sight, y, size.width)
             .map_err(|refusal| format!("the reach of row {y} is refused: {refusal:?}"))?;
         text += &format!("row {y}: {entries} entries, columns from {first} up to {past}\n");
@@ -169,14 +170,20 @@ pub fn rows(judged: &Judged, size: Size) -> Result<String, String> {
     Ok(text)
 }
 
-/// `gauge draw`.
-pub fn draw(judged: &Judged, size: Size) -> Result<String, String> {
-    let rows = held(&judged.table).filter(|&held| held > 0).count();
+/// `gauge draw`: of the whole table the counts, the updates and rows of what is shown of it.
+pub fn draw(whole: &Judged, shown: &Judged, size: Size) -> Result<String, String> {
+    let rows = held(&shown.table).filter(|&held| held > 0).count();
     Ok(format!(
         "{}\n{} updates, {rows} rows that hold anything\n",
-        built(&judged.table),
-        updates(judged, size)?
+        built(&whole.table),
+        updates(shown, size)?
     ))
+}
+
+/// `gauge table`: the row starts and the entries of spline.rs, a number a line.
+pub fn table(judged: &Judged) -> String {
+    let numbers = judged.table.row_starts.iter().chain(&judged.table.entries);
+    numbers.map(|number| format!("{number}\n")).collect()
 }
 
 /// How many entries each row has.

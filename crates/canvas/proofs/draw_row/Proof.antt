@@ -5,10 +5,10 @@ use Rattle.canvas.proofs.draw_row.Statement.{statement}
 use Rattle.canvas.proofs.draw_row.Tie as tie
 
 abbrev Inv-loop : tie.InvT-loop
-Inv-loop segments owners segment-count entries entry-count row-starts task y width sum₀ x0₀ sum x0 = x0 ≤ width
+Inv-loop segments owners segment-count entries entry-count row-starts bits task y width sum₀ x0₀ sum x0 = x0 ≤ width
 
 abbrev μ-loop : tie.MeasureT-loop
-μ-loop segments owners segment-count entries entry-count row-starts task y width sum₀ x0₀ sum x0 = width - x0
+μ-loop segments owners segment-count entries entry-count row-starts bits task y width sum₀ x0₀ sum x0 = width - x0
 
 loop-holds : tie.Need-loop-holds Inv-loop μ-loop
 loop-holds c = search needs

@@ -5,10 +5,10 @@ use Rattle.canvas.proofs.draw_rows.Statement.{statement}
 use Rattle.canvas.proofs.draw_rows.Tie as tie
 
 abbrev Inv-loop : tie.InvT-loop
-Inv-loop segments owners segment-count entries entry-count row-starts task height sum₀ k₀ sum k = k ≤ height
+Inv-loop segments owners segment-count entries entry-count row-starts bits task height sum₀ k₀ sum k = k ≤ height
 
 abbrev μ-loop : tie.MeasureT-loop
-μ-loop segments owners segment-count entries entry-count row-starts task height sum₀ k₀ sum k = height - k
+μ-loop segments owners segment-count entries entry-count row-starts bits task height sum₀ k₀ sum k = height - k
 
 loop-holds : tie.Need-loop-holds Inv-loop μ-loop
 loop-holds c = search needs

@@ -5,10 +5,10 @@ use Rattle.canvas.proofs.rows.Statement.{statement}
 use Rattle.canvas.proofs.rows.Tie as tie
 
 abbrev Inv-loop : tie.InvT-loop
-Inv-loop segments owners segment-count entries entry-count row-starts task height y₀ y = y ≤ height
+Inv-loop segments owners segment-count entries entry-count row-starts bits task height y₀ y = y ≤ height
 
 abbrev μ-loop : tie.MeasureT-loop
-μ-loop segments owners segment-count entries entry-count row-starts task height y₀ y = height - y
+μ-loop segments owners segment-count entries entry-count row-starts bits task height y₀ y = height - y
 
 loop-holds : tie.Need-loop-holds Inv-loop μ-loop
 loop-holds c = search needs

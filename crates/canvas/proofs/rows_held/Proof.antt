@@ -5,10 +5,10 @@ use Rattle.canvas.proofs.rows_held.Statement.{statement}
 use Rattle.canvas.proofs.rows_held.Tie as tie
 
 abbrev Inv-loop : tie.InvT-loop
-Inv-loop row-starts height held₀ y₀ held y = (y ≤ height) × (held ≤ y)
+Inv-loop owners entries row-starts bits desk height held₀ y₀ held y = (y ≤ height) × (held ≤ y)
 
 abbrev μ-loop : tie.MeasureT-loop
-μ-loop row-starts height held₀ y₀ held y = height - y
+μ-loop owners entries row-starts bits desk height held₀ y₀ held y = height - y
 
 loop-holds : tie.Need-loop-holds Inv-loop μ-loop
 loop-holds c = search needs
