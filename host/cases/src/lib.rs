@@ -2,6 +2,7 @@
 //!
 //! A case is given by the name of its kind and a seed, and is the same on every machine.
 
+pub mod bands;
 pub mod descriptions;
 pub mod desks;
 pub mod lists;

@@ -1,5 +1,6 @@
 //! Comparisons on fixed cases: spline.rs against the second reading of the scope, and the port against both.
 
+pub mod bands;
 pub mod build;
 pub mod check;
 pub mod curve;

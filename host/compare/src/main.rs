@@ -5,7 +5,7 @@
 
 use compare::tally::Tally;
 use compare::{
-    build, check, curve, dequantize, desks, draw, numbers, polyline, profile, reach, read,
+    bands, build, check, curve, dequantize, desks, draw, numbers, polyline, profile, reach, read,
     segments, trace, transform, write,
 };
 use std::process::ExitCode;
@@ -13,7 +13,7 @@ use std::process::ExitCode;
 /// A layer's name, and what runs its cases.
 type Layer = (&'static str, fn(&mut Tally));
 
-const LAYERS: [Layer; 19] = [
+const LAYERS: [Layer; 20] = [
     ("numbers", numbers::compare),
     ("read", read::compare),
     ("write", write::compare),
@@ -29,6 +29,7 @@ const LAYERS: [Layer; 19] = [
     ("reach", reach::compare),
     ("desks", desks::compare),
     ("check", check::compare),
+    ("bands", bands::compare),
     ("trace", trace::compare),
     ("trace2", trace::compare2),
     ("points", polyline::compare),

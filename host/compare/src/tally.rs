@@ -5,9 +5,6 @@ use cases::Code;
 use std::collections::BTreeMap;
 use std::fmt::{self, Debug, Display, Formatter};
 
-/// The codes of requests whose calls are not there yet.
-const NO_CALL_YET: [Code; 1] = [Code::Band];
-
 /// Counts by kind of verdict, and the smallest input on which the parties differ.
 pub struct Tally {
     layer: &'static str,
@@ -79,7 +76,6 @@ impl Tally {
             |name: &String| self.refused.contains_key(name) || self.outside.contains_key(name);
         cases::CODES
             .iter()
-            .filter(|code| !NO_CALL_YET.contains(code))
             .map(|&code| name(code))
             .filter(|name| !given(name))
             .collect()
