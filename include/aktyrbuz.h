@@ -46,7 +46,7 @@ enum aktyrbuz_code {
     AKTYRBUZ_TRACE = 20,    /* fewer shared bytes than the description had splines, or a bit of a spline without a byte */
     AKTYRBUZ_PROFILE = 21,  /* a description that breaks a rule of the fineness profile: the rule is the first count, the one refusal whose counts are not all 0 */
     AKTYRBUZ_EDITION = 22,  /* an edition other than 1 and 2, or edition 2 in a trace file of version 1 */
-    AKTYRBUZ_BAND = 23      /* kept for a band past the last; no call gives it yet */
+    AKTYRBUZ_BAND = 23      /* a band past the last */
 };
 
 /* The natural logarithm that building uses: a fixed sequence of operations, the same on every machine. */
@@ -111,6 +111,27 @@ uint32_t aktyrbuz_reach(const float *segments, size_t segments_len, const uint64
 /* Hides a spline for a desk, or shows it again: sets that one bit to hidden, and changes no other. A refused call changes nothing.
  * Checks: DESK, TRACE for a spline without a byte. Place: 0. Counts: none. */
 uint32_t aktyrbuz_hide(uint8_t *bits, size_t bits_len, uint32_t desk, uint64_t spline, bool hidden, int64_t answer[5]);
+
+/* Makes a summary of every 64 rows for a desk and a width: five numbers a band, the last of which may have fewer rows. They are its entries that are not hidden for the desk, the
+ * least and the greatest segment number among them, and the first column that drawing them touches in an image of this width and one past the last, 0 and 0 if it touches none. A
+ * band that shows no entry has five zeros; one whose entries touch no column has its entries and segment numbers all the same.
+ *
+ * splines and bits as in aktyrbuz_draw. Room: 5 cells of bands for each 64 rows begun. Cells past these, and all cells after a refusal, are 0.
+ * Checks: SIZE (the width), TABLE for the counts, DESK, TRACE, ROOM, TABLE for the rows. Place: 0. Counts: bands. */
+uint32_t aktyrbuz_bands(const float *segments, size_t segments_len, const uint64_t *owners, size_t owners_len, uint32_t segment_count,
+                        const uint32_t *entries, size_t entries_len, uint32_t entry_count,
+                        const uint32_t *row_starts, size_t row_starts_len, uint32_t height,
+                        uint64_t splines, const uint8_t *bits, size_t bits_len, uint32_t desk,
+                        uint32_t width, uint32_t *bands, size_t bands_len, int64_t answer[5]);
+
+/* Makes the five numbers of one band again, as after the desk has hidden a spline: they are then those of a summary made afresh, and every other cell stays as it was. Once each band that
+ * lists a segment of the spline is made again, the whole summary is that of aktyrbuz_bands. A refused call changes nothing.
+ * Room for all bands. Checks: SIZE, TABLE for the counts, DESK, TRACE, ROOM, BAND, TABLE for the rows of the band; other rows are not looked at. Place: 0. Counts: bands, of the whole table. */
+uint32_t aktyrbuz_band(const float *segments, size_t segments_len, const uint64_t *owners, size_t owners_len, uint32_t segment_count,
+                       const uint32_t *entries, size_t entries_len, uint32_t entry_count,
+                       const uint32_t *row_starts, size_t row_starts_len, uint32_t height,
+                       uint64_t splines, const uint8_t *bits, size_t bits_len, uint32_t desk,
+                       uint32_t width, uint32_t *bands, size_t bands_len, uint32_t band, int64_t answer[5]);
 
 /* Checks the row starts and entries of another maker for the segments of a build. They are accepted exactly if each row of the image lists just the segments whose rows have
  * it, once each and ascending, with starts and entry count that fit: then they are those of the build, and draw the same.

@@ -8,3 +8,5 @@ pub mod Requests
 pub mod ListCodes
 pub mod ProfileNumbers
 pub mod MakersNumbers
+pub mod BandsNumbers
+pub mod Bands

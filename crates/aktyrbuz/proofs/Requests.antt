@@ -465,7 +465,7 @@ pub desks-apart : DesksApart
 desks-apart = record { draw = drawn-apart; reach = reached-apart }
 
 -- hides by another desk leave the desk's own bits
-hides-agree : (s : Sight) (other : ℕ) → (other ≡ s .desk → ⊥) → (bits : List ℕ) → HideCalls other (s .bits) bits → Agree s (withBits s bits)
+pub hides-agree : (s : Sight) (other : ℕ) → (other ≡ s .desk → ⊥) → (bits : List ℕ) → HideCalls other (s .bits) bits → Agree s (withBits s bits)
 hides-agree s other apart bits run =
     let as-many = hides-length (hides-by run) in
     record {
@@ -827,7 +827,7 @@ built-is-accepted = record {
 }
 
 -- a table that is accepted fits and is right
-accepted-is : (u : Table) (m : ℕ) → CheckCall u (CheckAnswer.Done m) → AcceptedTable u m
+pub accepted-is : (u : Table) (m : ℕ) → CheckCall u (CheckAnswer.Done m) → AcceptedTable u m
 accepted-is u m c = table-accepted-exactly u (CheckAnswer.Done m) c m .0 refl
 
 pub accepted-draws-the-same : AcceptedDrawsTheSame

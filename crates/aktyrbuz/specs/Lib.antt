@@ -13,3 +13,5 @@ pub mod Polylines
 pub mod MakersExported
 pub mod MakersCalls
 pub mod PolylineCalls
+pub mod BandsExported
+pub mod BandsCalls

@@ -69,6 +69,13 @@ use Rattle.makers.specs.Check.{toldOf}
 use Rattle.makers.specs.Refusals.{Fits, FirstWrong, Accepted, CheckRefusal}
 use Rattle.makers_laws.specs.Cut.{cutToCounts}
 use Rattle.aktyrbuz.specs.MakersCalls.{CheckCall}
+use Rattle.bands.specs.declared.BandsAnswer.{BandsAnswer}
+use Rattle.bands.specs.Bands.{bandsIn}
+use Rattle.bands.specs.Calls.{BandsOutcome}
+use Rattle.bands.specs.Refusals.{BandsRefusal, BandRefusal}
+use Rattle.bands_laws.specs.Done.{BandsDone, BandDone}
+use Rattle.bands_laws.specs.Summaries.{InBand, BandRows, OtherCell, ListsSpline, SegmentNumbers, HullOf}
+use Rattle.aktyrbuz.specs.BandsCalls.{BandsCall, BandCall, BandCalls}
 use Rattle.polyline.specs.Form.{PointsForm}
 use Rattle.polyline.specs.Read.{PointsOutcome, readPointsOf}
 use Rattle.polyline.specs.Write.{writePointsOf}
@@ -476,6 +483,116 @@ pub record FileOneOutcome : Type 0 where
   pub write : (ns : List ℕ) (ss : List Float) (ds cs : List ℤ) (a : ℤ) (v e room : ℕ) (o q : WriteOutcome)
       → FileWriteCall ns ss ds cs a v e room o → FileWriteCall ns ss ds cs a v e room q → o ≡ q
 
+-- ---- (xi) a summary of every 64 rows
+
+-- making refuses with a code at a place exactly when its table of codes gives it; the number, the place 0 and no bands are then told, and every lent cell is zero
+-- it is done exactly when the table gives nothing, with the number of the image's bands
+pub record BandsCodes : Type 0 where
+  pub exactly : (t : Table) (s : Sight) (W room : ℕ) (o : BandsOutcome) → BandsCall t s W room o
+      → (c : Code) (p : ℕ) → o .answer ≡ BandsAnswer.Refused c p ↔ BandsRefusal t s W room c p
+  pub told : (t : Table) (s : Sight) (W room : ℕ) (o : BandsOutcome) → BandsCall t s W room o
+      → (c : Code) (p : ℕ) → BandsRefusal t s W room c p → (o .told ≡ record { number = numberOf c; place = 0; bands = 0 }) × (o .cells ≡ replicate room 0)
+  pub done : (t : Table) (s : Sight) (W room : ℕ) (o : BandsOutcome) → BandsCall t s W room o
+      → (n : ℕ) → o .answer ≡ BandsAnswer.Done n ↔ BandsDone t s W room n
+  pub done-told : (t : Table) (s : Sight) (W room : ℕ) (o : BandsOutcome) → BandsCall t s W room o
+      → (n : ℕ) → BandsDone t s W room n → (o .told ≡ record { number = 0; place = 0; bands = bandsIn (t .height) }) × (length (o .cells) ≡ room)
+  pub else-done : (t : Table) (s : Sight) (W room : ℕ) (o : BandsOutcome) → BandsCall t s W room o
+      → ((c : Code) (p : ℕ) → BandsRefusal t s W room c p → ⊥) → o .answer ≡ BandsAnswer.Done (bandsIn (t .height))
+
+-- refreshing band b likewise; a refused refresh changes nothing
+pub record BandCodes : Type 0 where
+  pub exactly : (t : Table) (s : Sight) (W b : ℕ) (cells : List ℕ) (o : BandsOutcome) → BandCall t s W b cells o
+      → (c : Code) (p : ℕ) → o .answer ≡ BandsAnswer.Refused c p ↔ BandRefusal t s W (length cells) b c p
+  pub told : (t : Table) (s : Sight) (W b : ℕ) (cells : List ℕ) (o : BandsOutcome) → BandCall t s W b cells o
+      → (c : Code) (p : ℕ) → BandRefusal t s W (length cells) b c p → (o .told ≡ record { number = numberOf c; place = 0; bands = 0 }) × (o .cells ≡ cells)
+  pub done : (t : Table) (s : Sight) (W b : ℕ) (cells : List ℕ) (o : BandsOutcome) → BandCall t s W b cells o
+      → (n : ℕ) → o .answer ≡ BandsAnswer.Done n ↔ BandDone t s W (length cells) b n
+  pub done-told : (t : Table) (s : Sight) (W b : ℕ) (cells : List ℕ) (o : BandsOutcome) → BandCall t s W b cells o
+      → (n : ℕ) → BandDone t s W (length cells) b n → o .told ≡ record { number = 0; place = 0; bands = bandsIn (t .height) }
+  pub else-done : (t : Table) (s : Sight) (W b : ℕ) (cells : List ℕ) (o : BandsOutcome) → BandCall t s W b cells o
+      → ((c : Code) (p : ℕ) → BandRefusal t s W (length cells) b c p → ⊥) → o .answer ≡ BandsAnswer.Done (bandsIn (t .height))
+
+-- any two outcomes that a contract allows are equal
+pub record BandsOneOutcome : Type 0 where
+  pub make : (t : Table) (s : Sight) (W room : ℕ) (o q : BandsOutcome) → BandsCall t s W room o → BandsCall t s W room q → o ≡ q
+  pub refresh : (t : Table) (s : Sight) (W b : ℕ) (cells : List ℕ) (o q : BandsOutcome) → BandCall t s W b cells o → BandCall t s W b cells q → o ≡ q
+
+-- each row of an image is in one band and in no other, and each band but the last has 64 rows
+abbrev pub RowsInBands : Type 0
+RowsInBands = (H : ℕ) → BandRows H
+
+-- the first three cells of a band that a done making or a done refresh leaves: how many entries its rows show the desk, and the least and the greatest of their segment numbers
+pub record BandSegments : Type 0 where
+  pub made : (t : Table) (s : Sight) (W room : ℕ) (o : BandsOutcome) (n : ℕ) → BandsCall t s W room o → o .answer ≡ BandsAnswer.Done n
+      → (b : ℕ) → b < n → SegmentNumbers t s b (o .cells)
+  pub refreshed : (t : Table) (s : Sight) (W b : ℕ) (cells : List ℕ) (o : BandsOutcome) (n : ℕ) → BandCall t s W b cells o → o .answer ≡ BandsAnswer.Done n
+      → SegmentNumbers t s b (o .cells)
+
+-- the reach of row y must be a, e: any outcome that the contract of reach allows is done with them
+abbrev pub MustReach : Table → Sight → ℕ → ℕ → ℕ → ℕ → Type 0
+MustReach t s W y a e = (o : ReachOutcome) → ReachCall t s y W o → o .answer ≡ ReachAnswer.Done a e
+
+-- the last two are the hull of what reach answers for its rows: the first column and one past the last
+abbrev pub ReachHull : Table → Sight → ℕ → ℕ → List ℕ → Type 0
+ReachHull t s W b cells = HullOf (MustReach t s W) (λ y a e. Reaches t s y W a e) (t .height) b (getD cells (5 * b + 3) 0) (getD cells (5 * b + 4) 0)
+
+pub record BandIsHull : Type 0 where
+  pub made : (t : Table) (s : Sight) (W room : ℕ) (o : BandsOutcome) (n : ℕ) → BandsCall t s W room o → o .answer ≡ BandsAnswer.Done n
+      → (b : ℕ) → b < n → ReachHull t s W b (o .cells)
+  pub refreshed : (t : Table) (s : Sight) (W b : ℕ) (cells : List ℕ) (o : BandsOutcome) (n : ℕ) → BandCall t s W b cells o → o .answer ≡ BandsAnswer.Done n
+      → ReachHull t s W b (o .cells)
+
+-- a refreshed band equals one made afresh, in any room
+abbrev pub RefreshedIsFresh : Type 0
+RefreshedIsFresh =
+    (t : Table) (s : Sight) (W b : ℕ) (cells : List ℕ) (o : BandsOutcome) (n : ℕ) → BandCall t s W b cells o → o .answer ≡ BandsAnswer.Done n
+    → (room : ℕ) (q : BandsOutcome) (m : ℕ) → BandsCall t s W room q → q .answer ≡ BandsAnswer.Done m
+    → (j : ℕ) → j < 5 → getD (o .cells) (5 * b + j) 0 ≡ getD (q .cells) (5 * b + j) 0
+
+-- the other bands keep their numbers: every cell but the band's five stays, and so does their number
+abbrev pub OtherBandsStay : Type 0
+OtherBandsStay =
+    (t : Table) (s : Sight) (W b : ℕ) (cells : List ℕ) (o : BandsOutcome) (n : ℕ) → BandCall t s W b cells o → o .answer ≡ BandsAnswer.Done n
+    → ((k : ℕ) → OtherCell b k → getD (o .cells) k 0 ≡ getD cells k 0) × (length (o .cells) ≡ length cells)
+
+-- a band of whose rows the desk is shown no entry holds zeros, and so do the cells behind the last band
+pub record NoEntryZeros : Type 0 where
+  pub made : (t : Table) (s : Sight) (W room : ℕ) (o : BandsOutcome) (n : ℕ) → BandsCall t s W room o → o .answer ≡ BandsAnswer.Done n
+      → (b : ℕ) → b < n → ((y : ℕ) → InBand (t .height) b y → shownOf t s y ≡ []) → (j : ℕ) → j < 5 → getD (o .cells) (5 * b + j) 0 ≡ 0
+  pub refreshed : (t : Table) (s : Sight) (W b : ℕ) (cells : List ℕ) (o : BandsOutcome) (n : ℕ) → BandCall t s W b cells o → o .answer ≡ BandsAnswer.Done n
+      → ((y : ℕ) → InBand (t .height) b y → shownOf t s y ≡ []) → (j : ℕ) → j < 5 → getD (o .cells) (5 * b + j) 0 ≡ 0
+  pub behind : (t : Table) (s : Sight) (W room : ℕ) (o : BandsOutcome) (n : ℕ) → BandsCall t s W room o → o .answer ≡ BandsAnswer.Done n
+      → (k : ℕ) → 5 * n ≤ k → getD (o .cells) k 0 ≡ 0
+
+-- where making is done, refreshing each band in as many cells is done, and so it is with the bytes that a hide by the desk left: the refreshes that the next statement speaks of must be done
+pub record RefreshesDone : Type 0 where
+  pub fresh : (t : Table) (s : Sight) (W : ℕ) (cells : List ℕ) (o : BandsOutcome) (n : ℕ) → BandsCall t s W (length cells) o → o .answer ≡ BandsAnswer.Done n
+      → (b : ℕ) → b < n → (q : BandsOutcome) → BandCall t s W b cells q → q .answer ≡ BandsAnswer.Done n
+  pub after-hide : (t : Table) (s : Sight) (W : ℕ) (cells : List ℕ) (o : BandsOutcome) (n : ℕ) → BandsCall t s W (length cells) o → o .answer ≡ BandsAnswer.Done n
+      → (k : ℕ) (hidden : Bool) (h : HideOutcome) → HideCall (s .bits) (s .desk) k hidden h
+      → (b : ℕ) → b < n → (q : BandsOutcome) → BandCall t (withBits s (h .bits)) W b cells q → q .answer ≡ BandsAnswer.Done n
+
+-- a summary made by a desk, then a hide of its own of spline k, to hide or to show it, then refreshes with the bytes that it left, of every band that lists a segment of the spline and of others
+-- as one likes, in any order, each done: answer and cells are those of a summary made afresh with these bytes, in as many cells
+abbrev pub SummaryAfterHide : Type 0
+SummaryAfterHide =
+    (t : Table) (s : Sight) (W room : ℕ) (o : BandsOutcome) (n : ℕ) → BandsCall t s W room o → o .answer ≡ BandsAnswer.Done n
+    → (k : ℕ) (hidden : Bool) (h : HideOutcome) → HideCall (s .bits) (s .desk) k hidden h
+    → (bs z : List ℕ) → BandCalls t (withBits s (h .bits)) W bs (o .cells) z → ((b : ℕ) → ListsSpline t s b k → Found bs b)
+    → (q : BandsOutcome) → BandsCall t (withBits s (h .bits)) W room q → (q .answer ≡ BandsAnswer.Done n) × (q .cells ≡ z)
+
+-- a desk's summary and its refreshes depend on the table and its own bits: two lent byte slices that agree in the desk's bits over the splines give it equal outcomes, and so any run of hides by
+-- another desk changes nothing of them
+pub record BandsOfDesksApart : Type 0 where
+  pub make : (t : Table) (s : Sight) (bits : List ℕ) → Agree s (withBits s bits) → (W room : ℕ) (o q : BandsOutcome)
+      → BandsCall t s W room o → BandsCall t (withBits s bits) W room q → o ≡ q
+  pub refresh : (t : Table) (s : Sight) (bits : List ℕ) → Agree s (withBits s bits) → (W b : ℕ) (cells : List ℕ) (o q : BandsOutcome)
+      → BandCall t s W b cells o → BandCall t (withBits s bits) W b cells q → o ≡ q
+  pub make-unseen : (t : Table) (s : Sight) (other : ℕ) → (other ≡ s .desk → ⊥) → (bits : List ℕ) → HideCalls other (s .bits) bits → (W room : ℕ) (o q : BandsOutcome)
+      → BandsCall t s W room o → BandsCall t (withBits s bits) W room q → o ≡ q
+  pub refresh-unseen : (t : Table) (s : Sight) (other : ℕ) → (other ≡ s .desk → ⊥) → (bits : List ℕ) → HideCalls other (s .bits) bits → (W b : ℕ) (cells : List ℕ) (o q : BandsOutcome)
+      → BandCall t s W b cells o → BandCall t (withBits s bits) W b cells q → o ≡ q
+
 -- ---- (xii) row tables from the other maker
 
 -- the words of the check, of a table as drawing takes it: accepted with m entries, of the right size, wrong first at row w, and refused with a code at a place
@@ -530,6 +647,13 @@ pub record AcceptedDrawsTheSame : Type 0 where
       → (s : Sight) (y x0 n : ℕ) (a : Channels) (o q : DrawOutcome) → DrawCall t s y x0 n a o → DrawCall u s y x0 n a q → o ≡ q
   pub reach : (d : Description) (i : Setting) (segments : List Segment) (t u : Table) → KeptTable d i segments t → SameSegments t u → (m : ℕ) → CheckCall u (CheckAnswer.Done m)
       → (s : Sight) (y W : ℕ) (o q : ReachOutcome) → ReachCall t s y W o → ReachCall u s y W q → o ≡ q
+
+-- and the same summaries and refreshes
+pub record BandsOfAccepted : Type 0 where
+  pub make : (d : Description) (i : Setting) (segments : List Segment) (t u : Table) → KeptTable d i segments t → SameSegments t u → (m : ℕ) → CheckCall u (CheckAnswer.Done m)
+      → (s : Sight) (W room : ℕ) (o q : BandsOutcome) → BandsCall t s W room o → BandsCall u s W room q → o ≡ q
+  pub refresh : (d : Description) (i : Setting) (segments : List Segment) (t u : Table) → KeptTable d i segments t → SameSegments t u → (m : ℕ) → CheckCall u (CheckAnswer.Done m)
+      → (s : Sight) (W b : ℕ) (cells : List ℕ) (o q : BandsOutcome) → BandCall t s W b cells o → BandCall u s W b cells q → o ≡ q
 
 -- ---- (xiii) how near a listed row is
 

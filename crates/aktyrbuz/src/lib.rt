@@ -13,6 +13,7 @@ ghost use Rattle.draw.specs.Draw.{tableOf, three, drawOf};
 ghost use Rattle.hull.specs.Reach.{reachOf};
 ghost use Rattle.aktyrbuz.specs.Exported.{signedOf, toldIn, toldRefusal, toldRead, toldWrite, toldBuild, toldDraw, toldReach, readLeaves, readExport, writeLeaves, writeExport, buildLeaves, buildExport, drawLeaves, drawExport, reachLeaves, reachExport};
 
+pub mod bands_summary;
 pub mod hiding;
 pub mod makers_tables;
 pub mod polylines;

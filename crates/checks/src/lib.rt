@@ -36,7 +36,7 @@ fn all_owned(entries: &[u32], b: usize, e: usize, m: u32, owners: &[u64], spline
 }
 
 // Whether the counts are within their limits and their buffers, the owners' among them.
-fn counts_good(
+pub fn counts_good(
     segments: &[f32],
     owners: &[u64],
     segment_count: u32,

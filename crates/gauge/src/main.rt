@@ -1,5 +1,5 @@
-// What a list of decoded values or a trace file holds, what it draws, which rows, whose a pixel is, why a segment sits where it does, its row table and another maker's, whether it meets the fineness profile,
-// and either made from the other: `gauge read`, `gauge draw`, `gauge rows`, `gauge touch`, `gauge why`, `gauge table`, `gauge check`, `gauge profile`, `gauge trace`.
+// What a list of decoded values or a trace file holds, what it draws, which rows and bands, whose a pixel is, why a segment sits where it does, its row table and another maker's, whether it meets the fineness profile,
+// and either made from the other: `gauge read`, `gauge draw`, `gauge rows`, `gauge bands`, `gauge touch`, `gauge why`, `gauge table`, `gauge check`, `gauge profile`, `gauge trace`.
 // A program has no exit status: with `--status` it is written as a digit to descriptor 3 (0: done, 1: refused, 2: wrong use).
 mod arguments;
 mod options;
@@ -33,7 +33,7 @@ enum Kind {
 fn usage() -> u8 {
     words::wrong(
         2,
-        b"usage: gauge read, rows, touch, why, table, check, profile, draw, trace out or trace in, each with the file VALUES and what it asks for: ./gauge --help tells the words of each\n",
+        b"usage: gauge read, rows, bands, touch, why, table, check, profile, draw, trace out or trace in, each with the file VALUES and what it asks for: ./gauge --help tells the words of each\n",
         &[],
     )
 }
@@ -211,7 +211,7 @@ fn why(i: u8, options: Options) -> u8
     }
 }
 
-// The row starts and the entries of a table, or whether those of the file that the argument after the size names are it.
+// The bands of a table, or its row starts and entries, or whether those of the file that the argument after the size names are it.
 fn table(i: u8, options: Options, asked: Asked) -> u8
     requires { ⌜ i ≤ 40 ⌝ }
 {
@@ -401,6 +401,13 @@ fn run_words(at: u8, more: usize, options: Options) -> u8
     if is_command(at, b"trace") {
         return if more == 3 {
             trace(at + 1, options)
+        } else {
+            usage()
+        };
+    }
+    if is_command(at, b"bands") {
+        return if more == 3 {
+            table(at + 1, options, Asked::Bands)
         } else {
             usage()
         };

@@ -48,7 +48,7 @@ fn join(found: Range, first: u32, past: u32) -> Range
 }
 
 // The least range that holds what was found and the segment's columns below the width; a segment without such columns is skipped.
-fn with_segment(found: Range, segment: Segment, width: u32) -> Range
+pub fn with_segment(found: Range, segment: Segment, width: u32) -> Range
     ensures { λ r. ⌜ r ≡ joined found (columnsBelow width segment) ⌝ }
 {
     let first = segments::column_first(segment.center_x - segment.maximum_distance);

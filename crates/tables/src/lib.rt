@@ -1,4 +1,4 @@
-// The table of a description, built in fixed rooms, and what is asked of it: its rows, a picture, the traces that have a pixel, why a segment sits where it does, its row starts and entries, or whether another maker's are they.
+// The table of a description, built in fixed rooms, and what is asked of it: its rows, its bands, a picture, the traces that have a pixel, why a segment sits where it does, its row starts and entries, or whether another maker's are they.
 mod explaining;
 mod touching;
 
@@ -33,7 +33,7 @@ fn say_built(segments: u32, faint: u32, entries: u32, estimate: u64) -> u8
     )
 }
 
-// The picture or the rows of a table of these counts, without what the bytes hide, a byte a spline.
+// The picture, the bands or the rows of a table of these counts, without what the bytes hide, a byte a spline.
 fn show(
     segments: &[f32],
     owners: &[u64],
@@ -58,6 +58,23 @@ fn show(
             bits,
             task,
         ),
+        Asked::Bands => {
+            let height = task.height;
+            let width = task.width;
+            let desk = task.desk;
+            banding::say(
+                segments,
+                owners,
+                segment_count,
+                entries,
+                entry_count,
+                row_starts,
+                height,
+                bits,
+                desk,
+                width,
+            )
+        }
         _ => canvas::rows(
             segments,
             owners,

@@ -1,7 +1,7 @@
 //! JPEG XL splines, from a list of decoded values to pixel rows: the proved library behind owned types.
 //!
 //! A [`Description`] is read from a list or a trace file, or written as one, and each of its splines as the [`points`] of a line drawing; a [`Table`] is built from it for an image; rows of the image are then drawn,
-//! whole or in parts, in any order, for either of two desks without what it has [`Hidden`]. No input makes a call panic or take more memory than it may: what cannot be done is a [`Refusal`] with its
+//! whole or in parts, in any order, for either of two desks without what it has [`Hidden`], and [`Bands`] tell which rows hold anything. No input makes a call panic or take more memory than it may: what cannot be done is a [`Refusal`] with its
 //! code and place.
 //!
 //! ```
@@ -23,6 +23,7 @@
 //! # Ok::<(), aktyrbuz::Refusal>(())
 //! ```
 
+mod bands;
 mod cells;
 mod code;
 mod description;
@@ -33,6 +34,7 @@ mod rooms;
 mod table;
 mod trace;
 
+pub use bands::{Band, Bands};
 pub use code::{Code, Refusal};
 pub use description::{Description, Limit};
 pub use desk::{Desk, Hidden};

@@ -26,7 +26,7 @@ impl Rooms {
         entries: 1 << 30,
     };
 
-    /// The memory that the buffers of these rooms take. The row starts come to it, four bytes for each row of the image and four more.
+    /// The memory that the buffers of these rooms take. The row starts come to it, four bytes for each row of the image and four more, and the bands, twenty bytes for each 64 rows.
     pub const fn bytes(self) -> usize {
         let path = self.path.saturating_mul(8);
         let walk = self.walk.saturating_mul(12);

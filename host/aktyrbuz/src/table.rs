@@ -1,5 +1,6 @@
 //! Tables: what a build makes, and drawing from it.
 
+use crate::bands;
 use crate::cells::{first, zeros};
 use crate::code::{judged, Code, Refusal};
 use crate::{Description, Desk, Hidden, Rooms};
@@ -49,12 +50,13 @@ impl Buffers {
                 entries: &mut self.entries,
             },
         ))?;
-        Ok(Table {
+        let mut table = Table {
             segments: first(self.segments, 8 * made as usize),
             owners: first(self.owners, made as usize),
             row_starts: self.row_starts,
             entries: first(self.entries, listed as usize),
             open: Hidden::nothing(description.counts.len())?,
+            bands: Vec::new(),
             image: *image,
             counts: Counts {
                 segments: made as u32,
@@ -62,7 +64,9 @@ impl Buffers {
                 estimate: estimate as u64,
                 faint: faint as u32,
             },
-        })
+        };
+        table.bands = bands::numbers(&table, &table.seen())?;
+        Ok(table)
     }
 }
 
@@ -94,7 +98,7 @@ pub struct Near {
     pub distance: f64,
 }
 
-/// The segments of an image, and for each row those that touch it.
+/// The segments of an image, and for each row those that touch it; beside them the bands of 64 rows.
 #[derive(Clone, Debug)]
 pub struct Table {
     segments: Vec<f32>,
@@ -103,6 +107,8 @@ pub struct Table {
     entries: Vec<u32>,
     /// Nothing hidden of any spline of the description.
     open: Hidden,
+    /// The numbers of its bands, with nothing hidden.
+    bands: Vec<u32>,
     image: Image,
     counts: Counts,
 }
@@ -204,7 +210,7 @@ impl Table {
             ..self.lent()
         };
         let [mut r0, mut r1, mut r2] = [[0.0]; 3];
-        let sight = self.open.seen_by(Desk::Operator, self.splines());
+        let sight = self.seen();
         let (code, answer) = port::draw(&alone, &sight, 0, x, 1, [&mut r0, &mut r1, &mut r2]);
         x < self.image.width && code == 0 && answer[1] == 1
     }
@@ -310,7 +316,17 @@ impl Table {
         &self.entries
     }
 
-    fn lent(&self) -> port::Table<'_> {
+    /// Made with the table.
+    pub(crate) fn kept_bands(&self) -> &[u32] {
+        &self.bands
+    }
+
+    /// With nothing hidden.
+    fn seen(&self) -> port::Sight<'_> {
+        self.open.seen_by(Desk::Operator, self.splines())
+    }
+
+    pub(crate) fn lent(&self) -> port::Table<'_> {
         port::Table {
             segments: &self.segments,
             owners: &self.owners,

@@ -1,6 +1,6 @@
-//! A call that spline.rs has nothing beside, on the pictures' tables: another maker's table checked.
+//! The calls that spline.rs has nothing beside, on the pictures' tables: another maker's table checked, the bands of a table made, and one of them refreshed.
 
-use crate::picture::{description, given};
+use crate::picture::{description, given, SIDE};
 use cases::FlatTable;
 use oracle::Outcome;
 
@@ -8,11 +8,20 @@ use oracle::Outcome;
 const TALLEST: u32 = 1 << 23;
 
 /// The names of the calls.
-pub const CALLS: [&str; 1] = ["check"];
+pub const CALLS: [&str; 3] = ["check", "bands", "band"];
 
-/// A table of spline.rs.
+/// Rows and numbers of a band.
+const BAND_ROWS: u32 = 64;
+const NUMBERS: usize = 5;
+
+/// The band that is refreshed, in the middle of the picture.
+const REFRESHED: u32 = SIDE / BAND_ROWS / 2;
+
+/// A table of spline.rs or of segments that lie band by band, with the shared bytes and the cells of its bands.
 pub struct Alone {
-    pub flat: FlatTable,
+    flat: FlatTable,
+    bits: Vec<u8>,
+    bands: Vec<u32>,
 }
 
 impl Alone {
@@ -22,10 +31,44 @@ impl Alone {
         let Outcome::Done(built) = oracle::build(&description, &given()) else {
             panic!("spline.rs builds the pictures");
         };
-        let mut alone = Alone {
-            flat: FlatTable::from(&built.table),
+        Alone::new(FlatTable::from(&built.table), given().height)
+    }
+
+    /// 2^20 entries: each band of the picture lists 256 segments in every row.
+    pub fn million() -> Alone {
+        const A_BAND: u32 = 256;
+        let bands = SIDE / BAND_ROWS;
+        let record = |number: u32| {
+            let (band, column) = (number / A_BAND, number % A_BAND);
+            let middle = (BAND_ROWS * band) as f32 + 31.5;
+            [(16 * column) as f32, middle, 31.75, 1.0, 1.0, 1.0, 1.0, 1.0]
         };
-        alone.reach_down(given().height);
+        let entries = (0..SIDE).flat_map(|y| {
+            let first = A_BAND * (y / BAND_ROWS);
+            first..first + A_BAND
+        });
+        let flat = FlatTable {
+            segments: (0..A_BAND * bands).flat_map(record).collect(),
+            owners: (0..u64::from(A_BAND * bands))
+                .map(|number| number / 128)
+                .collect(),
+            segment_count: A_BAND * bands,
+            entries: entries.collect(),
+            entry_count: A_BAND * SIDE,
+            row_starts: (0..=SIDE).map(|y| A_BAND * y).collect(),
+            height: SIDE,
+        };
+        Alone::new(flat, SIDE)
+    }
+
+    fn new(flat: FlatTable, height: u32) -> Alone {
+        let splines = flat.owners.last().map_or(0, |&last| last as usize + 1);
+        let mut alone = Alone {
+            flat,
+            bits: vec![0; splines],
+            bands: Vec::new(),
+        };
+        alone.reach_down(height);
         alone
     }
 
@@ -45,6 +88,7 @@ impl Alone {
         } = &mut self.flat;
         row_starts.resize(height as usize + 1, *entry_count);
         self.flat.height = height;
+        self.bands = vec![0; NUMBERS * height.div_ceil(BAND_ROWS) as usize];
     }
 
     /// Makes the call of this name.
@@ -59,15 +103,26 @@ impl Alone {
             row_starts: &self.flat.row_starts,
             height: self.flat.height,
         };
+        let sight = port::Sight {
+            splines: self.bits.len() as u64,
+            bits: &self.bits,
+            desk: 0,
+        };
         let (code, _) = match name {
             "check" => port::check(&table),
+            "bands" => port::bands(&table, &sight, SIDE, &mut self.bands),
+            "band" => port::band(&table, &sight, SIDE, &mut self.bands, REFRESHED),
             _ => panic!("no call is called {name}"),
         };
         assert_eq!(code, 0, "the port takes the pictures");
     }
 
     /// How many entries the call goes over.
-    pub fn entries(&self, _name: &str) -> u32 {
-        self.flat.entry_count
+    pub fn entries(&self, name: &str) -> u32 {
+        let start = |row: u32| self.flat.row_starts[row as usize];
+        match name {
+            "band" => start(BAND_ROWS * (REFRESHED + 1)) - start(BAND_ROWS * REFRESHED),
+            _ => self.flat.entry_count,
+        }
     }
 }

@@ -123,10 +123,10 @@ fn each(mut measure: impl FnMut(&str, &mut dyn Work)) {
     }
 }
 
-/// Each call that spline.rs has nothing beside, on each picture and on the one of the widest segments in the tallest image, with its line's first words.
+/// Each call that spline.rs has nothing beside, on each picture, on a table of 2^20 entries and on the widest segments in the tallest image, with its line's first words.
 fn each_alone(mut measure: impl FnMut(&str, &mut Alone, &str)) {
     println!(
-        "calls of the port alone; in the tallest image, with 2^23 rows, the segments of width 48"
+        "calls of the port alone, band on the middle one of the picture; 2^20 is a table of so many entries, 2^23 the tallest image, with so many rows and the segments of width 48"
     );
     for call in alone::CALLS {
         for (width, sigmas) in WIDTHS {
@@ -134,9 +134,13 @@ fn each_alone(mut measure: impl FnMut(&str, &mut Alone, &str)) {
             let words = format!("{call:<6} {width:>5} {:>8}", alone.entries(call));
             measure(&words, &mut alone, call);
         }
-        let mut tall = Alone::tall(WIDTHS[2].1);
-        let words = format!("{call:<6} {:>5} {:>8}", "2^23", tall.entries(call));
-        measure(&words, &mut tall, call);
+        for (name, mut alone) in [
+            ("2^20", Alone::million()),
+            ("2^23", Alone::tall(WIDTHS[2].1)),
+        ] {
+            let words = format!("{call:<6} {name:>5} {:>8}", alone.entries(call));
+            measure(&words, &mut alone, call);
+        }
     }
 }
 
@@ -167,7 +171,7 @@ fn times() -> ExitCode {
     each_alone(|line, alone, call| {
         let taken = (0..RUNS).map(|_| clock::taken(|| alone.call(call)));
         let [least, median] = least_and_median(taken.collect());
-        println!("{line} {least:>11.1} {median:>7.1}");
+        println!("{line} {least:>11.3} {median:>7.3}");
     });
     ExitCode::SUCCESS
 }

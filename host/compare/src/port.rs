@@ -1,5 +1,6 @@
 //! The proved port, through its C interface, against spline.rs where that decides and against the second reading everywhere.
 
+pub mod bands;
 pub mod build;
 pub mod check;
 pub mod desks;

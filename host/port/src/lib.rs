@@ -1,11 +1,13 @@
 //! The proved port through its C interface, as safe calls on slices.
 
+mod bands;
 mod points;
 mod profile;
 pub mod stack;
 pub mod symbols;
 mod trace2;
 
+pub use bands::{band, band_into, bands, bands_into};
 pub use points::{points_read, points_read_into, points_write, points_write_into};
 pub use profile::{build_profile, build_profile_into, profile, profile_into};
 pub use trace2::{trace_read2, trace_read2_into, trace_write2, trace_write2_into};

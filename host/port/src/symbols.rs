@@ -125,6 +125,51 @@ extern "C" {
         answer: *mut [i64; 5],
     ) -> u32;
 
+    pub fn aktyrbuz_bands(
+        segments: *const f32,
+        segments_len: usize,
+        owners: *const u64,
+        owners_len: usize,
+        segment_count: u32,
+        entries: *const u32,
+        entries_len: usize,
+        entry_count: u32,
+        row_starts: *const u32,
+        row_starts_len: usize,
+        height: u32,
+        splines: u64,
+        bits: *const u8,
+        bits_len: usize,
+        desk: u32,
+        width: u32,
+        bands: *mut u32,
+        bands_len: usize,
+        answer: *mut [i64; 5],
+    ) -> u32;
+
+    pub fn aktyrbuz_band(
+        segments: *const f32,
+        segments_len: usize,
+        owners: *const u64,
+        owners_len: usize,
+        segment_count: u32,
+        entries: *const u32,
+        entries_len: usize,
+        entry_count: u32,
+        row_starts: *const u32,
+        row_starts_len: usize,
+        height: u32,
+        splines: u64,
+        bits: *const u8,
+        bits_len: usize,
+        desk: u32,
+        width: u32,
+        bands: *mut u32,
+        bands_len: usize,
+        band: u32,
+        answer: *mut [i64; 5],
+    ) -> u32;
+
     pub fn aktyrbuz_check(
         segments: *const f32,
         segments_len: usize,

@@ -18,7 +18,7 @@ usage, from the repository's top:
   samples make | check                 samples/fibres.values, and what it holds
   samples examples                     what examples/ have to print of it
   samples trace                        what tools/trace_reader.py has to print of its trace file
-  samples read | [--high] rows [--hide N,N..] WIDTH HEIGHT | [--high] draw [--hide N,N..] WIDTH HEIGHT PICTURE | touch WIDTH HEIGHT X Y | table WIDTH HEIGHT
+  samples read | [--high] rows [--hide N,N..] WIDTH HEIGHT | [--high] bands [--hide N,N..] WIDTH HEIGHT | [--high] draw [--hide N,N..] WIDTH HEIGHT PICTURE | touch WIDTH HEIGHT X Y | table WIDTH HEIGHT
                                        what ./gauge has to print of it, and its picture
 ";
 
@@ -68,6 +68,11 @@ fn rows(size: Size, hidden: &[u64]) -> Result<String, String> {
     said::rows(&whole, &without(&whole, size, hidden)?, size)
 }
 
+fn bands(size: Size, hidden: &[u64]) -> Result<String, String> {
+    let whole = judged(size)?;
+    said::bands(&whole, &without(&whole, size, hidden)?, size, hidden)
+}
+
 /// The numbers of hidden fibres, as `3,7`.
 fn numbers(text: &str) -> Option<Vec<u64>> {
     text.split(',').map(|word| word.parse().ok()).collect()
@@ -93,6 +98,10 @@ fn run(words: &[&str]) -> Option<Result<String, String>> {
         ["rows", width, height] => rows(size(width, height, high)?, &[]),
         ["rows", "--hide", hidden, width, height] => {
             rows(size(width, height, high)?, &numbers(hidden)?)
+        }
+        ["bands", width, height] => bands(size(width, height, high)?, &[]),
+        ["bands", "--hide", hidden, width, height] => {
+            bands(size(width, height, high)?, &numbers(hidden)?)
         }
         ["table", width, height] => {
             judged(size(width, height, high)?).map(|judged| said::table(&judged))

@@ -5,6 +5,7 @@ use crate::picture;
 use crate::FILE;
 use cases::desks::Sight;
 use cases::{Description, FlatTable, Segment, Table};
+use model::bands::{BAND_ROWS, NUMBERS};
 use model::segments::{all_rows, columns};
 use std::collections::BTreeMap;
 
@@ -168,6 +169,45 @@ pub fn rows(whole: &Judged, shown: &Judged, size: Size) -> Result<String, String
         text += &format!("row {y}: {entries} entries, columns from {first} up to {past}\n");
     }
     Ok(text)
+}
+
+/// `gauge bands`: of the whole table the counts, then a line a band of what is shown of it. The segment numbers and the columns are the second reading's, since the
+/// Rust has no bands; the entries it says must be as many as the table has that spline.rs builds without what is hidden.
+pub fn bands(whole: &Judged, shown: &Judged, size: Size, hidden: &[u64]) -> Result<String, String> {
+    let mut sight = open(whole);
+    for &spline in hidden {
+        if let Some(byte) = sight.bits.get_mut(spline as usize) {
+            *byte = 1;
+        }
+    }
+    let numbers = model::bands(&FlatTable::from(&whole.table), &sight, size.width, u64::MAX)
+        .map_err(|refusal| format!("the bands are refused: {refusal:?}"))?;
+    let mut text = built(&whole.table) + "\n";
+    for (band, five) in (0..).zip(numbers.chunks(NUMBERS)) {
+        let (first, past) = (BAND_ROWS * band, (BAND_ROWS * (band + 1)).min(size.height));
+        let starts = &shown.table.row_starts;
+        if starts[past as usize] - starts[first as usize] != five[0] {
+            return Err(format!("spline.rs has other entries in band {band}"));
+        }
+        let (last, shown) = (past - 1, band_shown(five));
+        text += &format!("band {band}, rows {first} to {last}: {shown}\n");
+    }
+    Ok(text)
+}
+
+/// What a band shows, by its five numbers; the last column is said, not the one past it.
+fn band_shown(five: &[u32]) -> String {
+    let columns = match (five[3], five[4]) {
+        (_, 0) => String::from("no column"),
+        (first, past) => format!("columns {first} to {}", past - 1),
+    };
+    match five[0] {
+        0 => String::from("nothing"),
+        entries => format!(
+            "{entries} entries, segments {} to {}, {columns}",
+            five[1], five[2]
+        ),
+    }
 }
 
 /// `gauge draw`: of the whole table the counts, the updates and rows of what is shown of it.

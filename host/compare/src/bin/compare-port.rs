@@ -1,5 +1,5 @@
 //! The port through its C interface on fixed cases: reading and writing with both round trips, building, drawing whole and in parts,
-//! reach, two desks that hide and draw by turns, tables of another maker, trace files of both versions and texts of points with both round trips, the fineness profile, and the logarithm; every cell of every lent buffer, and each buffer against an inaccessible page. Before that, empty buffers by NULL.
+//! reach, two desks that hide and draw by turns, bands made and refreshed, tables of another maker, trace files of both versions and texts of points with both round trips, the fineness profile, and the logarithm; every cell of every lent buffer, and each buffer against an inaccessible page. Before that, empty buffers by NULL.
 //!
 //! `compare-port` runs the standing cases, `compare-port --long` more than a million of other seeds, with lines of progress, and
 //! `compare-port --one-in N` the first N-th of each kind's standing cases. Names of calls behind that leave the others out.
@@ -7,15 +7,15 @@
 
 use compare::port::tally::Tally;
 use compare::port::{
-    build, check, desks, draw, limits, ln, null, pages, polyline, profile, reach, read, trace,
-    trace2, write,
+    bands, build, check, desks, draw, limits, ln, null, pages, polyline, profile, reach, read,
+    trace, trace2, write,
 };
 use std::process::ExitCode;
 
 /// A call's name, and what runs its cases.
 type Call = (&'static str, fn(&mut Tally));
 
-const CALLS: [Call; 18] = [
+const CALLS: [Call; 20] = [
     ("read", read::compare),
     ("write", write::compare),
     ("build", build::compare),
@@ -23,6 +23,8 @@ const CALLS: [Call; 18] = [
     ("reach", reach::compare),
     ("desks", desks::compare),
     ("hide", desks::compare_hide),
+    ("bands", bands::compare),
+    ("band", bands::compare_runs),
     ("limits", limits::compare),
     ("check", check::compare),
     ("trace-in", trace::compare_read),

@@ -30,6 +30,8 @@ pub fn run(input: &[u8]) {
         REACH => table::reach(&mut bytes),
         HIDE => table::hide(&mut bytes),
         CHECK => check::check(&mut bytes),
+        BANDS => table::bands(&mut bytes),
+        BAND => table::band(&mut bytes),
         TRACE_READ => trace::read(&mut bytes),
         TRACE_WRITE => trace::write(&mut bytes),
         TRACE_READ2 => trace::read2(&mut bytes),
@@ -58,4 +60,6 @@ const TRACE_READ2: u8 = 12;
 const TRACE_WRITE2: u8 = 13;
 const HIDE: u8 = 14;
 const CHECK: u8 = 15;
-const CALLS: u8 = 16;
+const BANDS: u8 = 16;
+const BAND: u8 = 17;
+const CALLS: u8 = 18;

@@ -340,6 +340,42 @@ pub fn reach(table: &Table, sight: &Sight, y: u32, width: u32) -> (u32, Answer) 
     told
 }
 
+pub fn bands(table: &Table, sight: &Sight, width: u32, bands: &mut [u32]) -> (u32, Answer) {
+    summed(table, sight, bands, |table, sight, bands, answer| {
+        port::bands_into(table, sight, width, bands, answer)
+    })
+}
+
+pub fn band(
+    table: &Table,
+    sight: &Sight,
+    width: u32,
+    bands: &mut [u32],
+    band: u32,
+) -> (u32, Answer) {
+    summed(table, sight, bands, |table, sight, bands, answer| {
+        port::band_into(table, sight, width, bands, band, answer)
+    })
+}
+
+/// The code and the answer of a call that makes bands of a table in what is lent.
+fn summed(
+    table: &Table,
+    sight: &Sight,
+    bands: &mut [u32],
+    call: impl FnOnce(&Table, &Sight, &mut [u32], &mut Answer) -> u32,
+) -> (u32, Answer) {
+    let guarded = GuardedTable::of(table, sight);
+    let mut cells = Guarded::of(bands);
+    let told = answered(|answer| {
+        let (table, sight) = guarded.lent();
+        call(&table, &sight, cells.lend(), answer)
+    });
+    guarded.is_still();
+    cells.back_to(bands);
+    told
+}
+
 pub fn hide(bits: &mut [u8], desk: u32, spline: u64, hidden: bool) -> (u32, Answer) {
     let mut lent = Guarded::of(bits);
     let told = answered(|answer| port::hide_into(lent.lend(), desk, spline, hidden, answer));

@@ -1,4 +1,4 @@
-//! Tables at the limits of what is counted, and one past each: zeros that take no memory, whose rows list nothing.
+//! Tables at the limits of what is counted, and one past each: zeros that take no memory, whose rows list nothing. Of the greatest table the bands too, with room for all and a cell less.
 
 use super::pages::endless;
 use super::tally::Tally;
@@ -9,6 +9,8 @@ use port::{Answer, Sight, Table};
 const SEGMENTS: u32 = 1 << 24;
 const ENTRIES: u32 = 1 << 30;
 const HEIGHT: u32 = 1 << 23;
+/// Of 64 rows each.
+const MOST_BANDS: i64 = 1 << 17;
 /// More than 32 bits count.
 const SPLINES: u64 = (1 << 32) + 1;
 
@@ -117,6 +119,30 @@ pub fn compare(tally: &mut Tally) {
         hold(tally, "draw", &said, code, 0, drawn);
         let reached = port::reach(&table, &sight, y, HEIGHT);
         hold(tally, "reach", &said, code, 0, reached);
+        bands(tally, &said, code, &table, &sight);
+    }
+}
+
+/// Made in just the room that they take and refreshed there, then with a cell less; ROOM comes after what these tables are refused for.
+fn bands(tally: &mut Tally, said: &Said, code: Option<Code>, table: &Table, sight: &Sight) {
+    let mut cells = vec![7; 5 * MOST_BANDS as usize];
+    for (lent, code) in [
+        (5 * MOST_BANDS, code),
+        (5 * MOST_BANDS - 1, code.or(Some(Code::Room))),
+    ] {
+        let cells = &mut cells[..lent as usize];
+        let made = port::bands(table, sight, HEIGHT, cells);
+        hold(tally, "bands", said, code, MOST_BANDS, made);
+        if cells.iter().any(|&cell| cell != 0) {
+            tally.differs(format!("bands, {said:?}: no zeros where nothing is listed"));
+        }
+        for (band, code) in [
+            (MOST_BANDS - 1, code),
+            (MOST_BANDS, code.or(Some(Code::Band))),
+        ] {
+            let refreshed = port::band(table, sight, HEIGHT, cells, band as u32);
+            hold(tally, "band", said, code, MOST_BANDS, refreshed);
+        }
     }
 }
 

@@ -37,7 +37,7 @@ impl Lender {
 /// A call that makes its own slices, each with cells, and lends them.
 type Call = fn(&mut Lender) -> Told;
 
-const CALLS: [(&str, Call); 21] = [
+const CALLS: [(&str, Call); 25] = [
     ("read", read),
     ("write", write),
     ("trace_read", trace_read),
@@ -56,6 +56,10 @@ const CALLS: [(&str, Call); 21] = [
     ("draw of no segments", draw_no_segments),
     ("reach", reach),
     ("reach of no segments", reach_no_segments),
+    ("bands", bands),
+    ("bands of no segments", bands_no_segments),
+    ("bands of no rows", bands_no_rows),
+    ("band", band),
     ("hide", hide),
     ("check", check_one),
     ("check of no segments", check_no_segments),
@@ -737,6 +741,95 @@ fn reach(lender: &mut Lender) -> Told {
 
 fn reach_no_segments(lender: &mut Lender) -> Told {
     reach_of(lender, Spline::none())
+}
+
+/// The summary of the first rows, or with the number of a band that one made again, over other numbers.
+fn bands_of(lender: &mut Lender, spline: Spline, height: u32, band: Option<u32>) -> Told {
+    let splines = spline.counts.len();
+    let Built {
+        mut rooms,
+        segment_count,
+        entry_count,
+    } = Built::of(spline);
+    let (mut bytes, mut cells) = (vec![1; splines], vec![7; 7]);
+    let (segments_at, segments_len) = lender.lend(&mut rooms.segments);
+    let (owners_at, owners_len) = lender.lend(&mut rooms.owners);
+    let (entries_at, entries_len) = lender.lend(&mut rooms.entries);
+    let (row_starts_at, row_starts_len) = lender.lend(&mut rooms.row_starts);
+    let (bits_at, bits_len) = lender.lend(&mut bytes);
+    let (bands_at, bands_len) = lender.lend(&mut cells);
+    let mut answer = UNFILLED;
+    // SAFETY: as above.
+    let code = match band {
+        None => unsafe {
+            symbols::aktyrbuz_bands(
+                segments_at,
+                segments_len,
+                owners_at,
+                owners_len,
+                segment_count,
+                entries_at,
+                entries_len,
+                entry_count,
+                row_starts_at,
+                row_starts_len,
+                height,
+                splines as u64,
+                bits_at,
+                bits_len,
+                1,
+                SIDE,
+                bands_at,
+                bands_len,
+                &mut answer,
+            )
+        },
+        Some(band) => unsafe {
+            symbols::aktyrbuz_band(
+                segments_at,
+                segments_len,
+                owners_at,
+                owners_len,
+                segment_count,
+                entries_at,
+                entries_len,
+                entry_count,
+                row_starts_at,
+                row_starts_len,
+                height,
+                splines as u64,
+                bits_at,
+                bits_len,
+                1,
+                SIDE,
+                bands_at,
+                bands_len,
+                band,
+                &mut answer,
+            )
+        },
+    };
+    Told {
+        code,
+        answer,
+        cells,
+    }
+}
+
+fn bands(lender: &mut Lender) -> Told {
+    bands_of(lender, Spline::new(), SIDE, None)
+}
+
+fn bands_no_segments(lender: &mut Lender) -> Told {
+    bands_of(lender, Spline::none(), SIDE, None)
+}
+
+fn bands_no_rows(lender: &mut Lender) -> Told {
+    bands_of(lender, Spline::new(), 0, None)
+}
+
+fn band(lender: &mut Lender) -> Told {
+    bands_of(lender, Spline::new(), SIDE, Some(0))
 }
 
 fn hide(lender: &mut Lender) -> Told {

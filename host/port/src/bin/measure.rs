@@ -1,4 +1,4 @@
-//! What a call costs: the stack that it takes and its time; reading and writing at 2^10 and at 2^20 points, building and drawing at 2^4 and at 2^12 splines.
+//! What a call costs: the stack that it takes and its time; reading and writing at 2^10 and at 2^20 points, building, drawing and bands at 2^4 and at 2^12 splines.
 //!
 //! `measure` prints both. `measure CALL POINTS` makes one call of read, write, trace_read, trace_write, points_read or points_write, for a counter of instructions.
 
@@ -58,6 +58,12 @@ fn table() {
         let mut picture = Picture::of(splines);
         picture.build();
         line("draw", splines, || picture.draw());
+    }
+    for splines in SPLINES {
+        let mut picture = Picture::of(splines);
+        picture.build();
+        line("bands", splines, || picture.summed(None));
+        line("band", splines, || picture.summed(Some(0)));
     }
 }
 
@@ -207,9 +213,12 @@ struct Picture {
     bits: Vec<u8>,
     told: [u32; 2],
     row: [Vec<f32>; 3],
+    bands: Vec<u32>,
 }
 
 const SIDE: u32 = 1024;
+/// Numbers of its bands: five for each 64 rows.
+const BANDS: usize = 5 * SIDE as usize / 64;
 
 impl Picture {
     fn of(splines: usize) -> Picture {
@@ -235,6 +244,7 @@ impl Picture {
             bits: vec![0; splines],
             told: [0; 2],
             row: [(); 3].map(|()| vec![0.0; SIDE as usize]),
+            bands: vec![0; BANDS],
         }
     }
 
@@ -265,9 +275,15 @@ impl Picture {
         self.told = [answer[1] as u32, answer[2] as u32];
     }
 
-    /// The first row, nothing hidden.
-    #[inline(never)]
-    fn draw(&mut self) {
+    /// The table and a sight of it with nothing hidden, and what is drawn and summed in.
+    fn lent(
+        &mut self,
+    ) -> (
+        port::Table<'_>,
+        port::Sight<'_>,
+        [&mut [f32]; 3],
+        &mut [u32],
+    ) {
         let table = port::Table {
             segments: &self.segments,
             owners: &self.owners,
@@ -283,8 +299,27 @@ impl Picture {
             desk: 0,
         };
         let [r0, r1, r2] = &mut self.row;
-        let (code, answer) = port::draw(&table, &sight, 0, 0, SIDE, [r0, r1, r2]);
+        (table, sight, [r0, r1, r2], &mut self.bands)
+    }
+
+    /// The first row.
+    #[inline(never)]
+    fn draw(&mut self) {
+        let (table, sight, channels, _) = self.lent();
+        let (code, answer) = port::draw(&table, &sight, 0, 0, SIDE, channels);
         assert_eq!(code, 0, "draw is refused");
         assert!(answer[1] > 0, "nothing is drawn");
+    }
+
+    /// All bands made, or one made again.
+    #[inline(never)]
+    fn summed(&mut self, band: Option<u32>) {
+        let (table, sight, _, bands) = self.lent();
+        let (code, _) = match band {
+            None => port::bands(&table, &sight, SIDE, bands),
+            Some(band) => port::band(&table, &sight, SIDE, bands, band),
+        };
+        assert_eq!(code, 0, "bands are refused");
+        assert!(bands[0] > 0, "nothing is summed");
     }
 }

@@ -2,10 +2,11 @@
 
 use super::bytes::Put;
 use super::{
-    BUILD, BUILD_PROFILE, CHECK, DRAW, HIDE, LN, POINTS_READ, POINTS_WRITE, PROFILE, REACH, READ,
-    TRACE_READ, TRACE_READ2, TRACE_WRITE, TRACE_WRITE2, WRITE,
+    BAND, BANDS, BUILD, BUILD_PROFILE, CHECK, DRAW, HIDE, LN, POINTS_READ, POINTS_WRITE, PROFILE,
+    REACH, READ, TRACE_READ, TRACE_READ2, TRACE_WRITE, TRACE_WRITE2, WRITE,
 };
 use crate::draw::sight_by_turns;
+use cases::bands::{banded, BANDED_KINDS};
 use cases::descriptions::{self, build_case, BuildCase};
 use cases::desks::{sight, Sight, SIGHT_KINDS};
 use cases::lists::{list_case, write_case, KINDS, WRITE_KINDS};
@@ -44,6 +45,11 @@ pub fn seeds() -> Vec<(String, Vec<u8>)> {
     for (kind, seed) in each(&EDGE_KINDS, A_KIND) {
         let (table, _) = edge_row(kind, seed);
         seeds.push((format!("reach-{kind}-{seed}"), reach(&table, seed)));
+    }
+    for (kind, seed) in each(&BANDED_KINDS, A_KIND) {
+        let table = banded(kind, seed);
+        seeds.push((format!("bands-{kind}-{seed}"), bands(BANDS, &table, seed)));
+        seeds.push((format!("band-{kind}-{seed}"), bands(BAND, &table, seed)));
     }
     for (kind, seed) in each(&SIGHT_KINDS, A_KIND) {
         let table = table("sound", seed);
@@ -182,6 +188,19 @@ fn reach(table: &FlatTable, seed: u64) -> Vec<u8> {
     put.number(seed as u32);
     put.number(80);
     put_table(&mut put, table, seed);
+    put.0
+}
+
+/// In just the room that they take; behind the table the bands that are made again.
+fn bands(call: u8, table: &FlatTable, seed: u64) -> Vec<u8> {
+    let mut put = Put::default();
+    put.byte(call);
+    put.number(80);
+    put.signed(0);
+    put_table(&mut put, table, seed);
+    if call == BAND {
+        put_all(&mut put, &[0, 1, 2, 9]);
+    }
     put.0
 }
 

@@ -1,7 +1,8 @@
-//! Drawing and reach for a desk, its hides, and the logarithm.
+//! Drawing, reach and bands for a desk, its hides, and the logarithm.
 
 use super::bytes::Bytes;
 use crate::draw::{without_hidden, Channels, Judge};
+use crate::port::bands::{wrong_making, wrong_refresh};
 use crate::port::desks::wrong_hide;
 use crate::port::draw::{lent, seen};
 use crate::port::{guarded, told_refusal};
@@ -9,12 +10,16 @@ use crate::reach::Probe;
 use crate::verdict::same_floats;
 use cases::desks::Sight;
 use cases::{bits, FlatTable};
+use model::bands::{bands_of, NUMBERS};
 
 /// No lent channel is longer.
 const MOST_PIXELS: usize = 1 << 11;
 
 /// No more owners or shared bytes are lent.
 const MOST_LENT: u64 = 1 << 11;
+
+/// No input refreshes more bands.
+const MOST_REFRESHES: u32 = 20;
 
 /// A table whose counts need not agree with what is lent, and a sight of it. What comes after the segments is about desks: an input
 /// that ends before it has an owner a segment, all of spline 0, and desk 0 with nothing hidden.
@@ -118,6 +123,35 @@ pub fn reach(bytes: &mut Bytes) {
             words()
         );
     }
+}
+
+/// The bands of a table in about the room that they take, made.
+pub fn bands(bytes: &mut Bytes) {
+    let (table, sight, width, mut cells) = table_and_cells(bytes);
+    let wrong = wrong_making(&table, &sight, width, &mut cells);
+    assert_eq!(wrong, None);
+}
+
+/// One band of them made again, as often as the input goes on.
+pub fn band(bytes: &mut Bytes) {
+    let (table, sight, width, mut cells) = table_and_cells(bytes);
+    for _ in 0..MOST_REFRESHES {
+        let wrong = wrong_refresh(&table, &sight, width, &mut cells, bytes.number());
+        assert_eq!(wrong, None);
+        if bytes.0.is_empty() {
+            return;
+        }
+    }
+}
+
+/// A table, a sight of it, a width, and about as many cells as its bands take.
+fn table_and_cells(bytes: &mut Bytes) -> (FlatTable, Sight, u32, Vec<u32>) {
+    let (width, off) = (bytes.number(), bytes.signed());
+    let (table, sight) = table_and_sight(bytes);
+    let room =
+        (NUMBERS as u64 * u64::from(bands_of(table.height))).saturating_add_signed(off.into());
+    let cells = vec![7; room.min(MOST_LENT) as usize];
+    (table, sight, width, cells)
 }
 
 /// Hides and shows by turns, as long as the input goes.

@@ -1,0 +1,3 @@
+-- The laws of the crate `bands`.
+pub mod Sums
+pub mod Whole

@@ -1,0 +1,80 @@
+-- A summary of every 64 rows of a table for a desk and a width: which rows a band has, what is shown of them, its five numbers, and where they stand. Definitions only.
+use mathlib.Core.Bool.{Bool, true, _&&_}
+use mathlib.Core.List.{List, [], _∷_, _++_, foldl}
+use Prim.Native.Nat.{ℕ, zero, suc, _+_, _-_, _*_, _/_, min, max}
+use lib.ListN.{length}
+use lib.Seq.{sets}
+use Rattle.desks.specs.Desks.{Sight}
+use Rattle.checks.specs.Tables.{Table, shownOf}
+use Rattle.checks.specs.Checks.{rowGoodFor}
+use Rattle.hull.specs.Reach.{reachOver}
+use Rattle.bands.specs.declared.Numbers.{Numbers}
+
+-- ---- the rows of a band
+
+-- how many bands an image of H rows has: the last may be shorter than 64
+unfoldable pub bandsIn : ℕ → ℕ
+bandsIn H = (H + 63) / 64
+
+-- band b begins with this row
+unfoldable pub rowOfBand : ℕ → ℕ
+rowOfBand b = 64 * b
+
+-- and has so many of H
+unfoldable pub rowsIn : ℕ → ℕ → ℕ
+rowsIn H b = min 64 (H - 64 * b)
+
+-- what a desk is shown of n rows from y on, row after row
+unfoldable pub shownFrom : Table → Sight → ℕ → ℕ → List ℕ
+shownFrom t s y zero = []
+shownFrom t s y (suc n) = shownOf t s y ++ shownFrom t s (suc y) n
+
+-- what a desk is shown of band b
+abbrev pub shownIn : Table → Sight → ℕ → List ℕ
+shownIn t s b = shownFrom t s (rowOfBand b) (rowsIn (t .height) b)
+
+-- the starts, entries and owners of n rows from y on are good
+unfoldable pub rowsGoodFrom : Table → Sight → ℕ → ℕ → Bool
+rowsGoodFrom t s y zero = true
+rowsGoodFrom t s y (suc n) = rowGoodFor t s y && rowsGoodFrom t s (suc y) n
+
+abbrev pub bandGood : Table → Sight → ℕ → Bool
+bandGood t s b = rowsGoodFrom t s (rowOfBand b) (rowsIn (t .height) b)
+
+-- ---- the five numbers of a band
+
+-- the least and the greatest of listed segment numbers; 0 of none
+abbrev pub leastOf : List ℕ → ℕ
+leastOf [] = 0
+leastOf (i ∷ l) = foldl min i l
+
+abbrev pub greatestOf : List ℕ → ℕ
+greatestOf [] = 0
+greatestOf (i ∷ l) = foldl max i l
+
+-- of what is shown: how many entries, the least and the greatest segment number, and the hull of the columns below W that drawing it would touch
+unfoldable pub numbersOver : Table → ℕ → List ℕ → Numbers
+numbersOver t W l = record {
+  entries = length l;
+  least = leastOf l;
+  greatest = greatestOf l;
+  first = reachOver (t .segments) W l .first;
+  past = reachOver (t .segments) W l .past;
+}
+
+abbrev pub numbersOf : Table → Sight → ℕ → ℕ → Numbers
+numbersOf t s W b = numbersOver t W (shownIn t s b)
+
+-- ---- the cells of a summary: five a band, one band after another
+
+abbrev pub cellsOf : Numbers → List ℕ
+cellsOf m = m .entries ∷ m .least ∷ m .greatest ∷ m .first ∷ m .past ∷ []
+
+-- the numbers of band b put into its five cells
+unfoldable pub putBand : List ℕ → ℕ → Numbers → List ℕ
+putBand cells b m = sets cells (5 * b) (cellsOf m)
+
+-- those of the first n bands
+unfoldable pub putBands : List ℕ → (ℕ → Numbers) → ℕ → List ℕ
+putBands cells of zero = cells
+putBands cells of (suc n) = putBand (putBands cells of n) n (of n)

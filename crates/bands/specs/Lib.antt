@@ -1,0 +1,5 @@
+-- The definitions of the crate `bands`.
+pub mod Bands
+pub mod Calls
+pub mod Refusals
+pub mod Steps

@@ -1,0 +1,1 @@
+// Laws on the summary of every 64 rows, and no code.
