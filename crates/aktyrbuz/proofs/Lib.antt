@@ -5,6 +5,7 @@ pub mod Calls
 pub mod Readings
 pub mod Demands
 pub mod Requests
+pub mod PointsTexts
 pub mod ListCodes
 pub mod ProfileNumbers
 pub mod MakersNumbers

@@ -1,4 +1,4 @@
--- The later requests, as named statements on outcomes that the proved contracts of the calls allow (specs/Calls.antt). proofs/Requests.antt proves each. Definitions only.
+-- The later requests, as named statements on outcomes that the proved contracts of the calls allow (specs/Calls.antt). proofs/Requests.antt proves each, and proofs/PointsTexts.antt most of (iv). Definitions only.
 use mathlib.Core.Path.{_≡_}
 use mathlib.Core.Bool.{Bool, true, false}
 use mathlib.Core.Logic.{_↔_, _⊎_}
@@ -76,10 +76,21 @@ use Rattle.bands.specs.Refusals.{BandsRefusal, BandRefusal}
 use Rattle.bands_laws.specs.Done.{BandsDone, BandDone}
 use Rattle.bands_laws.specs.Summaries.{InBand, BandRows, OtherCell, ListsSpline, SegmentNumbers, HullOf}
 use Rattle.aktyrbuz.specs.BandsCalls.{BandsCall, BandCall, BandCalls}
+use lib.Ieee.{nan}
+use Rattle.list.specs.Steps.{f32Of}
+use Rattle.dequantize.specs.ControlPoints.{startingPoint}
+use Rattle.dequantize.specs.Judge.{descriptionOf, startX, startY, deltasOf}
+use Rattle.dequantize.specs.Refusals.{SplinePasses, SplineRefusal}
+use Rattle.dequantize.specs.declared.Given.{Given}
+use Rattle.dequantize.specs.declared.control_points.Pair.{Pair}
+use Rattle.dequantize.specs.declared.control_points.Start.the-variants as start-at
 use Rattle.polyline.specs.Form.{PointsForm}
 use Rattle.polyline.specs.Read.{PointsOutcome, readPointsOf}
+use Rattle.polyline.specs.Read as drawn
 use Rattle.polyline.specs.Write.{writePointsOf}
 use Rattle.polyline_laws.specs.Begins.{FirstBad}
+use Rattle.polyline_laws.specs.Says.{FormSays, OneSaying}
+use Rattle.polyline_laws.specs.Refusals.{PointsReadRefusal, PointsAccepted, There, PointsWriteRefusal, PointsWritten}
 use Rattle.aktyrbuz.specs.PolylineCalls.{PointsReadCall, PointsWriteCall}
 use Rattle.draw.specs.Image as drawing
 use Rattle.rows.specs.Rows as listing
@@ -229,6 +240,84 @@ pub record PointsRefusalsZero : Type 0 where
       → (c : Code) (p : ℕ) → o .answer ≡ WriteAnswer.Refused c p → PointsRefused start deltas c p o
   pub write : (ns : List ℕ) (ss : List Float) (ds cs : List ℤ) (k room : ℕ) (o : WriteOutcome) → PointsWriteCall ns ss ds cs k room o
       → (c : Code) (p : ℕ) → o .answer ≡ WriteAnswer.Refused c p → WriteRefused room c p o
+
+-- the start, as two floats, and the double deltas, each with zeros behind
+abbrev pub startAt : Pair → ℕ → List Float
+startAt p room = (f32Of (p .x) ∷ f32Of (p .y) ∷ []) ++ replicate (room - 2) zeroF32
+
+abbrev pub deltasBehind : List ℤ → ℕ → ℕ → List ℤ
+deltasBehind ds n room = ds ++ replicate (room - 2 * n) (pos 0)
+
+-- a text is accepted exactly if it has the form, building would find its points legal apart from distance and area, and there is room: 2 cells of start, and 2 a double delta;
+-- its start and its double deltas are then left
+pub record TextAcceptedExactly : Type 0 where
+  pub exactly : (text : List ℕ) (start deltas : ℕ) (o : PointsOutcome) → PointsReadCall text start deltas o
+      → (n : ℕ) → o .answer ≡ WriteAnswer.Done n ↔ PointsAccepted text start deltas n
+  pub left : (text : List ℕ) (start deltas : ℕ) (o : PointsOutcome) → PointsReadCall text start deltas o
+      → (n : ℕ) (a : PointsAccepted text start deltas n) → o ≡ drawn.leaves (WriteAnswer.Done n) (startAt (a .first) start) (deltasBehind (a .ds) n deltas)
+
+-- reading refuses with a code at a place exactly when the table of reading gives it; the number and the place are then told, and every lent cell is zero
+-- where the table gives nothing, reading is done; the table speaks of the points that a text says: it says some exactly if it has the form, and no two lists of them
+pub record PointsDone (o : PointsOutcome) : Type 0 where
+  pub deltas : ℕ
+  pub is : o .answer ≡ WriteAnswer.Done deltas
+
+pub record PointsReadCodes : Type 0 where
+  pub exactly : (text : List ℕ) (start deltas : ℕ) (o : PointsOutcome) → PointsReadCall text start deltas o
+      → (c : Code) (p : ℕ) → o .answer ≡ WriteAnswer.Refused c p ↔ PointsReadRefusal text start deltas c p
+  pub told : (text : List ℕ) (start deltas : ℕ) (o : PointsOutcome) → PointsReadCall text start deltas o
+      → (c : Code) (p : ℕ) → PointsReadRefusal text start deltas c p → PointsRefused start deltas c p o
+  pub else-done : (text : List ℕ) (start deltas : ℕ) (o : PointsOutcome) → PointsReadCall text start deltas o
+      → ((c : Code) (p : ℕ) → PointsReadRefusal text start deltas c p → ⊥) → PointsDone o
+  pub says : FormSays
+  pub one-saying : OneSaying
+
+-- writing likewise, by the table of writing; and it is done exactly when nothing is given, with so many bytes
+pub record PointsWriteCodes : Type 0 where
+  pub exactly : (ns : List ℕ) (ss : List Float) (ds cs : List ℤ) (k room : ℕ) (o : WriteOutcome) → PointsWriteCall ns ss ds cs k room o
+      → (c : Code) (p : ℕ) → o .answer ≡ WriteAnswer.Refused c p ↔ PointsWriteRefusal ns ss ds cs k room c p
+  pub told : (ns : List ℕ) (ss : List Float) (ds cs : List ℤ) (k room : ℕ) (o : WriteOutcome) → PointsWriteCall ns ss ds cs k room o
+      → (c : Code) (p : ℕ) → PointsWriteRefusal ns ss ds cs k room c p → WriteRefused room c p o
+  pub done : (ns : List ℕ) (ss : List Float) (ds cs : List ℤ) (k room : ℕ) (o : WriteOutcome) → PointsWriteCall ns ss ds cs k room o
+      → (n : ℕ) → o .answer ≡ WriteAnswer.Done n ↔ PointsWritten ns ss ds cs k room n
+
+-- the spline k of a description has the start and the n double deltas that reading left
+pub record HasRead (o : PointsOutcome) (n : ℕ) (ns : List ℕ) (ss : List Float) (ds cs : List ℤ) (k : ℕ) : Type 0 where
+  pub there : There ns ss ds cs k
+  pub x : startX (descriptionOf ns ss ds cs) k ≡ getD (o .start) 0 nan
+  pub y : startY (descriptionOf ns ss ds cs) k ≡ getD (o .start) 1 nan
+  pub deltas : deltasOf (descriptionOf ns ss ds cs) k ≡ take (2 * n) (o .deltas)
+
+-- by building's own table of codes: under any setting it refuses a spline that was read, or written, by DISTANCE or AREA and nothing else, and a spline that it passes is refused by ROOM and nothing else
+pub record PointsAsBuilt : Type 0 where
+  pub read : (text : List ℕ) (start deltas : ℕ) (o : PointsOutcome) (n : ℕ) → PointsReadCall text start deltas o → o .answer ≡ WriteAnswer.Done n
+      → (ns : List ℕ) (ss : List Float) (ds cs : List ℤ) (k : ℕ) → HasRead o n ns ss ds cs k
+      → (g : Given) (c : Code) → SplineRefusal (descriptionOf ns ss ds cs) g k c → (c ≡ Code.Distance) ⊎ (c ≡ Code.Area)
+  pub written : (ns : List ℕ) (ss : List Float) (ds cs : List ℤ) (k room : ℕ) (o : WriteOutcome) (n : ℕ) → PointsWriteCall ns ss ds cs k room o → o .answer ≡ WriteAnswer.Done n
+      → (g : Given) (c : Code) → SplineRefusal (descriptionOf ns ss ds cs) g k c → (c ≡ Code.Distance) ⊎ (c ≡ Code.Area)
+  pub passed : (ns : List ℕ) (ss : List Float) (ds cs : List ℤ) (k room : ℕ) (o : WriteOutcome) → PointsWriteCall ns ss ds cs k room o → There ns ss ds cs k
+      → (g : Given) → SplinePasses (descriptionOf ns ss ds cs) g k → (c : Code) (p : ℕ) → o .answer ≡ WriteAnswer.Refused c p → c ≡ Code.Room
+
+-- import, then export, returns the same text, with zeros behind: of any description that has what was read as a spline, so of one that is this spline alone
+pub record TextWrittenBack : Type 0 where
+  pub any : (text : List ℕ) (start deltas : ℕ) (o : PointsOutcome) (n : ℕ) → PointsReadCall text start deltas o → o .answer ≡ WriteAnswer.Done n
+      → (ns : List ℕ) (ss : List Float) (ds cs : List ℤ) (k : ℕ) → HasRead o n ns ss ds cs k
+      → (room : ℕ) → length text ≤ room → (q : WriteOutcome) → PointsWriteCall ns ss ds cs k room q
+      → q ≡ writing.leaves (WriteAnswer.Done (length text)) (text ++ replicate (room - length text) 0)
+  pub alone : (text : List ℕ) (start deltas : ℕ) (o : PointsOutcome) (n : ℕ) → PointsReadCall text start deltas o → o .answer ≡ WriteAnswer.Done n
+      → (cs : List ℤ) → length cs ≡ 128 → (room : ℕ) → length text ≤ room → (q : WriteOutcome) → PointsWriteCall (n ∷ []) (take 2 (o .start)) (take (2 * n) (o .deltas)) cs 0 room q
+      → q ≡ writing.leaves (WriteAnswer.Done (length text)) (text ++ replicate (room - length text) 0)
+
+-- export, then import, gives the start as building rounds it and the same double deltas, with zeros behind, in rooms exact or larger
+pub record ReadBack (ns : List ℕ) (ss : List Float) (ds cs : List ℤ) (k start deltas : ℕ) (q : PointsOutcome) : Type 0 where
+  pub first : Pair
+  pub rounded : startingPoint (startX (descriptionOf ns ss ds cs) k) (startY (descriptionOf ns ss ds cs) k) ≡ start-at.At first
+  pub is : q ≡ drawn.leaves (WriteAnswer.Done (getD ns k 0)) (startAt first start) (deltasBehind (deltasOf (descriptionOf ns ss ds cs) k) (getD ns k 0) deltas)
+
+abbrev pub TextReadBack : Type 0
+TextReadBack =
+    (ns : List ℕ) (ss : List Float) (ds cs : List ℤ) (k room : ℕ) (o : WriteOutcome) (n : ℕ) → PointsWriteCall ns ss ds cs k room o → o .answer ≡ WriteAnswer.Done n
+    → (start deltas : ℕ) → 2 ≤ start → 2 * getD ns k 0 ≤ deltas → (q : PointsOutcome) → PointsReadCall (take n (o .list)) start deltas q → ReadBack ns ss ds cs k start deltas q
 
 -- any two outcomes are equal
 pub record PointsOneOutcome : Type 0 where

@@ -14,7 +14,7 @@ const BYTES: usize = 24576;
 // The bytes of the longest head, and more.
 const HEAD: usize = 64;
 
-// What is asked of a description: to be told, its rows, its bands, its picture, the traces that have the pixel in this column and row, why the segment of this number sits where it does, its row table, whether that in the file of this argument is it, whether it meets this edition of the profile, its trace file, or its list.
+// What is asked of a description: to be told, its rows, its bands, its picture, the traces that have the pixel in this column and row, why the segment of this number sits where it does, its row table, whether that in the file of this argument is it, whether it meets this edition of the profile, its trace file, its list, or its line drawing.
 pub enum Asked {
     Told,
     Rows,
@@ -27,6 +27,7 @@ pub enum Asked {
     Profile(u32),
     Trace,
     List,
+    Drawing,
 }
 
 // What is asked, of an image of this size (no rows and columns where there is none), where a picture of either kind or a file goes, and which argument names the traces that are hidden for the desk (0: none), by which edition of the profile it is to be built (0: by none), and which edition a trace file is to hold (0: a file of version 1).

@@ -1,5 +1,5 @@
 // What a list of decoded values or a trace file holds, what it draws, which rows and bands, whose a pixel is, why a segment sits where it does, its row table and another maker's, whether it meets the fineness profile,
-// and either made from the other: `gauge read`, `gauge draw`, `gauge rows`, `gauge bands`, `gauge touch`, `gauge why`, `gauge table`, `gauge check`, `gauge profile`, `gauge trace`.
+// either made from the other, and its line drawing: `gauge read`, `gauge draw`, `gauge rows`, `gauge bands`, `gauge touch`, `gauge why`, `gauge table`, `gauge check`, `gauge profile`, `gauge trace`, `gauge svg`.
 // A program has no exit status: with `--status` it is written as a digit to descriptor 3 (0: done, 1: refused, 2: wrong use).
 mod arguments;
 mod options;
@@ -8,6 +8,7 @@ ghost use Prim.Native.Nat.{_≤_};
 use arguments::Number;
 use canvas::Asked;
 use canvas::Task;
+use drawing::Wanted;
 use files::Loaded;
 use options::Options;
 
@@ -22,18 +23,19 @@ enum Two {
     Not,
 }
 
-// What a file's name says of its kind: a picture of either kind, a trace file, or another.
+// What a file's name says of its kind: a picture of either kind, a trace file, a line drawing, or another.
 enum Kind {
     Tones,
     Floats,
     Trace,
+    Drawing,
     Other,
 }
 
 fn usage() -> u8 {
     words::wrong(
         2,
-        b"usage: gauge read, rows, bands, touch, why, table, check, profile, draw, trace out or trace in, each with the file VALUES and what it asks for: ./gauge --help tells the words of each\n",
+        b"usage: gauge read, rows, bands, touch, why, table, check, profile, draw, trace out or in, svg out or in, each with the file VALUES and what it asks for: ./gauge --help tells the words of each\n",
         &[],
     )
 }
@@ -252,6 +254,9 @@ fn kind_of(path: &[u8]) -> Kind {
     if ends_in(path, b".trace") {
         return Kind::Trace;
     }
+    if ends_in(path, b".svg") {
+        return Kind::Drawing;
+    }
     Kind::Other
 }
 
@@ -361,6 +366,69 @@ fn trace(i: u8, options: Options) -> u8
     usage()
 }
 
+// The line drawing of the file that argument i names, in an image of the size that the next ones say, into the file that the one behind them names.
+fn svg_out(i: u8, options: Options) -> u8
+    requires { ⌜ i ≤ 50 ⌝ }
+{
+    let Two::Are(width, height) = size_at(i + 1) else {
+        return say_size();
+    };
+    let mut held = io::buffer();
+    let n = os::arg(i as usize + 3, &mut held);
+    match kind_of(&held[..n]) {
+        Kind::Drawing => write_to(i, width, height, Asked::Drawing, &held[..n], false, options),
+        _ => usage(),
+    }
+}
+
+// The traces of a drawing, the first n of the bytes.
+fn svg_first(bytes: &[u8], n: usize, wanted: Wanted) -> u8 {
+    if bytes.len() < n {
+        return 2;
+    }
+    drawing::say(&bytes[0..n], wanted)
+}
+
+// The traces of the drawing that argument i names.
+fn svg_in(i: u8, wanted: Wanted) -> u8 {
+    let mut bytes = [0u8; BYTES];
+    match files::load(i as usize, &mut bytes) {
+        Loaded::Status(status) => status,
+        Loaded::Count(n) => svg_first(&bytes, n, wanted),
+    }
+}
+
+// The same of the trace whose number the next argument is.
+fn svg_in_one(i: u8) -> u8
+    requires { ⌜ i ≤ 60 ⌝ }
+{
+    match arguments::argument(i as usize + 1) {
+        Number::Is(n) => svg_in(i, Wanted::One(n)),
+        _ => words::wrong(2, b"the number of a trace is due\n", &[]),
+    }
+}
+
+// `out` or `in` at argument i, with so many words from it on.
+fn svg(i: u8, more: usize, options: Options) -> u8
+    requires { ⌜ i ≤ 40 ⌝ }
+{
+    if more == 5 {
+        return if arguments::is_argument(i as usize, b"out") {
+            svg_out(i + 1, options)
+        } else {
+            usage()
+        };
+    }
+    if !arguments::is_argument(i as usize, b"in") {
+        return usage();
+    }
+    match more {
+        2 => svg_in(i + 1, Wanted::All),
+        3 => svg_in_one(i + 1),
+        _ => usage(),
+    }
+}
+
 // Whether the command is this one, with so many words behind it.
 fn is_command(at: u8, word: &[u8]) -> bool {
     arguments::is_argument(at as usize, word)
@@ -435,6 +503,9 @@ fn run_words(at: u8, more: usize, options: Options) -> u8
         } else {
             usage()
         };
+    }
+    if is_command(at, b"svg") {
+        return svg(at + 1, more, options);
     }
     if is_command(at, b"draw") {
         return if more == 4 {

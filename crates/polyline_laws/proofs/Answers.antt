@@ -108,11 +108,11 @@ one-place text p q f g = go (ltb p q) (ltb q p) refl refl
 
 -- ---- the answer
 
-said : (start deltas : ℕ) (ss : List Spot) (v : Verdict) (c : Code) (p : ℕ) → outcome start deltas ss v .answer ≡ Refused c p → v ≡ Fault c p
+pub said : (start deltas : ℕ) (ss : List Spot) (v : Verdict) (c : Code) (p : ℕ) → outcome start deltas ss v .answer ≡ Refused c p → v ≡ Fault c p
 said start deltas ss Fine c p e = let z : _≡_ {A = ℕ} 0 1 = cc in absurd (omega arith)
 said start deltas ss (Fault d q) c p e = cc
 
-bad-said : (text : List ℕ) (p : ℕ) → FirstBad text p → textOf text ≡ Fault Text p
+pub bad-said : (text : List ℕ) (p : ℕ) → FirstBad text p → textOf text ≡ Fault Text p
 unfolding textOf
 bad-said text p f = go (textFrom (S.Fresh false) 0 text) refl
   where
@@ -132,7 +132,7 @@ text-exactly start deltas text p =
     (λ e. first-bad-byte text p (text-by-form start deltas text p (said start deltas (spotsOf text) (pointsVerdict start deltas text) Text p e)), bad-told start deltas text p)
 
 -- a text that is not judged fine has a first bad byte
-bad-there : (text : List ℕ) (c : Code) (p : ℕ) → textOf text ≡ Fault c p → FirstBad text p
+pub bad-there : (text : List ℕ) (c : Code) (p : ℕ) → textOf text ≡ Fault c p → FirstBad text p
 unfolding textOf
 bad-there text c p e = first-bad-byte text p (form-says text (S.Fresh false) 0 c p e)
 
@@ -150,7 +150,7 @@ pub read-refused : (start deltas : ℕ) (text : List ℕ) (c : Code) (p : ℕ) �
 unfolding readPointsOf
 read-refused start deltas text c p e = ap (outcome start deltas (spotsOf text)) (said start deltas (spotsOf text) (pointsVerdict start deltas text) c p e)
 
-wrote : (room : ℕ) (values : List ℕ) (v : Verdict) (c : Code) (p : ℕ) → writing.outcome room values v .answer ≡ Refused c p → v ≡ Fault c p
+pub wrote : (room : ℕ) (values : List ℕ) (v : Verdict) (c : Code) (p : ℕ) → writing.outcome room values v .answer ≡ Refused c p → v ≡ Fault c p
 wrote room values Fine c p e = let z : _≡_ {A = ℕ} 0 1 = cc in absurd (omega arith)
 wrote room values (Fault d q) c p e = cc
 

@@ -85,11 +85,11 @@ module _ (run : Run) (after : ℕ) (s : Spot) (is : s ≡ spotOf (run .figure)) 
   unfolding pairEnds endDeltas
   ends-stop code l e = rw (← is, e) (ap (λ (k : ℕ). Stop code k) (begins run s is), refl)
 
-  pub ends-on : (t : Track) (l l′ : List ℤ) (f : Figure) (held : ℕ) → judgedOf (run .track) (s .point) ≡ judged.On t → f ≡ figureAt after
+  pub ends-on : (t : Track) (l l′ : List ℤ) (f : Figure) (held : ℕ) → judgedOf (run .track) (s .point) ≡ judged.On t → (next : ℕ) → f ≡ figureAt next → next ≡ after
       → l′ ≡ sets l (run .held) (stepDeltas (run .track) (s .point)) → held ≡ run .held + length (stepDeltas (run .track) (s .point))
       → (On (record { figure = f; track = t; held = held }) ≡ pairEnds run after) × (l′ ≡ sets l (run .held) (endDeltas run))
   unfolding pairEnds endDeltas
-  ends-on t l l′ f held e g x y = rw (← is, e) (rw (g, y, is), x)
+  ends-on t l l′ f held e next g n x y = rw (← is, e) (rw (g, n, y, is), x)
 
 -- ---- one byte
 

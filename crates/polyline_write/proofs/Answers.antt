@@ -74,12 +74,12 @@ module _ (k : ℕ) (ds : List ℤ) (x y : Float) (l l′ : List ℕ) where
     pub one-passes : Passable (placeAt p) ds
     one-passes = let b = begun-fine k ds (startingPoint x y) p e in b .pass (start-valid x y p (b .at))
 
-    pub one-full : PutLeaves 0 (pointsText (controlPoints p ds)) Full l l′
-        → OneLeaves (textAt ds (startingPoint x y)) (oneVerdict k ds (startingPoint x y) (length l)) (Refused Room k) l l′
-    one-full s =
+    pub one-full : PutLeaves 0 (pointsText (controlPoints p ds)) Full l l′ → (place : ℕ) → place ≡ k
+        → OneLeaves (textAt ds (startingPoint x y)) (oneVerdict k ds (startingPoint x y) (length l)) (Refused Room place) l l′
+    one-full s place is =
         let b = begun-fine k ds (startingPoint x y) p e in
         let f = rw (b .at) at (b .fine) in
-        rw (b .at, f, lt-ltb (length l) (length (pointsText (controlPoints p ds))) (omega (arith, s .leaves))) (record { leaves = refl })
+        rw (b .at, f, lt-ltb (length l) (length (pointsText (controlPoints p ds))) (omega (arith, s .leaves)), is) (record { leaves = refl })
 
     pub one-ends : (n : ℕ) → PutLeaves 0 (pointsText (controlPoints p ds)) (Ends n) l l′
         → OneLeaves (textAt ds (startingPoint x y)) (oneVerdict k ds (startingPoint x y) (length l)) (Done n) l l′

@@ -39,9 +39,9 @@ module _ (p : Place) (met : Bool) (dd : Pair) where
       unfolding goneBy movedOf
       gone-out e = rw (a, ← is, b, ← to, e)
 
-      pub gone-on : validPointPos q ≡ true → (s m : Bool) → s ≡ samePoint (p .point) q → m ≡ cond met true s → On (record { delta = d; point = q }) m ≡ goneBy p met dd
+      pub gone-on : validPointPos q ≡ true → (s : Bool) (r : Gone) → s ≡ samePoint (p .point) q → r ≡ On (record { delta = d; point = q }) (cond met true s) → r ≡ goneBy p met dd
       unfolding goneBy movedOf
-      gone-on e s m x y = rw (a, ← is, b, ← to, e, ← x, y)
+      gone-on e s r x y = rw (a, ← is, b, ← to, e, ← x) y
 
   -- where it leads to passed POSITION
   pub record Went (q : Place) (m : Bool) : Type 0 where

@@ -24,6 +24,7 @@ ghost use Rattle.shape.specs.Shape.{pointsOf};
 ghost use Rattle.writer.specs.Write.{leaves};
 ghost use Rattle.dequantize.specs.ControlPoints.{belowDeltaLimit, validPointPos, validDoubleDelta, startingPoint, laterPoints, controlPoints, placeAt};
 ghost use Rattle.dequantize.specs.Asked.{Passable};
+ghost use Rattle.polyline.specs.declared.Gone.{Gone};
 ghost use Rattle.polyline.specs.Write.{pairText, laterText, pointsText, goneBy, goneOf, textAt, writePointsOf};
 ghost use Rattle.polyline_write.specs.Steps.{Placed, begunAt, PutLeaves, oneVerdict, OneLeaves, partOf, Parted};
 
@@ -62,10 +63,15 @@ fn small(dd: Pair) -> bool
     }
 }
 
-fn either(a: bool, b: bool) -> bool
-    ensures { λ r. ⌜ r ≡ cond a Bool.true b ⌝ }
+// A place that was reached, and whether two adjacent points met so far: no reason to stop before all points.
+fn reached(place: Place, earlier: bool, meets: bool) -> Gone
+    ensures { λ r. ⌜ r ≡ Gone.On place (cond earlier Bool.true meets) ⌝ }
 {
-    if a { true } else { b }
+    if earlier {
+        Gone::On(place, true)
+    } else {
+        Gone::On(place, meets)
+    }
 }
 
 // One double delta on: DELTA, POSITION of the delta, POSITION of the point.
@@ -85,7 +91,7 @@ fn go_on(place: Place, met: bool, dd: Pair) -> Gone
         return Gone::Stop(Code::Position);
     }
     let meets = same(place.point, point);
-    Gone::On(Place { delta, point }, either(met, meets))
+    reached(Place { delta, point }, met, meets)
 }
 
 // All double deltas.

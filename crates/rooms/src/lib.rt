@@ -78,6 +78,21 @@ fn answer(
             let fd = task.fd;
             passing::as_list(counts, starts, deltas, coefficients, adjustment, fd)
         }
+        Asked::Drawing => {
+            let fd = task.fd;
+            let width = task.width;
+            let height = task.height;
+            drawing::write(
+                counts,
+                starts,
+                deltas,
+                coefficients,
+                adjustment,
+                width,
+                height,
+                fd,
+            )
+        }
         Asked::Profile(edition) => {
             fineness::say(counts, starts, deltas, coefficients, adjustment, edition)
         }

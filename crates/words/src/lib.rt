@@ -1,4 +1,5 @@
 // Sentences: a text in which each `#` stands for the next of some numbers, and each `~` for the next one with its sign.
+mod points;
 mod refusals;
 mod traces;
 
@@ -6,6 +7,7 @@ ghost use mathlib.Core.Path.{_≡_};
 ghost use Prim.Native.Nat.{_≤_};
 ghost use lib.ListN.{length};
 ghost use Rattle.io.specs.Counts.{Counts};
+pub use points::of_points;
 pub use refusals::of_building;
 pub use refusals::of_reading;
 pub use traces::of_trace;

@@ -1,6 +1,7 @@
 //! Makes the list of values in samples/, checks that it is still what is made and that spline.rs reads and builds it, and says
 //! what the examples and `gauge` have to say of it. Run from the repository's top.
 
+mod drawing;
 mod fibres;
 mod judged;
 mod picture;
@@ -20,6 +21,10 @@ usage, from the repository's top:
   samples trace                        what tools/trace_reader.py has to print of its trace file
   samples read | [--high] rows [--hide N,N..] WIDTH HEIGHT | [--high] bands [--hide N,N..] WIDTH HEIGHT | [--high] draw [--hide N,N..] WIDTH HEIGHT PICTURE | touch WIDTH HEIGHT X Y | table WIDTH HEIGHT
                                        what ./gauge has to print of it, and its picture
+  samples svg out WIDTH HEIGHT | svg in
+                                       its line drawing as ./gauge has to write it, and what it has to take back from it
+  samples over DRAWN LINES             whether the lines of one picture lie over the strands of the other, which ./gauge has drawn
+  samples both DRAWN LINES PICTURE     both in one picture
 ";
 
 fn put(path: &str, bytes: &[u8]) -> Result<(), String> {
@@ -110,6 +115,17 @@ fn run(words: &[&str]) -> Option<Result<String, String>> {
             let (x, y) = (x.parse().ok()?, y.parse().ok()?);
             judged(size(width, height, high)?).map(|judged| said::touch(&judged, x, y))
         }
+        ["svg", "out", width, height] => {
+            let size = size(width, height, high)?;
+            judged(size).and_then(|judged| drawing::out(&judged, size))
+        }
+        ["svg", "in"] => judged(WHOLE).map(|judged| drawing::taken(&judged)),
+        ["over", drawn, lines] => {
+            judged(WHOLE).and_then(|judged| drawing::over(&judged, drawn, lines))
+        }
+        ["both", drawn, lines, path] => drawing::both(drawn, lines)
+            .and_then(|bytes| put(path, &bytes))
+            .map(|()| String::new()),
         ["draw", width, height, path] => draw(size(width, height, high)?, &[], path),
         ["draw", "--hide", hidden, width, height, path] => {
             draw(size(width, height, high)?, &numbers(hidden)?, path)

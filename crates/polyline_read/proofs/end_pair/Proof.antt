@@ -1,5 +1,6 @@
 -- `polyline_read::end_pair` meets its contract: the pair is judged, and its double delta stored where it passes.
 use mathlib.Core.Path.{sym, _∙_}
+use native.Mathlib.Omega.{arith}
 use denote.Ref.{now}
 use Rattle.polyline_read.proofs.Numbers.{small-near, spot-small}
 use Rattle.polyline_read.proofs.Turns.{ends-stop, ends-on}
@@ -32,7 +33,7 @@ same-length : tie.Need-same-length
 same-length c = search needs
 
 returns-2 : tie.Need-returns-2
-returns-2 c = let s = c .before .before .before .before .before .before .before .before .before .before .before in ends-on (s .args .run) (s .args .after) _ (c .before .before .before .before .before .before .before .before .before .spot .ensures) _ (now (s .args .deltas)) _ _ _ (sym (c .before .before .before .before .before .before .before .judge-pair .ensures) ∙ c .before .before .before .before .before .t .given .1) (c .figure-at .ensures) (c .before .before .store .ensures .0) (c .before .before .store .ensures .1)
+returns-2 c = let s = c .before .before .before .before .before .before .before .before .before .before .before in ends-on (s .args .run) (s .args .after) _ (c .before .before .before .before .before .before .before .before .before .spot .ensures) _ (now (s .args .deltas)) _ _ _ (sym (c .before .before .before .before .before .before .before .judge-pair .ensures) ∙ c .before .before .before .before .before .t .given .1) _ (c .figure-at .ensures) (omega arith) (c .before .before .store .ensures .0) (c .before .before .store .ensures .1)
 
 pub end-pair-spec : {M : Type 1} → statement M
 end-pair-spec =

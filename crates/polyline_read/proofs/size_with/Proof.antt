@@ -17,7 +17,7 @@ add-more : tie.Need-add-more
 add-more c = omega (arith, c .figure-of .ensures)
 
 returns : tie.Need-returns
-returns c = let s = c .before .before in sym (cap-big (10 * s .args .size + (s .args .b - 48)) (omega (arith, c .before .figure-of .ensures, c .if1 .taken)))
+returns c = let s = c .before .before in omega (arith, cap-big (10 * s .args .size + (s .args .b - 48)) (omega (arith, c .before .figure-of .ensures, c .if1 .taken)))
 
 returns-2 : tie.Need-returns-2
 returns-2 c = let s = c .before .before in rw (c .before .figure-of .ensures) (sym (cap-small (10 * s .args .size + (s .args .b - 48)) (omega (arith, c .before .figure-of .ensures, c .if1 .left))))

@@ -34,11 +34,11 @@ returns-3 c = let s = c .before .before .before .before .before .before .before 
 same-requires : tie.Need-same-requires
 same-requires c κs = (c .before .before .before .before .before .before .before .before .pre .point, sym (c .before .valid2 .ensures) ∙ not-false _ (c .if3 .left))
 
-either-requires : tie.Need-either-requires
-either-requires c κs = search needs
+reached-requires : tie.Need-reached-requires
+reached-requires c κs = search needs
 
 returns-4 : tie.Need-returns-4
-returns-4 c = let s = c .before .before .before .before .before .before .before .before .before .before in gone-on (s .args .place) (s .args .met) (s .args .dd) (sym (c .before .before .before .before .before .before .before .before .before .small .ensures) ∙ not-false _ (c .before .before .before .before .before .before .before .before .if1 .left)) _ (c .before .before .before .before .before .before .before .plus .ensures) (sym (c .before .before .before .before .before .before .valid .ensures) ∙ not-false _ (c .before .before .before .before .before .if2 .left)) _ (c .before .before .before .before .plus2 .ensures) (sym (c .before .before .before .valid2 .ensures) ∙ not-false _ (c .before .before .if3 .left)) _ _ (c .before .same .ensures) (c .either .ensures)
+returns-4 c = let s = c .before .before .before .before .before .before .before .before .before .before in gone-on (s .args .place) (s .args .met) (s .args .dd) (sym (c .before .before .before .before .before .before .before .before .before .small .ensures) ∙ not-false _ (c .before .before .before .before .before .before .before .before .if1 .left)) _ (c .before .before .before .before .before .before .before .plus .ensures) (sym (c .before .before .before .before .before .before .valid .ensures) ∙ not-false _ (c .before .before .before .before .before .if2 .left)) _ (c .before .before .before .before .plus2 .ensures) (sym (c .before .before .before .valid2 .ensures) ∙ not-false _ (c .before .before .if3 .left)) _ _ (c .before .same .ensures) (c .reached .ensures)
 
 pub go-on-spec : {M : Type 1} → statement M
 go-on-spec =
@@ -53,7 +53,7 @@ go-on-spec =
     valid-requires-2
     returns-3
     same-requires
-    either-requires
+    reached-requires
     returns-4)
 
 -- Assumes nothing.

@@ -31,12 +31,12 @@ same-length-2 c = search needs
 returns-2 : tie.Need-returns-2
 returns-2 c =
     let s = c .before .before .before .before .before .before .before .before .before .before in
-    call-none (now (s .args .counts)) (now (s .args .starts)) (now (s .args .deltas)) (now (s .args .coefficients)) (s .args .spline) (length (now (s .args .text))) (sym (c .before .before .shape-good .ensures) ∙ not-false _ (c .before .if1 .left)) _ (c .before .before .before .before .before .clear-u8 .ensures) (c .if2 .taken)
+    call-none (now (s .args .counts)) (now (s .args .starts)) (now (s .args .deltas)) (now (s .args .coefficients)) (s .args .spline) (length (now (s .args .text))) (sym (c .before .before .shape-good .ensures) ∙ not-false _ (c .before .if1 .left)) _ (c .before .before .before .before .before .clear-u8 .ensures) (omega (arith, c .if2 .taken))
 
 write-spline-requires : tie.Need-write-spline-requires
 write-spline-requires c κs =
     let s = c .before .before .before .before .before .before .before .before .before .before .before in
-    parted (now (s .args .counts)) (now (s .args .starts)) (now (s .args .deltas)) (now (s .args .coefficients)) (s .args .spline) (length (now (s .args .text))) (sym (c .before .before .before .shape-good .ensures) ∙ not-false _ (c .before .before .if1 .left)) (c .before .if2 .left)
+    parted (now (s .args .counts)) (now (s .args .starts)) (now (s .args .deltas)) (now (s .args .coefficients)) (s .args .spline) (length (now (s .args .text))) (sym (c .before .before .before .shape-good .ensures) ∙ not-false _ (c .before .before .if1 .left)) (omega (arith, c .before .if2 .left))
 
 enum-known-n : tie.Need-enum-known-n
 enum-known-n c = search needs

@@ -1,5 +1,6 @@
 -- `polyline_write::write_one` meets its contract: the spline is judged, and put where it passes.
 use mathlib.Core.Path.{refl, sym, _∙_}
+use native.Mathlib.Omega.{arith}
 use denote.Ref.{now}
 use Rattle.polyline_write.proofs.Answers.{one-refused, one-passes, one-full, one-ends}
 use borrow.Author.Needs.{needs}
@@ -31,7 +32,7 @@ same-length : tie.Need-same-length
 same-length c = search needs
 
 returns-2 : tie.Need-returns-2
-returns-2 c = let s = c .before .before .before .before .before .before .before .before .before .before .before in one-full (s .args .k) (now (s .args .deltas)) (s .args .x) (s .args .y) _ _ _ (sym (c .before .before .before .before .before .before .before .start .given .1) ∙ c .before .before .before .before .before .before .before .before .before .begin-at .ensures) (rw (c .enum-told .given .1) at (c .before .before .before .before .put-points .ensures))
+returns-2 c = let s = c .before .before .before .before .before .before .before .before .before .before .before in one-full (s .args .k) (now (s .args .deltas)) (s .args .x) (s .args .y) _ _ _ (sym (c .before .before .before .before .before .before .before .start .given .1) ∙ c .before .before .before .before .before .before .before .before .before .begin-at .ensures) (rw (c .enum-told .given .1) at (c .before .before .before .before .put-points .ensures)) _ (omega arith)
 
 same-length-2 : tie.Need-same-length-2
 same-length-2 c = search needs

@@ -2,7 +2,9 @@
 use mathlib.Core.Path.{_≡_, refl, sym, _∙_}
 use native.Mathlib.Omega.{arith}
 use denote.Ref.{now}
-use lib.ListN.{length}
+use lib.ListN.{length, take}
+use Prim.Native.Nat.{_*_}
+use Rattle.shape.specs.Shape.{pointsOf}
 use Rattle.polyline_write.proofs.Answers.{at-fits, part-is}
 use borrow.Author.Needs.{needs}
 use Rattle.polyline_write.proofs.write_spline.Statement.{statement}
@@ -66,7 +68,11 @@ same-length : tie.Need-same-length
 same-length c = search needs
 
 returns : tie.Need-returns
-returns c = let s = c .before .before .before .before .before .before .before .before .before .before .before .before .before in rw (part-is (now (s .args .counts)) (now (s .args .deltas)) (s .args .k) _ _ _ (c .before .before .before .before .before .before .before .before .before .deltas-at .ensures) (c .before .before .before .before .before .before .before .wide .ensures) refl) at (c .before .before .write-one .ensures)
+returns c =
+    let s = c .before .before .before .before .before .before .before .before .before .before .before .before .before in
+    let d = c .before .before .before .before .before .before .before .before .before .deltas-at in
+    let from : d .result ≡ 2 * pointsOf (take (s .args .k) (now (s .args .counts))) = omega (arith, d .ensures) in
+    rw (part-is (now (s .args .counts)) (now (s .args .deltas)) (s .args .k) _ _ _ from (c .before .before .before .before .before .before .before .wide .ensures) refl) at (c .before .before .write-one .ensures)
 
 pub write-spline-spec : {M : Type 1} → statement M
 write-spline-spec =

@@ -1,0 +1,2 @@
+-- The proofs of the crate `drawing`.
+pub mod Passed

@@ -1,0 +1,4 @@
+-- The definitions of the crate `drawing`.
+pub mod Finding
+pub mod Steps
+pub mod Thickness
