@@ -11,6 +11,7 @@ pub mod guarded;
 pub mod lent;
 pub mod limits;
 pub mod ln;
+pub mod mixed;
 pub mod null;
 pub mod pages;
 pub mod polyline;

@@ -148,6 +148,18 @@ fn coefficients(r: &mut Random, number: usize) -> Vec<i32> {
     values
 }
 
+/// The same ways as plain fibres, which meet edition 1 of the profile: one brightness and one width along each, in thirds of a pixel.
+pub fn plain() -> Description {
+    let mut description = fibres();
+    description.adjustment = 0;
+    for own in description.coefficients.chunks_mut(128) {
+        let (bright, sigma) = (own[32] / 4, own[96] / 4);
+        own.fill(0);
+        (own[32], own[96]) = (bright, sigma);
+    }
+    description
+}
+
 /// All of them.
 pub fn fibres() -> Description {
     let mut description = Description {

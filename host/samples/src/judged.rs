@@ -36,7 +36,15 @@ pub struct Judged {
 
 /// Writes the fibres as a list, has spline.rs read it back, which must give the same description, and build its table.
 pub fn judged(size: Size) -> Result<Judged, String> {
-    let description = fibres::fibres();
+    judged_of(fibres::fibres(), size)
+}
+
+/// The same of the plain fibres.
+pub fn judged_plain(size: Size) -> Result<Judged, String> {
+    judged_of(fibres::plain(), size)
+}
+
+fn judged_of(description: Description, size: Size) -> Result<Judged, String> {
     let list = model::list::write(&description, CONFIGURED, size.pixels(), u64::MAX)
         .map_err(|refusal| format!("the fibres cannot be written as a list: {refusal:?}"))?;
     let read = oracle::read(&list, CONFIGURED, size.pixels());

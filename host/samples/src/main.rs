@@ -4,20 +4,24 @@
 mod drawing;
 mod fibres;
 mod judged;
+mod line;
 mod picture;
 mod said;
 mod values;
 
-use judged::{judged, without, Judged, Size, WHOLE};
+use judged::{judged, judged_plain, without, Judged, Size, WHOLE};
 use std::process::ExitCode;
 
 const FILE: &str = "samples/fibres.values";
+/// Plain ones, for the day on the sampling line.
+const PLAIN: &str = "samples/plain.values";
 /// What `gauge read` has to say of it.
 const READ: &str = "crates/gauge/stdout";
 const USAGE: &str = "\
 usage, from the repository's top:
-  samples make | check                 samples/fibres.values, and what it holds
-  samples examples                     what examples/ have to print of it
+  samples make | check                 samples/fibres.values and samples/plain.values, and what they hold
+  samples examples                     what examples/fibres.c and .rs have to print of the first
+  samples line WIDTH HEIGHT PREFIX     what examples/line.c and .rs have to print of the second; the files that they write, and the other maker's table that they read, to PREFIX.*
   samples trace                        what tools/trace_reader.py has to print of its trace file
   samples read | [--high] rows [--hide N,N..] WIDTH HEIGHT | [--high] bands [--hide N,N..] WIDTH HEIGHT | [--high] draw [--hide N,N..] WIDTH HEIGHT PICTURE | touch WIDTH HEIGHT X Y | table WIDTH HEIGHT
                                        what ./gauge has to print of it, and its picture
@@ -32,28 +36,32 @@ fn put(path: &str, bytes: &[u8]) -> Result<(), String> {
 }
 
 /// What is made: each file and its text.
-fn made(judged: &Judged) -> [(&'static str, String); 2] {
-    let text = values::text(&judged.list, judged.description.counts.len());
-    [(FILE, text), (READ, said::read(judged))]
+fn made(judged: &Judged, plain: &Judged) -> [(&'static str, String); 3] {
+    let text = |judged: &Judged| values::text(&judged.list, judged.description.counts.len());
+    [
+        (FILE, text(judged)),
+        (PLAIN, text(plain)),
+        (READ, said::read(judged)),
+    ]
 }
 
 fn make() -> Result<String, String> {
-    let judged = judged(WHOLE)?;
-    for (file, text) in made(&judged) {
+    let (judged, plain) = (judged(WHOLE)?, judged_plain(WHOLE)?);
+    for (file, text) in made(&judged, &plain) {
         put(file, text.as_bytes())?;
     }
-    Ok(said::sample(&judged))
+    Ok(said::sample(FILE, &judged) + &said::sample(PLAIN, &plain))
 }
 
 fn check() -> Result<String, String> {
-    let judged = judged(WHOLE)?;
-    for (file, text) in made(&judged) {
+    let (judged, plain) = (judged(WHOLE)?, judged_plain(WHOLE)?);
+    for (file, text) in made(&judged, &plain) {
         let stored = std::fs::read_to_string(file).map_err(|why| format!("{file}: {why}"))?;
         if stored != text {
             return Err(format!("{file}: it is not what is made today"));
         }
     }
-    Ok(said::sample(&judged))
+    Ok(said::sample(FILE, &judged) + &said::sample(PLAIN, &plain))
 }
 
 fn draw(size: Size, hidden: &[u64], path: &str) -> Result<String, String> {
@@ -98,6 +106,10 @@ fn run(words: &[&str]) -> Option<Result<String, String>> {
         ["make"] => make(),
         ["check"] => check(),
         ["examples"] => judged(WHOLE).and_then(|judged| said::examples(&judged, WHOLE)),
+        ["line", width, height, prefix] => {
+            let size = size(width, height, high)?;
+            judged_plain(size).and_then(|judged| line::line(&judged, size, prefix))
+        }
         ["trace"] => judged(WHOLE).map(|judged| said::trace(&judged)),
         ["read"] => judged(WHOLE).map(|judged| said::read(&judged)),
         ["rows", width, height] => rows(size(width, height, high)?, &[]),

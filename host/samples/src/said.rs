@@ -2,7 +2,6 @@
 
 use crate::judged::{Judged, Size};
 use crate::picture;
-use crate::FILE;
 use cases::desks::Sight;
 use cases::{Description, FlatTable, Segment, Table};
 use model::bands::{BAND_ROWS, NUMBERS};
@@ -10,7 +9,7 @@ use model::segments::{all_rows, columns};
 use std::collections::BTreeMap;
 
 /// The operator's, who has hidden nothing.
-fn open(judged: &Judged) -> Sight {
+pub fn open(judged: &Judged) -> Sight {
     Sight::open(judged.description.counts.len() as u64)
 }
 
@@ -27,7 +26,7 @@ fn updates(judged: &Judged, size: Size) -> Result<u64, String> {
     Ok(updates)
 }
 
-fn built(table: &Table) -> String {
+pub fn built(table: &Table) -> String {
     format!(
         "{} segments, {} of them faint, {} entries, estimate {}",
         table.segments.len(),
@@ -38,7 +37,7 @@ fn built(table: &Table) -> String {
 }
 
 /// How many splines and points, and the adjustment.
-fn counts(description: &Description) -> String {
+pub fn counts(description: &Description) -> String {
     format!(
         "{} splines, {} points, adjustment {}",
         description.counts.len(),
@@ -47,10 +46,10 @@ fn counts(description: &Description) -> String {
     )
 }
 
-/// What making and checking the sample tell of it.
-pub fn sample(judged: &Judged) -> String {
+/// What making and checking a sample tell of it.
+pub fn sample(file: &str, judged: &Judged) -> String {
     format!(
-        "{FILE}: {} values, {}; {}\n",
+        "{file}: {} values, {}; {}\n",
         judged.list.len(),
         counts(&judged.description),
         built(&judged.table)
@@ -60,15 +59,7 @@ pub fn sample(judged: &Judged) -> String {
 /// examples/fibres.c and examples/fibres.rs.
 pub fn examples(judged: &Judged, size: Size) -> Result<String, String> {
     let rows = picture::rows(&judged.table, size)?;
-    let (mut brightest, mut at) = (0.0f32, (0, 0));
-    for (y, [_, row, _]) in (0..).zip(&rows) {
-        for (x, &luma) in (0..).zip(row) {
-            if luma > brightest {
-                (brightest, at) = (luma, (x, y));
-            }
-        }
-    }
-    let (x, y) = at;
+    let (brightest, (x, y)) = brightest(&rows);
     let traces = traces(&judged.table, x, y);
     let (_, trace) = traces.first().ok_or("no trace has the brightest pixel")?;
     Ok(format!(
@@ -79,9 +70,22 @@ pub fn examples(judged: &Judged, size: Size) -> Result<String, String> {
     ))
 }
 
+/// The greatest Y, and the first pixel that has it.
+pub fn brightest(rows: &[[Vec<f32>; 3]]) -> (f32, (u32, u32)) {
+    let (mut brightest, mut at) = (0.0f32, (0, 0));
+    for (y, [_, row, _]) in (0..).zip(rows) {
+        for (x, &luma) in (0..).zip(row) {
+            if luma > brightest {
+                (brightest, at) = (luma, (x, y));
+            }
+        }
+    }
+    (brightest, at)
+}
+
 /// The traces that have this pixel, by the second reading of a segment's rows and columns, and how far the nearest centre of each is, in hundredths
 /// of a pixel; the nearest first.
-fn traces(table: &Table, x: u32, y: u32) -> Vec<(u64, u64)> {
+pub fn traces(table: &Table, x: u32, y: u32) -> Vec<(u64, u64)> {
     let has = |segment: &Segment| {
         all_rows(segment).contains(&y.into()) && columns(segment).contains(&x.into())
     };

@@ -7,7 +7,7 @@ use crate::build::same_table;
 use crate::verdict::{code_of, no_equality};
 use cases::descriptions::{build_case, BuildCase, KINDS, OWNER_KINDS, SLOW_KINDS};
 use cases::random::Random;
-use cases::{bits, each, few, Code, Given, Refusal, Table};
+use cases::{bits, each, few, Code, FlatTable, Given, Refusal, Table};
 use model::list::well_shaped;
 use model::BuildRooms;
 use oracle::Outcome;
@@ -150,7 +150,7 @@ pub(super) fn rooms(exact: &BuildRooms, r: &mut Random) -> Vec<BuildRooms> {
 }
 
 /// Whether the answer is one that spline.rs gives too.
-fn rust_decides(expected: &Result<Table, Refusal>) -> bool {
+pub(super) fn rust_decides(expected: &Result<Table, Refusal>) -> bool {
     !matches!(expected, Err(refusal) if no_equality(refusal.code) || refusal.code == Code::Delta)
 }
 
@@ -181,7 +181,7 @@ fn same_outcome(a: &Result<Table, Refusal>, b: &Result<Table, Refusal>) -> bool 
     }
 }
 
-fn image(given: &Given) -> Image {
+pub(super) fn image(given: &Given) -> Image {
     Image {
         width: given.width,
         height: given.height,
@@ -218,7 +218,7 @@ impl PortBuilt {
     }
 
     /// By a call that is lent the buffers of a build.
-    fn by(rooms: &BuildRooms, call: impl FnOnce(Buffers) -> (u32, Answer)) -> PortBuilt {
+    pub(super) fn by(rooms: &BuildRooms, call: impl FnOnce(Buffers) -> (u32, Answer)) -> PortBuilt {
         let mut path = lent(rooms.path);
         let mut walk = lent(rooms.walk);
         let mut segments = lent(rooms.segments);
@@ -265,6 +265,19 @@ impl PortBuilt {
             && self.owners.holds(&table.owners)
             && self.row_starts.holds(&table.row_starts)
             && self.entries.holds(&table.entries)
+    }
+
+    /// The cells of the table, with its counts as they were told, for an image of this height.
+    pub(super) fn table(&self, height: u32) -> FlatTable {
+        FlatTable {
+            segments: self.segments.lent().to_vec(),
+            owners: self.owners.lent().to_vec(),
+            segment_count: self.answer[1] as u32,
+            entries: self.entries.lent().to_vec(),
+            entry_count: self.answer[2] as u32,
+            row_starts: self.row_starts.lent().to_vec(),
+            height,
+        }
     }
 
     /// Whether another build of as many cells told and left the same, bit by bit.

@@ -114,7 +114,11 @@ fn tall(tally: &mut Tally) {
 }
 
 /// One check against the second reading; what the port told.
-fn check(tally: &mut Tally, table: &FlatTable, words: impl Fn() -> String) -> (u32, Answer) {
+pub(super) fn check(
+    tally: &mut Tally,
+    table: &FlatTable,
+    words: impl Fn() -> String,
+) -> (u32, Answer) {
     let expected = model::check(table);
     tally.called(&expected);
     let found = guarded::check(&lent(table));

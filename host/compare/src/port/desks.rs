@@ -115,7 +115,7 @@ pub fn compare_hide(tally: &mut Tally) {
     }
 }
 
-fn one_hide(tally: &mut Tally, bits: &mut [u8], desk: u32, spline: u64, hidden: bool) {
+pub(super) fn one_hide(tally: &mut Tally, bits: &mut [u8], desk: u32, spline: u64, hidden: bool) {
     tally.called(&model::hide(&mut bits.to_vec(), desk, spline, hidden));
     if let Some(words) = wrong_hide(bits, desk, spline, hidden) {
         tally.differs(words);

@@ -132,7 +132,7 @@ fn cut(r: &mut Random) -> Vec<(u32, u32)> {
     parts
 }
 
-fn check(
+pub(super) fn check(
     tally: &mut Tally,
     expected: &(Result<u64, Refusal>, Channels),
     drawn: &(u32, Answer, Channels),
@@ -154,7 +154,7 @@ fn check(
 }
 
 /// The same updates and cells as spline.rs.
-fn check_with_rust(
+pub(super) fn check_with_rust(
     tally: &mut Tally,
     theirs: &(Option<u64>, Channels),
     drawn: &(u32, Answer, Channels),
@@ -186,7 +186,7 @@ fn same_cells(
     }
 }
 
-fn expected_part(
+pub(super) fn expected_part(
     table: &FlatTable,
     sight: &Sight,
     y: u32,
@@ -199,7 +199,7 @@ fn expected_part(
     (model::draw(table, sight, y, x0, n, [r0, r1, r2]), after)
 }
 
-fn drawn_part(
+pub(super) fn drawn_part(
     table: &FlatTable,
     sight: &Sight,
     y: u32,

@@ -8,14 +8,17 @@ const CASES: u64 = 50_000;
 
 pub fn compare(tally: &mut Tally) {
     for (kind, seed) in each(&["ln"], CASES) {
-        let x = Random::new(kind, seed).any_f32();
         tally.cases += 1;
-        tally.called::<()>(&Ok::<_, Refusal>(()));
-        let (found, expected) = (port::ln(x), model::logarithm::ln(x));
-        if bits(found) != bits(expected) {
-            tally.differs(format!(
-                "ln {x:?}\n  port: {found:?}\n  model: {expected:?}"
-            ));
-        }
+        compare_one(tally, Random::new(kind, seed).any_f32());
+    }
+}
+
+pub(super) fn compare_one(tally: &mut Tally, x: f32) {
+    tally.called::<()>(&Ok::<_, Refusal>(()));
+    let (found, expected) = (port::ln(x), model::logarithm::ln(x));
+    if bits(found) != bits(expected) {
+        tally.differs(format!(
+            "ln {x:?}\n  port: {found:?}\n  model: {expected:?}"
+        ));
     }
 }

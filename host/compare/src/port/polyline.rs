@@ -65,7 +65,7 @@ fn compare_text(tally: &mut Tally, kind: &str, seed: u64, text: &[u8]) {
 }
 
 /// In words, if spline.rs, where it decides and room is no matter, judges otherwise.
-fn wrong_by_rust<T: Debug + PartialEq>(
+pub(super) fn wrong_by_rust<T: Debug + PartialEq>(
     tally: &mut Tally,
     judged: &Option<Result<T, Refusal>>,
     expected: &Result<T, Refusal>,
@@ -104,7 +104,7 @@ pub fn wrong_read(
 }
 
 /// The code and answer that stand for a text that was read, or for a refusal.
-fn told_points(expected: &Result<Polyline, Refusal>) -> (u32, Answer) {
+pub(super) fn told_points(expected: &Result<Polyline, Refusal>) -> (u32, Answer) {
     match expected {
         Ok(line) => (0, [0, line.deltas.len() as i64 / 2, 0, 0, 0]),
         Err(refusal) => told_refusal(refusal),

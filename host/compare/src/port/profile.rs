@@ -29,7 +29,7 @@ pub fn compare_check(tally: &mut Tally) {
 }
 
 /// An answer without its rule.
-fn refusal_of<T>(expected: &Result<T, Unmet>) -> Result<(), Refusal> {
+pub(super) fn refusal_of<T>(expected: &Result<T, Unmet>) -> Result<(), Refusal> {
     match expected {
         Ok(_) => Ok(()),
         Err(unmet) => Err(unmet.refusal),
@@ -47,7 +47,7 @@ pub fn wrong_check(case: &ProfileCase, expected: &Result<(), Unmet>) -> Option<S
 }
 
 /// "the one refusal whose counts are not all 0".
-fn told_unmet(unmet: &Unmet) -> (u32, Answer) {
+pub(super) fn told_unmet(unmet: &Unmet) -> (u32, Answer) {
     let (code, mut answer) = told_refusal(&unmet.refusal);
     answer[1] = unmet.rule as i64;
     (code, answer)

@@ -187,7 +187,7 @@ impl PortRead {
     }
 
     /// By a call that is lent the four parts of a description.
-    fn by(
+    pub(super) fn by(
         rooms: &ListRooms,
         call: impl FnOnce(&mut [u32], &mut [f32], &mut [i32], &mut [i32]) -> (u32, Answer),
     ) -> PortRead {
@@ -227,6 +227,16 @@ impl PortRead {
             && self.starts.holds(&description.starts)
             && self.deltas.holds(&description.deltas)
             && self.coefficients.holds(&description.coefficients)
+    }
+
+    /// Every cell of the four parts.
+    pub(super) fn left(&self) -> (&[u32], &[f32], &[i32], &[i32]) {
+        (
+            self.counts.lent(),
+            self.starts.lent(),
+            self.deltas.lent(),
+            self.coefficients.lent(),
+        )
     }
 
     /// What was read, to be written; `None` if the counts pass the buffers.

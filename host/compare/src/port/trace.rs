@@ -100,7 +100,7 @@ impl PortTrace {
     }
 
     /// By a call that is lent so many bytes.
-    fn by(room: u64, call: impl FnOnce(&mut [u8]) -> (u32, Answer)) -> PortTrace {
+    pub(super) fn by(room: u64, call: impl FnOnce(&mut [u8]) -> (u32, Answer)) -> PortTrace {
         let mut bytes = Lent::new(room as usize);
         let (code, answer) = call(bytes.lend());
         PortTrace {
@@ -108,6 +108,11 @@ impl PortTrace {
             answer,
             bytes,
         }
+    }
+
+    /// Every byte.
+    pub(super) fn left(&self) -> &[u8] {
+        self.bytes.lent()
     }
 
     pub fn told(&self) -> (u32, Answer) {

@@ -45,10 +45,10 @@ fn compare_file(tally: &mut Tally, kind: &str, seed: u64, file: &[u8]) {
     }
 }
 
-type Expected = Result<(Description, u32), Refusal>;
+pub(super) type Expected = Result<(Description, u32), Refusal>;
 
 /// The code and answer that stand for a description that was read with its edition, or for a refusal.
-fn told_read2(expected: &Expected) -> (u32, Answer) {
+pub(super) fn told_read2(expected: &Expected) -> (u32, Answer) {
     let (code, mut answer) = told_read(&expected.clone().map(|(description, _)| description));
     if let Ok((_, edition)) = expected {
         answer[4] = (*edition).into();

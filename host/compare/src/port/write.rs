@@ -62,7 +62,7 @@ fn compare_case(tally: &mut Tally, kind: &str, seed: u64, case: &WriteCase) {
 }
 
 /// How many values the list of a description has, if its lengths agree.
-fn exact_room(description: &Description) -> u64 {
+pub(super) fn exact_room(description: &Description) -> u64 {
     (2 + 131 * description.counts.len() + description.deltas.len()) as u64
 }
 
@@ -111,14 +111,22 @@ pub struct PortWritten {
 
 impl PortWritten {
     pub fn of(case: &WriteCase, room: u64) -> PortWritten {
+        let parts = parts(&case.description);
+        PortWritten::by(room, |list| {
+            guarded::write(&parts, case.configured, case.pixels, list)
+        })
+    }
+
+    /// By a call that is lent so much of a list.
+    pub(super) fn by(room: u64, call: impl FnOnce(&mut [u32]) -> (u32, Answer)) -> PortWritten {
         let mut list = Lent::new(room as usize);
-        let (code, answer) = guarded::write(
-            &parts(&case.description),
-            case.configured,
-            case.pixels,
-            list.lend(),
-        );
+        let (code, answer) = call(list.lend());
         PortWritten { code, answer, list }
+    }
+
+    /// Every cell of the list.
+    pub(super) fn left(&self) -> &[u32] {
+        self.list.lent()
     }
 
     pub fn told(&self) -> (u32, Answer) {
