@@ -1,6 +1,6 @@
 /* Aktyrbuz: JPEG XL splines, from a list of decoded values to pixel rows.
  *
- * Every call takes any numbers and any lengths, ends, and never writes outside what it is lent. A call but aktyrbuz_ln returns a code,
+ * Every call takes any numbers and any lengths, ends, and never writes outside what it is lent. Each call but aktyrbuz_ln returns a code,
  * AKTYRBUZ_DONE or a refusal, and fills five numbers: the place, then the counts that are named with the call, then zeros. A success has
  * place 0, a refusal counts 0 (but AKTYRBUZ_PROFILE). Where several codes apply, the first in the order of the checks is given.
  *
@@ -32,12 +32,12 @@ enum aktyrbuz_code {
     AKTYRBUZ_TRAIL = 6,     /* values or bytes left over */
     AKTYRBUZ_ROOM = 7,      /* a lent buffer is too short for what is due */
     AKTYRBUZ_SIZE = 8,      /* a width or height above 2^23 */
-    AKTYRBUZ_SHAPE = 9,     /* lengths that disagree: S counts go with 2S starts, a double delta (x, y) a point and 128S coefficients; in a trace file counts that do not add up to its points; in a check row starts that are not height + 1 */
+    AKTYRBUZ_SHAPE = 9,     /* lengths that disagree: S counts go with 2S starts, a double delta (x, y) a point and 128S coefficients; in a trace file counts that do not add up to its points; in a check row starts that are not height + 1; writing points also: no such spline */
     AKTYRBUZ_POSITION = 10, /* a start, delta or point outside -2^23 up to but not including 2^23, or a NaN start */
     AKTYRBUZ_DISTANCE = 11, /* a spline whose steps add up to more than the area limit */
     AKTYRBUZ_AREA = 12,     /* splines whose estimates add up to more than the area limit */
     AKTYRBUZ_COINCIDE = 13, /* two adjacent control points are equal */
-    AKTYRBUZ_TABLE = 14,    /* a table that no build makes: a height above 2^23, more than 2^24 segments or 2^30 entries, counts that overrun the buffers, starts of row y that descend or pass the entries, an entry of it that names no segment, or one of no spline; in a check a row that lists anything but its segments, or entries left over */
+    AKTYRBUZ_TABLE = 14,    /* a table that no build makes: a height above 2^23, more than 2^24 segments or 2^30 entries, counts that overrun the buffers, starts of a row that descend or pass the entries, an entry of it that names no segment, or one of no spline; in a check a row that lists anything but its segments, or entries left over */
     AKTYRBUZ_ROW = 15,      /* a row that is not below the height */
     AKTYRBUZ_SPAN = 16,     /* x0 + n above 2^23, or a channel shorter than n */
     AKTYRBUZ_HEADER = 17,   /* a trace file of a version that the call does not know, or with an offset that is not its part's; writing: a count or offset of 2^32 or more */

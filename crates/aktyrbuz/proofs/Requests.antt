@@ -6,6 +6,7 @@ use Prim.Native.Nat.{ℕ, _≤_, _<_, _+_, suc, _-_, _^_, _*_}
 use native.Mathlib.Nat.{zero-add, not-le-of-lt}
 use native.Mathlib.Omega.{arith}
 use lib.ListN.{length, getD, take, replicate, List·getD-append}
+use Rattle.buffers.specs.Padded.{padded}
 use Rattle.dequantize.specs.Judge.{Description}
 use Rattle.segments.specs.declared.Segment.{Segment}
 use Rattle.segments.specs.declared.Range.{Range}
@@ -13,7 +14,7 @@ use Rattle.segments.specs.Segment.{segmentAt}
 use Rattle.segments.specs.Ranges.{hasRow, hasColumn, rowEnd, columnEnd}
 use Rattle.rows.specs.Rows.{inRow}
 use Rattle.shade.proofs.Edits.{lt-or-ge}
-use Rattle.table.specs.Table.{Setting, BuildRooms, BuildOutcome, givenOf, zeros, padded, buildOf}
+use Rattle.table.specs.Table.{Setting, BuildRooms, BuildOutcome, givenOf, zeros, buildOf}
 use Rattle.desks.specs.Desks.{Sight, bitOf, hiddenIn}
 use Rattle.desks.specs.Agree.{Agree}
 use Rattle.desks.specs.Hide.{HideOutcome, HideRefusal, hideOf}
@@ -57,7 +58,7 @@ use Rattle.table.proofs.Segments.{one-owned}
 use Rattle.picture.specs.Owners.{segmentsIn, ownedBy, Ascending, Skipped}
 use Rattle.picture.proofs.Owners.{Owned, makes-ascend, ascending-front, makes-owned-by, none-owned, segments-found}
 use Rattle.picture.proofs.Skips.{skipped-makes-none, no-deltas-skipped}
-use Rattle.numbers.specs.Arith.{_⊕_, _⊖_}
+use Rattle.numbers.specs.Arith.{0·0, _⊕_, _⊖_}
 use Rattle.numbers.specs.Whole.{wholeBy}
 use Rattle.numbers.specs.Kind.{kindBy}
 use Rattle.dequantize.proofs.ByKind.{start-by-kind, estimate-by-kind}
@@ -390,7 +391,7 @@ module _ {d : Description} {i : Setting} {r : BuildRooms} {o : BuildOutcome} {s 
   unfolding doneWith
   left = record { count = makes-owned d (givenOf i) (i .high) (made .makes) ∙ made .count; cells = ap (λ (t : BuildOutcome). t .owners) is }
 
-  floats : o .segments ≡ padded (r .segments) (eights (made .segs))
+  floats : o .segments ≡ padded (r .segments) 0·0 (eights (made .segs))
   unfolding doneWith
   floats = ap (λ (t : BuildOutcome). t .segments) is
 
@@ -401,7 +402,7 @@ module _ {d : Description} {i : Setting} {r : BuildRooms} {o : BuildOutcome} {s 
   segments-are : segmentsIn (o .segments) 0 s ≡ made .segs
   segments-are =
       ap (λ (l : List Float). segmentsIn l 0 s) floats
-      ∙ ap (segmentsIn (padded (r .segments) (eights (made .segs))) 0) (sym (made .count))
+      ∙ ap (segmentsIn (padded (r .segments) 0·0 (eights (made .segs))) 0) (sym (made .count))
       ∙ segments-found (made .segs) (zeros (r .segments - length (eights (made .segs))))
 
   ascend : Ascending (length (d .counts)) s (o .owners)

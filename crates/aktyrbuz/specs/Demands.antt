@@ -9,6 +9,7 @@ use lib.Dec.{leb}
 use lib.ListN.{length, take, replicate}
 use lib.IntN.{ℤ, pos, negsuc}
 use lib.Ieee.{Float, nan, fin, binary32, ofInt}
+use Rattle.buffers.specs.Padded.{padded}
 use Rattle.codes.specs.Codes.{numberOf}
 use Rattle.codes.specs.declared.Code.{Code}
 use Rattle.numbers.specs.Whole.{roundOf}
@@ -18,7 +19,7 @@ use Rattle.numbers.specs.Ieee754.{Ieee754}
 use Rattle.shape.specs.Shape.{pointsOf}
 use Rattle.list.specs.List.{ListRooms, unpackSigned}
 use Rattle.list.specs.Steps.{zeroF32}
-use Rattle.reader.specs.Read.{Outcome, padded, readOutcome}
+use Rattle.reader.specs.Read.{Outcome, readOutcome}
 use Rattle.reader.specs.Read as reading
 use Rattle.reader.specs.declared.ReadAnswer.{ReadAnswer}
 use Rattle.writer.specs.Write.{WriteOutcome, writeOf}

@@ -7,6 +7,7 @@ use Prim.Native.Nat.{ℕ, suc, _≤_, _<_, _+_, _^_, _-_, _*_}
 use lib.IntN.{pos, ℤ, negsuc}
 use lib.ListN.{length, getD, take, replicate}
 use lib.Ieee.{Float, fin, isNan}
+use Rattle.buffers.specs.Padded.{padded}
 use Rattle.dequantize.specs.Judge.{Description, Shaped}
 use Rattle.segments.specs.declared.Segment.{Segment}
 use Rattle.segments.specs.Segment.{segmentAt}
@@ -40,10 +41,10 @@ use Rattle.codes.specs.declared.Code.{Code}
 use Rattle.shape.specs.Shape.{pointsOf}
 use Rattle.list.specs.List.{ListRooms}
 use Rattle.list.specs.Steps.{zeroF32}
-use Rattle.reader.specs.Read.{Outcome, padded}
+use Rattle.reader.specs.Read.{Outcome}
 use Rattle.reader.specs.Refusals.{ReadRefused}
 use Rattle.reader.specs.declared.ReadAnswer.{ReadAnswer}
-use Rattle.writer.specs.Write.{WriteOutcome, Told}
+use Rattle.writer.specs.Write.{WriteOutcome, WriteTold}
 use Rattle.writer.specs.declared.WriteAnswer.{WriteAnswer}
 use Rattle.write_laws.specs.Refusals.{WriteRefused}
 use Rattle.roundtrip.specs.Enough.{Enough}
@@ -231,7 +232,7 @@ pub record FirstBadByteTold : Type 0 where
 
 -- a refusal tells its code's number and its place, and leaves nothing but zeros in every lent cell
 pub record PointsRefused (start deltas : ℕ) (c : Code) (p : ℕ) (o : PointsOutcome) : Type 0 where
-  pub told : _≡_ {A = Told} (o .told) (record { number = numberOf c; place = p; values = 0 })
+  pub told : _≡_ {A = WriteTold} (o .told) (record { number = numberOf c; place = p; values = 0 })
   pub start-zero : o .start ≡ replicate start zeroF32
   pub deltas-zero : o .deltas ≡ replicate deltas (pos 0)
 
@@ -256,12 +257,13 @@ pub record TextAcceptedExactly : Type 0 where
   pub left : (text : List ℕ) (start deltas : ℕ) (o : PointsOutcome) → PointsReadCall text start deltas o
       → (n : ℕ) (a : PointsAccepted text start deltas n) → o ≡ drawn.leaves (WriteAnswer.Done n) (startAt (a .first) start) (deltasBehind (a .ds) n deltas)
 
--- reading refuses with a code at a place exactly when the table of reading gives it; the number and the place are then told, and every lent cell is zero
--- where the table gives nothing, reading is done; the table speaks of the points that a text says: it says some exactly if it has the form, and no two lists of them
+-- an answer of success, with its double deltas
 pub record PointsDone (o : PointsOutcome) : Type 0 where
   pub deltas : ℕ
   pub is : o .answer ≡ WriteAnswer.Done deltas
 
+-- reading refuses with a code at a place exactly when the table of reading gives it; the number and the place are then told, and every lent cell is zero
+-- where the table gives nothing, reading is done; the table speaks of the points that a text says: it says some exactly if it has the form, and no two lists of them
 pub record PointsReadCodes : Type 0 where
   pub exactly : (text : List ℕ) (start deltas : ℕ) (o : PointsOutcome) → PointsReadCall text start deltas o
       → (c : Code) (p : ℕ) → o .answer ≡ WriteAnswer.Refused c p ↔ PointsReadRefusal text start deltas c p
@@ -330,7 +332,7 @@ pub record PointsOneOutcome : Type 0 where
 -- a build that is done leaves the owners of the segments that the description makes, one for each, and zeros behind them
 pub record OwnersOf (r : BuildRooms) (o : BuildOutcome) (s : ℕ) (owners : List ℕ) : Type 0 where
   pub count : length owners ≡ s
-  pub cells : o .owners ≡ listing.padded (r .owners) owners
+  pub cells : o .owners ≡ padded (r .owners) 0 owners
 
 abbrev pub OwnersLeft : Type 0
 OwnersLeft =

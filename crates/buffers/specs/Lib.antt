@@ -1,2 +1,3 @@
 -- The definitions of the crate `buffers`.
 pub mod Onto
+pub mod Padded

@@ -8,8 +8,27 @@ use lib.IntN.{ℤ, pos}
 use lib.Signed.{leZ}
 use lib.ListN.{getD}
 use lib.Ieee.{Float, nan, binary32, ofInt}
-use Rattle.numbers.specs.Arith.{f, _⊕_, _⊖_, _⊗_, _⊘_}
+use Rattle.numbers.specs.Arith.{f, 1·0, _⊕_, _⊖_, _⊗_, _⊘_}
 use Rattle.dequantize.specs.declared.coefficients.Rows.{Rows}
+
+abbrev 0·125 : Float
+0·125 = f 0x3e000000
+
+abbrev «FRAC_1_SQRT_2» : Float
+«FRAC_1_SQRT_2» = f 0x3f3504f3
+
+-- CHANNEL_WEIGHT: X, Y, B and sigma
+abbrev 0·0042 : Float
+0·0042 = f 0x3b89a027
+
+abbrev 0·075 : Float
+0·075 = f 0x3d99999a
+
+abbrev 0·07 : Float
+0·07 = f 0x3d8f5c29
+
+abbrev 0·3333 : Float
+0·3333 = f 0x3eaaa64c
 
 -- g 0, g 1, .. up to g (n - 1)
 unfoldable pub table : {A : Type 0} → (ℕ → A) → ℕ → List A
@@ -20,11 +39,11 @@ table g (suc n) = table g n ++ (g n ∷ [])
 unfoldable pub invAdjustedQuant : ℤ → Float
 invAdjustedQuant adjustment =
     let a = ofInt binary32 adjustment in
-    cond (leZ (pos 0) adjustment) (f 0x3f800000 ⊘ (f 0x3f800000 ⊕ f 0x3e000000 ⊗ a)) (f 0x3f800000 ⊖ f 0x3e000000 ⊗ a)
+    cond (leZ (pos 0) adjustment) (1·0 ⊘ (1·0 ⊕ 0·125 ⊗ a)) (1·0 ⊖ 0·125 ⊗ a)
 
--- FRAC_1_SQRT_2 at index 0, else 1.0
+-- «FRAC_1_SQRT_2» at index 0, else 1.0
 abbrev pub invDctFactor : ℕ → Float
-invDctFactor i = cond (eqb i 0) (f 0x3f3504f3) (f 0x3f800000)
+invDctFactor i = cond (eqb i 0) «FRAC_1_SQRT_2» 1·0
 
 -- the coefficient i of the row that begins at index `from`
 unfoldable pub coefficientAt : List ℤ → ℕ → Float → Float → ℕ → Float
@@ -40,13 +59,13 @@ gainedAt x k y i = getD x i nan ⊕ k ⊗ getD y i nan
 unfoldable pub gainedOf : List Float → Float → List Float → List Float
 gainedOf x k y = table (gainedAt x k y) 32
 
--- CHANNEL_WEIGHT: 0.0042, 0.075, 0.07 and 0.3333
+-- X and B gain from Y
 unfoldable pub rowsOf : List ℤ → Float → Float → Float → Rows
 rowsOf c quant ytox ytob =
-    let y = rowOf c 32 (f 0x3d99999a) quant in
+    let y = rowOf c 32 0·075 quant in
     record {
-      x = gainedOf (rowOf c 0 (f 0x3b89a027) quant) ytox y;
+      x = gainedOf (rowOf c 0 0·0042 quant) ytox y;
       y = y;
-      b = gainedOf (rowOf c 64 (f 0x3d8f5c29) quant) ytob y;
-      sigma = rowOf c 96 (f 0x3eaaa64c) quant;
+      b = gainedOf (rowOf c 64 0·07 quant) ytob y;
+      sigma = rowOf c 96 0·3333 quant;
     }

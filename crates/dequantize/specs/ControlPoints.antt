@@ -98,9 +98,12 @@ controlPoints start ds = start ∷ laterPoints (placeAt start) ds
 
 -- ---- COINCIDE
 
+abbrev 1e-3 : Float
+1e-3 = f 0x3a83126f
+
 -- (a - b).abs() < 1e-3, of two whole numbers as f32
 unfoldable pub near : ℤ → ℤ → Bool
-near a b = lt (absOf (ofInt binary32 a ⊖ ofInt binary32 b)) (f 0x3a83126f)
+near a b = lt (absOf (ofInt binary32 a ⊖ ofInt binary32 b)) 1e-3
 
 -- `==` of two points
 unfoldable pub samePoint : Pair → Pair → Bool

@@ -6,7 +6,7 @@ use lib.Dec.{leb}
 use lib.IntN.{ℤ, pos, natAbs}
 use lib.ListN.{getD}
 use lib.Ieee.{Float, binary32, ofInt}
-use Rattle.numbers.specs.Arith.{f, _⊗_, _⊘_}
+use Rattle.numbers.specs.Arith.{1·0, _⊗_, _⊘_}
 use Rattle.numbers.specs.Whole.{ceilOf}
 use Rattle.numbers.specs.Kind.{cutU64, saturatedU64}
 use Rattle.numbers.specs.Root.{sqrtOf}
@@ -67,7 +67,7 @@ weightLimit limit log manhattan = ceilOf binary32 (sqrtOf binary32 (single limit
 
 -- weight_limit.min(weight_f.max(1.0)) of the coefficient k, as u64
 unfoldable pub weightBy : (Float → ℕ) → List ℤ → Float → Float → ℕ → ℕ
-weightBy whole c quant most k = whole (minOf most (maxOf (shareAt c quant k) (f 0x3f800000)))
+weightBy whole c quant most k = whole (minOf most (maxOf (shareAt c quant k) 1·0))
 
 abbrev pub weightAt : List ℤ → Float → Float → ℕ → ℕ
 weightAt c quant most k = weightBy (λ x. toU64 x) c quant most k

@@ -46,12 +46,12 @@ updates segments x0 n (i ∷ listed) = count (hasColumn (segmentAt segments i)) 
 -- ---- the call
 
 -- an answer in the terms of the table of codes: the code's number, the place and the updates
-pub record Told : Type 0 where
+pub record DrawTold : Type 0 where
   pub number : ℕ
   pub place : ℕ
   pub updates : ℕ
 
-abbrev pub toldOf : DrawAnswer → Told
+abbrev pub toldOf : DrawAnswer → DrawTold
 toldOf (Done n) = record { number = 0; place = 0; updates = n }
 toldOf (Refused c p) = record { number = numberOf c; place = p; updates = 0 }
 
@@ -67,7 +67,7 @@ three r0 r1 r2 = record { r0 = r0; r1 = r1; r2 = r2 }
 -- the answer, what it tells, and every cell of the lent channels
 pub record DrawOutcome : Type 0 where
   pub answer : DrawAnswer
-  pub told : Told
+  pub told : DrawTold
   pub channels : Channels
 
 abbrev pub leaves : DrawAnswer → Channels → DrawOutcome

@@ -7,10 +7,11 @@ use native.Mathlib.Omega.{arith}
 use lib.Ieee.{Float}
 use lib.ListN.{length, getD, take, drop, List·getD-append}
 use lib.Seq.{length-slice, getD-take, getD-append-seam, take-take, slice}
+use Rattle.buffers.specs.Padded.{padded}
 use Rattle.segments.specs.declared.Segment.{Segment}
 use Rattle.segments.specs.Segment.{segmentAt}
 use Rattle.segments.specs.Ranges.{hasRow}
-use Rattle.rows.specs.Rows.{listed, rows, startOf, upTo, padded, inRow}
+use Rattle.rows.specs.Rows.{listed, rows, startOf, upTo, inRow}
 use Rattle.rows.proofs.Counts.{split, start-suc}
 use Rattle.rows.proofs.Users.{length-up-to, checked}
 use Rattle.checks.specs.Tables.{Table}
@@ -48,10 +49,10 @@ getD-up-to f (suc n) r h =
     (split r n)
 
 module _ (segs : List Float) (S H ns ne : ℕ) (wide : H < ns) (room : startOf (inRow segs) S H ≤ ne) (few : startOf (inRow segs) S H ≤ 2 ^ 30) where
-  row-right : (y : ℕ) → y < H → RowRight (inRow segs) S (padded ns (upTo (startOf (inRow segs) S) (suc H))) (padded ne (rows (inRow segs) S H)) (startOf (inRow segs) S H) y
+  row-right : (y : ℕ) → y < H → RowRight (inRow segs) S (padded ns 0 (upTo (startOf (inRow segs) S) (suc H))) (padded ne 0 (rows (inRow segs) S H)) (startOf (inRow segs) S H) y
   row-right y h = let c = checked (inRow segs) S H ns ne y h wide room few in record { rises = c .rises; ends = c .ends; lists = c .row }
 
-  start-at : (r : ℕ) → r ≤ H → getD (padded ns (upTo (startOf (inRow segs) S) (suc H))) r 0 ≡ startOf (inRow segs) S r
+  start-at : (r : ℕ) → r ≤ H → getD (padded ns 0 (upTo (startOf (inRow segs) S) (suc H))) r 0 ≡ startOf (inRow segs) S r
   start-at r k =
       List·getD-append (upTo (startOf (inRow segs) S) (suc H)) _ 0 r (omega (arith, length-up-to (startOf (inRow segs) S) (suc H))) ∙ getD-up-to (startOf (inRow segs) S) (suc H) r (omega arith)
 
@@ -59,7 +60,7 @@ module _ (segs : List Float) (S H ns ne : ℕ) (wide : H < ns) (room : startOf (
   unfolding rows
   none-before = refl
 
-  pub built-right : TableRight segs S H (padded ns (upTo (startOf (inRow segs) S) (suc H))) (padded ne (rows (inRow segs) S H)) (startOf (inRow segs) S H)
+  pub built-right : TableRight segs S H (padded ns 0 (upTo (startOf (inRow segs) S) (suc H))) (padded ne 0 (rows (inRow segs) S H)) (startOf (inRow segs) S H)
   built-right = record {
     begins = start-at 0 (omega arith) ∙ none-before;
     rows = row-right;

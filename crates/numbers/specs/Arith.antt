@@ -17,6 +17,9 @@ abbrev pub 0·0 : Float
 abbrev pub 0·25 : Float
 0·25 = f 0x3e800000
 
+abbrev pub 0·5 : Float
+0·5 = f 0x3f000000
+
 abbrev pub 1·0 : Float
 1·0 = f 0x3f800000
 

@@ -664,7 +664,7 @@ pub fn fast_cos(x: f32) -> f32
 }
 
 // erf on the magnitude.
-fn erf_core(x: f32) -> f32
+pub fn erf_core(x: f32) -> f32
     ensures { λ r. ⌜ r ≡ erfCore x ⌝ }
 {
     let denom1 = x * 7.77394369e-02 + 2.05260015e-04;

@@ -5,6 +5,8 @@ use mathlib.Core.List.{List, [], _++_}
 use Prim.Native.Nat.{ℕ, zero, suc, _+_, _^_, _≤_, _<_}
 use native.Mathlib.Omega.{arith}
 use lib.ListN.{length, length-append}
+use Rattle.numbers.specs.Arith.{0·0}
+use Rattle.buffers.specs.Padded.{padded}
 use Rattle.codes.specs.declared.Code.{Code}
 use Rattle.codes.specs.declared.Code.the-variants as Code
 use Rattle.dequantize.specs.declared.Given.{Given}
@@ -25,7 +27,7 @@ use Rattle.rows.specs.Rows.{inRow, Outcome, outcome, built}
 use Rattle.owners.specs.Owners.{ownedRoom, ownersOf}
 use Rattle.painting.specs.Painting.{strandOfSpline, Painted, All, NoRoomAt, afterStrand, paintFrom, paintOf}
 use Rattle.faint.specs.Faint.{faintIn}
-use Rattle.table.specs.Table.{BuildRooms, Setting, BuildOutcome, givenOf, refusedWith, zeros, padded, verdictOf, afterRows, afterJudge, buildOf}
+use Rattle.table.specs.Table.{BuildRooms, Setting, BuildOutcome, givenOf, refusedWith, zeros, verdictOf, afterRows, afterJudge, buildOf}
 use Rattle.table.specs.Refusals.{painted}
 use Rattle.table.proofs.Checks.{ready}
 use Rattle.table.specs.declared.BuildAnswer.the-variants.{Done}
@@ -71,7 +73,7 @@ module _ (r : BuildRooms) (t : BuildOutcome) (s e est faint : ℕ) (done : t .an
     listed : o .answer ≡ Listed.Entries e
     path : t .path ≡ zeros (r .path)
     walk : t .walk ≡ zeros (r .walk)
-    segments : t .segments ≡ padded (r .segments) (eights segs)
+    segments : t .segments ≡ padded (r .segments) 0·0 (eights segs)
     starts : t .starts ≡ o .starts
     entries : t .entries ≡ o .entries
 
@@ -121,7 +123,7 @@ pub record Accepted (d : Description) (i : Setting) (r : BuildRooms) (t : BuildO
   pub listed : built (inRow (eights segs)) (length segs) (i .height) (r .starts) (r .entries) .answer ≡ Listed.Entries e
   pub path : t .path ≡ zeros (r .path)
   pub walk : t .walk ≡ zeros (r .walk)
-  pub segments : t .segments ≡ padded (r .segments) (eights segs)
+  pub segments : t .segments ≡ padded (r .segments) 0·0 (eights segs)
   pub starts : t .starts ≡ built (inRow (eights segs)) (length segs) (i .height) (r .starts) (r .entries) .starts
   pub entries : t .entries ≡ built (inRow (eights segs)) (length segs) (i .height) (r .starts) (r .entries) .entries
 

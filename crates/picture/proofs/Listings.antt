@@ -6,8 +6,9 @@ use Prim.Native.Nat.{ℕ, suc, _-_, _<_}
 use native.Mathlib.Omega.{arith}
 use lib.ListN.{length, getD, replicate, List·getD-append}
 use lib.Seq.{getD-append-seam}
+use Rattle.buffers.specs.Padded.{padded}
 use Rattle.dequantize.specs.Judge.{Description}
-use Rattle.rows.specs.Rows.{inRow, listed, startOf, upTo, padded}
+use Rattle.rows.specs.Rows.{inRow, listed, startOf, upTo}
 use Rattle.rows.specs.Steps.{cnt}
 use Rattle.rows.proofs.Counts.{cnt-lt}
 use Rattle.rows.proofs.Users.{each, found, rows-ascend, length-up-to}
@@ -17,7 +18,7 @@ use Rattle.draw.specs.Draw.{rowOf}
 use Rattle.segments.specs.declared.Segment.{Segment}
 use Rattle.picture.specs.Picture.{built, BuiltTable, Lists}
 
-last-of : (f : ℕ → ℕ) (n m : ℕ) → getD (padded m (upTo f (suc n))) n 0 ≡ f n
+last-of : (f : ℕ → ℕ) (n m : ℕ) → getD (padded m 0 (upTo f (suc n))) n 0 ≡ f n
 unfolding upTo
 last-of f n m =
     List·getD-append (upTo f (suc n)) (replicate (m - length (upTo f (suc n))) 0) 0 n (omega (arith, length-up-to f (suc n)))

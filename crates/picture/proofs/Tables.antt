@@ -11,6 +11,8 @@ use lib.ListN.{length, getD, take, length-append}
 use lib.Seq.{getD-take}
 use lib.Ieee.{Float}
 use borrow.Author.Tests.{lt-ltb, le-leb}
+use Rattle.numbers.specs.Arith.{0·0}
+use Rattle.buffers.specs.Padded.{padded}
 use Rattle.dequantize.specs.Judge.{Description}
 use Rattle.segments.specs.declared.Segment.{Segment}
 use Rattle.segments.specs.Segment.{segmentAt}
@@ -24,7 +26,7 @@ use Rattle.rows.specs.Rows.{inRow, listed, upTo, startOf, Outcome}
 use Rattle.rows.proofs.Counts.{listed-in, by-row}
 use Rattle.rows.proofs.Table.{rest-same}
 use Rattle.rows.proofs.Users as users
-use Rattle.table.specs.Table.{BuildRooms, Setting, BuildOutcome, zeros, padded}
+use Rattle.table.specs.Table.{BuildRooms, Setting, BuildOutcome, zeros}
 use Rattle.checks.proofs.Entries.{and-left, and-right}
 use Rattle.desks.specs.Desks.{Sight, ownerIn, shown}
 use Rattle.checks.specs.Tables.{rowOf, shownOf}
@@ -46,8 +48,8 @@ entriesIn Listed.Room = 0
 -- the table, also where there is no row
 record Fits (has : ℕ → ℕ → Bool) (S H ns ne e : ℕ) (o : Outcome) : Type 0 where
   count : e ≡ startOf has S H
-  starts : o .starts ≡ rows.padded ns (upTo (startOf has S) (suc H))
-  entries : o .entries ≡ rows.padded ne (rows.rows has S H)
+  starts : o .starts ≡ padded ns 0 (upTo (startOf has S) (suc H))
+  entries : o .entries ≡ padded ne 0 (rows.rows has S H)
   few : e ≤ 2 ^ 30
   room : e ≤ length (o .entries)
   tall : H + 1 ≤ length (o .starts)
@@ -195,7 +197,7 @@ module _ {d : Description} {i : Setting} {r : BuildRooms} {o : BuildOutcome} {s 
   built-table = record {
     judged = facts .judged;
     count = sym (facts .size) ∙ ap length segments-are;
-    segments = facts .segments ∙ ap (λ (l : List Segment). padded (r .segments) (eights l)) segments-are;
+    segments = facts .segments ∙ ap (λ (l : List Segment). padded (r .segments) 0·0 (eights l)) segments-are;
     entry-count = listing .count;
     entries = entries-are ∙ listing .entries;
     starts = starts-are ∙ listing .starts;

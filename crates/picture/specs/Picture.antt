@@ -5,6 +5,8 @@ use mathlib.Core.List.{List, [], _∷_, foldl}
 use Prim.Native.Nat.{ℕ, zero, suc, _+_, _<_}
 use lib.ListN.{length, getD}
 use lib.Ieee.{Float}
+use Rattle.numbers.specs.Arith.{0·0}
+use Rattle.buffers.specs.Padded.{padded}
 use Rattle.dequantize.specs.declared.judge.Judged.the-variants as Judged
 use Rattle.dequantize.specs.Judge.{Description, judgeOf}
 use Rattle.points.specs.Points.{eights}
@@ -14,7 +16,7 @@ use Rattle.shade.specs.Shade.{shaded}
 use Rattle.painting.specs.Painting.{Painted, All, NoRoomAt}
 use Rattle.rows.specs.Rows.{listed, rows, startOf, upTo, inRow}
 use Rattle.rows.specs.Rows as listing
-use Rattle.table.specs.Table.{BuildRooms, Setting, givenOf, zeros, padded, buildOf}
+use Rattle.table.specs.Table.{BuildRooms, Setting, givenOf, zeros, buildOf}
 use Rattle.table.specs.Table as build
 use Rattle.table.specs.Refusals.{painted}
 use Rattle.table.specs.declared.BuildAnswer.{BuildAnswer}
@@ -68,10 +70,10 @@ segmentsOf d i r = paintedSegments (painted d i r)
 pub record BuiltTable (d : Description) (i : Setting) (r : BuildRooms) (own : List Segment) (o : build.BuildOutcome) (s e estimate : ℕ) : Type 0 where
   pub judged : judgeOf d (givenOf i) ≡ Judged.Fine estimate
   pub count : s ≡ length own
-  pub segments : o .segments ≡ padded (r .segments) (eights own)
+  pub segments : o .segments ≡ padded (r .segments) 0·0 (eights own)
   pub entry-count : e ≡ startOf (inRow (o .segments)) s (i .height)
-  pub entries : o .entries ≡ listing.padded (r .entries) (rows (inRow (o .segments)) s (i .height))
-  pub starts : o .starts ≡ listing.padded (r .starts) (upTo (startOf (inRow (o .segments)) s) (suc (i .height)))
+  pub entries : o .entries ≡ padded (r .entries) 0 (rows (inRow (o .segments)) s (i .height))
+  pub starts : o .starts ≡ padded (r .starts) 0 (upTo (startOf (inRow (o .segments)) s) (suc (i .height)))
   pub row : (y : ℕ) → y < i .height → rowOf (built i o s e) y ≡ listed (inRow (o .segments)) y s
   pub no-path : o .path ≡ zeros (r .path)
   pub no-walk : o .walk ≡ zeros (r .walk)

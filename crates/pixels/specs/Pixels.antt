@@ -6,9 +6,12 @@ use lib.Ieee.{Float, nan, binary32, toBits, toUnsigned}
 use Rattle.numbers.specs.Arith.{f, _⊕_, _⊖_, _⊗_}
 use Rattle.numbers.specs.Whole.{roundOf}
 
--- 0 to 1 becomes 0 to 255 (0x437f0000), rounded half away from zero; what lies outside is cut, and a NaN is black
+abbrev 255·0 : Float
+255·0 = f 0x437f0000
+
+-- 0 to 1 becomes 0 to 255, rounded half away from zero; what lies outside is cut, and a NaN is black
 unfoldable pub toneOf : Float → ℕ
-toneOf v = min (toUnsigned 64 (roundOf binary32 (v ⊗ f 0x437f0000))) 255
+toneOf v = min (toUnsigned 64 (roundOf binary32 (v ⊗ 255·0))) 255
 
 -- red is Y + X, green Y - X, blue B
 unfoldable pub tonesOf : Float → Float → Float → List ℕ

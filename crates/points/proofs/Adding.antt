@@ -10,7 +10,7 @@ use lib.Seq.{sets}
 use lib.Ieee.{Float}
 use lib.Dec.{leb}
 use borrow.Author.Tests.{le-leb, lt-leb, leb-true, leb-false}
-use Rattle.numbers.specs.Arith.{_⊘_}
+use Rattle.numbers.specs.Arith.{1·0, _⊘_}
 use Rattle.buffers.proofs.Fronts.{sets-more}
 use Rattle.dequantize.specs.declared.Spline.{Spline}
 use Rattle.segments.specs.declared.Segment.{Segment}
@@ -19,7 +19,7 @@ use Rattle.segments.specs.declared.Added.the-variants.{Made, Nothing}
 use Rattle.segments.specs.Segment.{eightOf}
 use Rattle.points.specs.declared.Filled.{Filled}
 use Rattle.points.specs.declared.Filled.the-variants.{Count, Room}
-use Rattle.points.specs.Points.{oneF32, pointSegment, madeOf, segmentsFrom, addSegmentsFromPoints, eights, filledOf, FilledOn}
+use Rattle.points.specs.Points.{pointSegment, madeOf, segmentsFrom, addSegmentsFromPoints, eights, filledOf, FilledOn}
 
 pub eights-append : (xs ys : List Segment) → eights (xs ++ ys) ≡ eights xs ++ eights ys
 unfolding eights
@@ -74,7 +74,7 @@ made-room room count s h = rw (lt-leb (count + 1) room (omega arith))
 -- points below i are done, and count segments are in the buffer o, that was o₀
 pub record Adding (s : Spline) (l : Float) (high : Bool) (walk o₀ : List Float) (from room : ℕ) (o : List Float) (i count : ℕ) : Type 0 where
   pub done : List Segment
-  pub parts : addSegmentsFromPoints s walk l high ≡ done ++ segmentsFrom s (oneF32 ⊘ l) high walk i (length walk / 3 - i)
+  pub parts : addSegmentsFromPoints s walk l high ≡ done ++ segmentsFrom s (1·0 ⊘ l) high walk i (length walk / 3 - i)
   pub size : from + length done ≡ count
   pub fits : count ≤ room
   pub buffer : o ≡ sets o₀ (8 * from) (eights done)
@@ -100,19 +100,19 @@ module _ (s : Spline) (l : Float) (high : Bool) (walk o₀ : List Float) (from r
         rw (p, le-leb (from + length (a .done)) room (omega (arith, a .size, a .fits))) (ap Count (sym (a .size)), a .buffer)
 
     module _ (h : i < length walk / 3) where
-      next : {v : Added} → v ≡ pointSegment s (oneF32 ⊘ l) high walk i
-          → addSegmentsFromPoints s walk l high ≡ a .done ++ (madeOf v ++ segmentsFrom s (oneF32 ⊘ l) high walk (i + 1) (length walk / 3 - (i + 1)))
+      next : {v : Added} → v ≡ pointSegment s (1·0 ⊘ l) high walk i
+          → addSegmentsFromPoints s walk l high ≡ a .done ++ (madeOf v ++ segmentsFrom s (1·0 ⊘ l) high walk (i + 1) (length walk / 3 - (i + 1)))
       unfolding segmentsFrom
       next e = let g : length walk / 3 - i ≡ suc (length walk / 3 - (i + 1)) = omega arith in a .parts ∙ rw (g, e, add-one i)
 
-      module _ {v : Added} {r : Filled} (e : v ≡ pointSegment s (oneF32 ⊘ l) high walk i) (f : r ≡ filledOf room count (madeOf v)) where
+      module _ {v : Added} {r : Filled} (e : v ≡ pointSegment s (1·0 ⊘ l) high walk i) (f : r ≡ filledOf room count (madeOf v)) where
         pub adding-more : {o′ : List Float} (n : ℕ) → FilledOn r count (madeOf v) o o′ → r ≡ Count n → Adding s l high walk o₀ from room o′ (i + 1) n
         adding-more {o′} n w q =
             let g = count-got room count (madeOf v) n (sym q ∙ f) in
             let b : o′ ≡ sets o (8 * count) (eights (madeOf v)) = on-count r n count (madeOf v) o o′ q w in
             record {
               done = a .done ++ madeOf v;
-              parts = next e ∙ sym (append-assoc (a .done) (madeOf v) (segmentsFrom s (oneF32 ⊘ l) high walk (i + 1) (length walk / 3 - (i + 1))));
+              parts = next e ∙ sym (append-assoc (a .done) (madeOf v) (segmentsFrom s (1·0 ⊘ l) high walk (i + 1) (length walk / 3 - (i + 1))));
               size = omega (arith, length-append (a .done) (madeOf v), a .size, g .0);
               fits = omega (arith, g .0, g .1);
               buffer = b
@@ -124,7 +124,7 @@ module _ (s : Spline) (l : Float) (high : Bool) (walk o₀ : List Float) (from r
         pub adding-full : r ≡ Room → Room ≡ filledOf room from (addSegmentsFromPoints s walk l high)
         unfolding filledOf
         adding-full q =
-            let rest = segmentsFrom s (oneF32 ⊘ l) high walk (i + 1) (length walk / 3 - (i + 1)) in
+            let rest = segmentsFrom s (1·0 ⊘ l) high walk (i + 1) (length walk / 3 - (i + 1)) in
             let n : room < from + length (addSegmentsFromPoints s walk l high) =
             omega (arith, ap length (next e), length-append (a .done) (madeOf v ++ rest), length-append (madeOf v) rest, a .size, room-got room count (madeOf v) (sym q ∙ f)) in
             rw (lt-leb (from + length (addSegmentsFromPoints s walk l high)) room n)

@@ -1,5 +1,5 @@
 -- `add_segments_from_points` of spline.rs at a distance of 1: the segments that a walk makes, and what a lent buffer then holds. Definitions only.
--- A walk is a list of three numbers a point: x, y and multiplier. 0x3f800000 is 1, 0x41f80000 is 31.
+-- A walk is a list of three numbers a point: x, y and multiplier.
 use mathlib.Core.Path.{_≡_}
 use mathlib.Core.Bool.{Bool, true, false, cond}
 use mathlib.Core.List.{List, [], _∷_, _++_}
@@ -9,7 +9,7 @@ use lib.IntN.{pos}
 use lib.ListN.{length, getD}
 use lib.Seq.{sets}
 use lib.Ieee.{Float, nan, binary32, ofInt}
-use Rattle.numbers.specs.Arith.{f, _⊗_, _⊘_}
+use Rattle.numbers.specs.Arith.{f, 1·0, _⊗_, _⊘_}
 use Rattle.numbers.specs.Magnitude.{minOf}
 use Rattle.dequantize.specs.declared.Spline.{Spline}
 use Rattle.segments.specs.declared.Segment.{Segment}
@@ -20,17 +20,17 @@ use Rattle.transform.specs.Transform.{sumsOf}
 use Rattle.points.specs.declared.Filled.{Filled}
 use Rattle.points.specs.declared.Filled.the-variants.{Count, Room}
 
-abbrev pub oneF32 : Float
-oneF32 = f 0x3f800000
+abbrev 31·0 : Float
+31·0 = f 0x41f80000
 
 -- (point_index * desired_distance * inv_length).min(1.0)
 unfoldable pub progressOf : Float → ℕ → Float
-progressOf invLength i = minOf (ofInt binary32 (pos i) ⊗ oneF32 ⊗ invLength) oneF32
+progressOf invLength i = minOf (ofInt binary32 (pos i) ⊗ 1·0 ⊗ invLength) 1·0
 
 -- t
 unfoldable pub curveTime : Float → ℕ → Float
 unfolding progressOf
-curveTime invLength i = f 0x41f80000 ⊗ progressOf invLength i
+curveTime invLength i = 31·0 ⊗ progressOf invLength i
 
 -- what point i makes
 unfoldable pub pointSegment : Spline → Float → Bool → List Float → ℕ → Added
@@ -49,7 +49,7 @@ segmentsFrom s invLength high walk i (suc n) = madeOf (pointSegment s invLength 
 
 -- of all points of a walk with its length
 unfoldable pub addSegmentsFromPoints : Spline → List Float → Float → Bool → List Segment
-addSegmentsFromPoints s walk l high = segmentsFrom s (oneF32 ⊘ l) high walk 0 (length walk / 3)
+addSegmentsFromPoints s walk l high = segmentsFrom s (1·0 ⊘ l) high walk 0 (length walk / 3)
 
 -- ---- in a lent buffer
 

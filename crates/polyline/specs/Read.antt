@@ -8,7 +8,7 @@ use lib.IntN.{ℤ, pos, _-ℤ_}
 use lib.Ieee.{Float}
 use Rattle.codes.specs.declared.Code.the-variants.{Room, Position, Coincide}
 use Rattle.list.specs.Steps.{f32Of, zeroF32}
-use Rattle.writer.specs.Write.{Told, toldOf}
+use Rattle.writer.specs.Write.{WriteTold, toldOf}
 use Rattle.writer.specs.declared.Verdict.{Verdict}
 use Rattle.writer.specs.declared.Verdict.the-variants.{Fine, Fault}
 use Rattle.writer.specs.declared.WriteAnswer.{WriteAnswer}
@@ -114,7 +114,7 @@ pointsVerdict start deltas text = andThen (textOf text) (pairsVerdict start delt
 -- the answer, what it tells, and every cell of both buffers
 pub record PointsOutcome : Type 0 where
   pub answer : WriteAnswer
-  pub told : Told
+  pub told : WriteTold
   pub start : List Float
   pub deltas : List ℤ
 

@@ -4,6 +4,7 @@ use Prim.Native.Nat.{ℕ, _-_}
 use lib.ListN.{length, replicate}
 use lib.IntN.{ℤ, pos}
 use lib.Ieee.{Float}
+use Rattle.buffers.specs.Padded.{padded}
 use Rattle.codes.specs.Codes.{numberOf}
 use Rattle.shape.specs.Shape.{pointsOf}
 use Rattle.list.specs.List.{Got, got, stop, ListRooms, Described, described, limitOf, readOf}
@@ -11,7 +12,7 @@ use Rattle.list.specs.Steps.{f32Of, zeroF32}
 use Rattle.reader.specs.declared.ReadAnswer.{ReadAnswer}
 
 -- an answer in the terms of the table of codes: the code's number, the place, and the counts
-pub record Told : Type 0 where
+pub record ReadTold : Type 0 where
   pub number : ℕ
   pub place : ℕ
   pub splines : ℕ
@@ -19,14 +20,14 @@ pub record Told : Type 0 where
   pub adjustment : ℤ
 
 -- a success is number 0 at place 0; a refusal has counts of 0
-abbrev pub toldOf : ReadAnswer → Told
+abbrev pub toldOf : ReadAnswer → ReadTold
 toldOf (ReadAnswer.Done s n a) = record { number = 0; place = 0; splines = s; points = n; adjustment = a }
 toldOf (ReadAnswer.Refused c p) = record { number = numberOf c; place = p; splines = 0; points = 0; adjustment = pos 0 }
 
 -- the answer, what it tells, and the four lent buffers
 pub record Outcome : Type 0 where
   pub answer : ReadAnswer
-  pub told : Told
+  pub told : ReadTold
   pub counts : List ℕ
   pub starts : List Float
   pub deltas : List ℤ
@@ -37,10 +38,6 @@ leaves r ns zs ds cs = record { answer = r; told = toldOf r; counts = ns; starts
 
 abbrev pub roomsOf : List ℕ → List Float → List ℤ → List ℤ → ListRooms
 roomsOf ns zs ds cs = record { counts = length ns; starts = length zs; deltas = length ds; coefficients = length cs }
-
--- n cells: the values, and zeros after them
-abbrev pub padded : {A : Type 0} → ℕ → A → List A → List A
-padded n zero vs = vs ++ replicate (n - length vs) zero
 
 -- what was read, or a refusal with every cell zero
 abbrev pub outcome : ListRooms → Got Described → Outcome

@@ -11,12 +11,13 @@ use lib.Seq.{take-at}
 use lib.IntN.{ℤ, pos}
 use lib.Ieee.{Float}
 use borrow.Author.Tests.{le-ltb}
+use Rattle.buffers.specs.Padded.{padded}
 use Rattle.codes.specs.declared.Code.the-variants.{Room}
 use Rattle.shape.specs.Shape.{pointsOf}
 use Rattle.list.specs.List.{ListRooms, Got, got, stop, Described, described, limitOf, readOf, listOf}
 use Rattle.list.specs.Steps.{f32Of, zeroF32}
 use Rattle.list.proofs.RoundTrip.{Holds, written-is-read, read-is-written, read-is-valid}
-use Rattle.reader.specs.Read.{Outcome, padded, readOutcome}
+use Rattle.reader.specs.Read.{Outcome, readOutcome}
 use Rattle.reader.specs.Read as reading
 use Rattle.reader.specs.declared.ReadAnswer.{ReadAnswer}
 use Rattle.writer.specs.Write.{Check, check, firstFault, contentChecks, wholeOf, valuesOf, WriteOutcome, leaves, outcome, writeOf}

@@ -1,12 +1,15 @@
 -- `draw_segment_inner`: what one segment adds at one pixel, operation by operation. Definitions only.
--- A multiply-add is a rounded product, then a rounded sum. The numbers are f32 patterns: 0.5 and 0.353_553_38.
+-- A multiply-add is a rounded product, then a rounded sum.
 use Prim.Native.Nat.{ℕ, zero, suc}
 use lib.IntN.{pos}
 use lib.Ieee.{Float, binary32, ofInt, neg}
-use Rattle.numbers.specs.Arith.{f, _⊕_, _⊖_, _⊗_}
+use Rattle.numbers.specs.Arith.{f, 0·5, _⊕_, _⊖_, _⊗_}
 use Rattle.numbers.specs.Root.{sqrtOf}
 use Rattle.numbers.specs.Erf.{fastErff}
 use Rattle.segments.specs.declared.Segment.{Segment}
+
+abbrev «0·353_553_38» : Float
+«0·353_553_38» = f 0x3eb504f3
 
 -- the square of the distance of column x from a centre, by the square of the distance in y
 abbrev pub sqd : Float → Float → ℕ → Float
@@ -22,8 +25,8 @@ dy2 centerY y =
 -- the local intensity by the distance from the centre
 unfoldable pub intensityAt : Segment → Float → Float
 intensityAt s distance =
-    let arg1 = (distance ⊗ f 0x3f000000 ⊕ f 0x3eb504f3) ⊗ s .«inv_sigma» in
-    let arg2 = (distance ⊗ f 0x3f000000 ⊕ neg (f 0x3eb504f3)) ⊗ s .«inv_sigma» in
+    let arg1 = (distance ⊗ 0·5 ⊕ «0·353_553_38») ⊗ s .«inv_sigma» in
+    let arg2 = (distance ⊗ 0·5 ⊕ neg «0·353_553_38») ⊗ s .«inv_sigma» in
     let oneDimensionalFactor = fastErff arg1 ⊖ fastErff arg2 in
     s .«sigma_over_4_times_intensity» ⊗ oneDimensionalFactor ⊗ oneDimensionalFactor
 

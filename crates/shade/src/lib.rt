@@ -46,19 +46,6 @@ fn roots(v: &mut [f32; 32], m: usize, table: &[u64; 128])
     }
 }
 
-// erf of a magnitude.
-fn erf_core(x: f32) -> f32
-    ensures { λ r. ⌜ r ≡ erfCore x ⌝ }
-{
-    let denom1 = x * 7.77394369e-02 + 2.05260015e-04;
-    let denom2 = denom1 * x + 2.32120216e-01;
-    let denom3 = denom2 * x + 2.77820801e-01;
-    let denom4 = denom3 * x + 1.0;
-    let denom5 = denom4 * denom4;
-    let inv_denom5 = 1.0 / denom5;
-    1.0 - inv_denom5 * inv_denom5
-}
-
 // x, or -x where it is to be turned.
 fn turned(turn: bool, x: f32) -> f32
     ensures { λ r. ⌜ r ≡ cond turn (neg x) x ⌝ }
@@ -71,7 +58,7 @@ fn erf(x: f32) -> f32
     ensures { λ r. ⌜ Alike r (fastErff x) ⌝ }
 {
     let negative = x < 0.0;
-    turned(negative, erf_core(turned(negative, x)))
+    turned(negative, numbers::erf_core(turned(negative, x)))
 }
 
 // What a segment adds at a distance, before its colours.

@@ -6,6 +6,8 @@ use native.Mathlib.Omega.{arith}
 use lib.ListN.{length, take, drop, replicate}
 use lib.Seq.{sets, length-take-le, take-at}
 use lib.Ieee.{Float}
+use Rattle.numbers.specs.Arith.{0·0}
+use Rattle.buffers.specs.Padded.{padded}
 use Rattle.codes.specs.declared.Code.{Code}
 use Rattle.codes.specs.declared.Code.the-variants as Code
 use Rattle.buffers.specs.Onto.{onto}
@@ -30,7 +32,7 @@ use Rattle.rows.specs.Rows as listing
 use Rattle.rows.proofs.Table.{rest-same}
 use Rattle.faint.specs.Faint.{faintIn}
 use Rattle.table.specs.declared.BuildAnswer.the-variants.{Done, Refused}
-use Rattle.table.specs.Table.{BuildRooms, Setting, givenOf, leaves, zeros, padded, refusedWith, verdictOf, afterRows, afterPaint, buildOf}
+use Rattle.table.specs.Table.{BuildRooms, Setting, givenOf, leaves, zeros, refusedWith, verdictOf, afterRows, afterPaint, buildOf}
 
 -- ---- a buffer that is cleared behind what it keeps
 
@@ -43,8 +45,8 @@ module _ (r : BuildRooms) (estimate count : ℕ) (numbers : List Float) (owned :
   pub rows-room : a ≡ Listed.Room → refusedWith r Code.Room 0 ≡ afterRows r estimate count numbers owned o
   rows-room q = rw (← e, q)
 
-  pub rows-done : {path walk segments : List Float} {owners : List ℕ} (n : ℕ) {faint : ℕ} → faint ≡ faintIn numbers count → a ≡ Listed.Entries n → path ≡ zeros (r .path) → walk ≡ zeros (r .walk) → segments ≡ padded (r .segments) numbers
-      → owners ≡ listing.padded (r .owners) owned → leaves (Done count n estimate faint) path walk segments owners starts entries ≡ afterRows r estimate count numbers owned o
+  pub rows-done : {path walk segments : List Float} {owners : List ℕ} (n : ℕ) {faint : ℕ} → faint ≡ faintIn numbers count → a ≡ Listed.Entries n → path ≡ zeros (r .path) → walk ≡ zeros (r .walk) → segments ≡ padded (r .segments) 0·0 numbers
+      → owners ≡ padded (r .owners) 0 owned → leaves (Done count n estimate faint) path walk segments owners starts entries ≡ afterRows r estimate count numbers owned o
   rows-done n f q p w s h = rw (← e, q, p, w, s, h, f)
 
 -- ---- the drawn segments

@@ -4,6 +4,8 @@ use mathlib.Core.Path.{_≡_}
 use mathlib.Core.List.{List}
 use Prim.Native.Nat.{ℕ, suc, _*_, _^_, _≤_, _<_}
 use lib.ListN.{length, take}
+use Rattle.numbers.specs.Arith.{0·0}
+use Rattle.buffers.specs.Padded.{padded}
 use Rattle.dequantize.specs.Judge.{Description, Shaped, totalOf}
 use Rattle.dequantize.specs.Refusals.{AllPass}
 use Rattle.segments.specs.declared.Segment.{Segment}
@@ -13,7 +15,7 @@ use Rattle.rows.specs.Rows.{inRow, startOf, rows, upTo}
 use Rattle.faint.specs.Faint.{faintIn}
 use Rattle.rows.specs.Rows as listing
 use Rattle.table.specs.declared.BuildAnswer.the-variants.{Done}
-use Rattle.table.specs.Table.{Setting, BuildRooms, BuildOutcome, givenOf, leaves, zeros, padded, buildOf}
+use Rattle.table.specs.Table.{Setting, BuildRooms, BuildOutcome, givenOf, leaves, zeros, buildOf}
 
 -- the segments of a description with their owners: those of its splines, in their order, and the number of each one's spline
 abbrev pub MakesOwned : Description → Setting → List Segment → List ℕ → Type 0
@@ -48,8 +50,8 @@ module _ (d : Description) (i : Setting) (r : BuildRooms) where
   -- the counts and the table of these segments and owners, zeros behind it and in the working cells
   unfoldable pub doneWith : List Segment → List ℕ → BuildOutcome
   doneWith segs owners =
-      leaves (Done (length segs) (entriesOf i segs) (totalOf d (givenOf i) (length (d .counts))) (faintIn (eights segs) (length segs))) (zeros (r .path)) (zeros (r .walk)) (padded (r .segments) (eights segs)) (listing.padded (r .owners) owners)
-      (listing.padded (r .starts) (upTo (startOf (inRow (eights segs)) (length segs)) (suc (i .height)))) (listing.padded (r .entries) (rows (inRow (eights segs)) (length segs) (i .height)))
+      leaves (Done (length segs) (entriesOf i segs) (totalOf d (givenOf i) (length (d .counts))) (faintIn (eights segs) (length segs))) (zeros (r .path)) (zeros (r .walk)) (padded (r .segments) 0·0 (eights segs)) (padded (r .owners) 0 owners)
+      (padded (r .starts) 0 (upTo (startOf (inRow (eights segs)) (length segs)) (suc (i .height)))) (padded (r .entries) 0 (rows (inRow (eights segs)) (length segs) (i .height)))
 
   -- a done build has met its needs, made the segments of the description, and left their table
   pub record BuildMakes (s e estimate faint : ℕ) : Type 0 where
@@ -61,7 +63,7 @@ module _ (d : Description) (i : Setting) (r : BuildRooms) where
     pub entry-count : entriesOf i segs ≡ e
     pub estimated : totalOf d (givenOf i) (length (d .counts)) ≡ estimate
     pub faint-count : faintIn (eights segs) (length segs) ≡ faint
-    pub numbers : buildOf d i r .segments ≡ padded (r .segments) (eights segs)
+    pub numbers : buildOf d i r .segments ≡ padded (r .segments) 0·0 (eights segs)
     pub leaves-them : buildOf d i r ≡ doneWith segs owners
 
 -- at least as much room

@@ -6,6 +6,8 @@ use lib.Dec.{leb}
 use lib.IntN.{ℤ}
 use lib.ListN.{length, replicate}
 use lib.Ieee.{Float, binary32, ofBits}
+use Rattle.numbers.specs.Arith.{0·0}
+use Rattle.buffers.specs.Padded.{padded}
 use Rattle.codes.specs.Codes.{numberOf}
 use Rattle.codes.specs.declared.Code.{Code}
 use Rattle.codes.specs.declared.Code.the-variants as Code
@@ -76,7 +78,7 @@ givenOf i = record { adjustment = i .adjustment; «y_to_x» = i .ytox; «y_to_b�
 -- ---- what a build answers and leaves
 
 -- an answer in the terms of the table of codes: the code's number, the place, and the counts
-pub record Told : Type 0 where
+pub record BuildTold : Type 0 where
   pub number : ℕ
   pub place : ℕ
   pub segments : ℕ
@@ -85,14 +87,14 @@ pub record Told : Type 0 where
   pub faint : ℕ
 
 -- a success is number 0 at place 0; a refusal has counts of 0
-abbrev pub toldOf : BuildAnswer → Told
+abbrev pub toldOf : BuildAnswer → BuildTold
 toldOf (Done s n a f) = record { number = 0; place = 0; segments = s; entries = n; estimate = a; faint = f }
 toldOf (Refused c p) = record { number = numberOf c; place = p; segments = 0; entries = 0; estimate = 0; faint = 0 }
 
 -- the answer, what it tells, and the six lent buffers
 pub record BuildOutcome : Type 0 where
   pub answer : BuildAnswer
-  pub told : Told
+  pub told : BuildTold
   pub path : List Float
   pub walk : List Float
   pub segments : List Float
@@ -114,10 +116,6 @@ leaves r path walk segments owners starts entries = record {
 
 abbrev pub zeros : ℕ → List Float
 zeros n = replicate n (ofBits binary32 0)
-
--- the numbers of a list, then zeros up to n cells
-abbrev pub padded : ℕ → List Float → List Float
-padded n xs = xs ++ zeros (n - length xs)
 
 -- every lent cell zero
 unfoldable pub refusedWith : BuildRooms → Code → ℕ → BuildOutcome
@@ -153,7 +151,7 @@ afterRows r estimate count numbers owners o = go (o .answer)
   where
     go : Listed → BuildOutcome
     go Listed.Room = refusedWith r Code.Room 0
-    go (Listed.Entries n) = leaves (Done count n estimate (faintIn numbers count)) (zeros (r .path)) (zeros (r .walk)) (padded (r .segments) numbers) (listing.padded (r .owners) owners) (o .starts) (o .entries)
+    go (Listed.Entries n) = leaves (Done count n estimate (faintIn numbers count)) (zeros (r .path)) (zeros (r .walk)) (padded (r .segments) 0·0 numbers) (padded (r .owners) 0 owners) (o .starts) (o .entries)
 
 abbrev pub afterPaint : BuildRooms → ℕ → ℕ → Painted → BuildOutcome
 afterPaint r height estimate (NoRoomAt k) = refusedWith r Code.Room k

@@ -13,11 +13,12 @@ use lib.IntN.{ℤ, pos}
 use lib.Signed.{mag}
 use lib.Ieee.{Float}
 use borrow.Author.Tests.{le-ltb}
+use Rattle.buffers.specs.Padded.{padded}
 use Rattle.codes.specs.declared.Code.the-variants.{Short, Room, Shape, Header, Edition}
 use Rattle.shape.specs.Shape.{pointsOf}
 use Rattle.list.specs.List.{ListRooms, Got, got, stop, Described, described}
 use Rattle.list.specs.Steps.{f32Of, zeroF32}
-use Rattle.reader.specs.Read.{Outcome, padded}
+use Rattle.reader.specs.Read.{Outcome}
 use Rattle.reader.specs.Read as reading
 use Rattle.reader.specs.declared.ReadAnswer.{ReadAnswer}
 use Rattle.writer.specs.Write.{Check, check, firstFault, wholeOf, WriteOutcome, leaves, outcome}

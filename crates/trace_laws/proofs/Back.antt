@@ -16,7 +16,7 @@ use Rattle.shape.specs.Shape.{pointsOf, shaped}
 use Rattle.shape.proofs.Shape.{is-shaped}
 use Rattle.list.specs.List.{ListRooms, Got, got, stop, Described, described, lacking, posLimit, deltaLimit}
 use Rattle.list.specs.Steps.{f32Of, zeroF32}
-use Rattle.reader.specs.Read.{Outcome, padded}
+use Rattle.reader.specs.Read.{Outcome}
 use Rattle.reader.specs.Read as reading
 use Rattle.reader.specs.declared.ReadAnswer.{ReadAnswer}
 use Rattle.writer.specs.Write.{Check, check, firstFault, wholeOf, WriteOutcome, leaves, outcome}

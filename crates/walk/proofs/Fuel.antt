@@ -8,10 +8,11 @@ use borrow.Author.Tests.{ltb-true, ltb-false}
 use lib.Dec.{ltb}
 use lib.ListN.{length}
 use lib.Ieee.{Float}
+use Rattle.numbers.specs.Arith.{1·0}
 use Rattle.curve.specs.declared.Point.{Point}
 use Rattle.walk.specs.declared.Stretch.{Stretch}
 use Rattle.walk.specs.declared.Stretch.the-variants.{Ends, Emits}
-use Rattle.walk.specs.Walk.{oneF32, pointAt, stretchOf, PointToDraw, toDraw, Walk, More, Ended, before, afterStretch, walkFrom, walkIn, Walks}
+use Rattle.walk.specs.Walk.{pointAt, stretchOf, PointToDraw, toDraw, Walk, More, Ended, before, afterStretch, walkFrom, walkIn, Walks}
 
 -- no walk needs more points and has ended
 never : {A : Type 0} {xs : List PointToDraw} → More ≡ Ended xs → A
@@ -37,7 +38,7 @@ Agree a b path = (i : ℕ) (p : Point) (xs : List PointToDraw) → walkFrom a pa
 
 some : (a : ℕ) (path : List Float) (xs : List PointToDraw) (r : Stretch) → afterStretch r (λ q j. walkFrom a path j q) ≡ Ended xs → 0 < length xs
 some a path xs (Ends q d) e = let g : (toDraw q d ∷ []) ≡ xs = cc in omega (arith, ap length g)
-some a path xs (Emits q j) e = let r = rest-of q oneF32 xs (walkFrom a path j q) e in omega (arith, ap length (r .is))
+some a path xs (Emits q j) e = let r = rest-of q 1·0 xs (walkFrom a path j q) e in omega (arith, ap length (r .is))
 
 step : (a b : ℕ) (path : List Float) → Agree a b path → (xs : List PointToDraw) (r : Stretch) → afterStretch r (λ q j. walkFrom a path j q) ≡ Ended xs
     → Within (suc a) (suc b) xs (afterStretch r (λ q j. walkFrom b path j q))
@@ -45,12 +46,12 @@ step a b path ih xs (Ends q d) e =
     let g : (toDraw q d ∷ []) ≡ xs = cc in
     record { few = omega (arith, ap length g); same = λ h. e }
 step a b path ih xs (Emits q j) e =
-    let r = rest-of q oneF32 xs (walkFrom a path j q) e in
+    let r = rest-of q 1·0 xs (walkFrom a path j q) e in
     let l : length xs ≡ suc (length (r .rest)) = ap length (r .is) in
     let k = ih j q (r .rest) (r .ended) in
     record {
       few = omega (arith, k .few);
-      same = λ h. ap (before (toDraw q oneF32 ∷ [])) (k .same (omega arith)) ∙ ap Ended (sym (r .is));
+      same = λ h. ap (before (toDraw q 1·0 ∷ [])) (k .same (omega arith)) ∙ ap Ended (sym (r .is));
     }
 
 agree : (a b : ℕ) (path : List Float) → Agree a b path
@@ -70,7 +71,7 @@ unfolding walkIn
 walk-within zero path xs e = never e
 walk-within (suc a) path xs e =
     let p = pointAt path 0 in
-    let r = rest-of p oneF32 xs (walkFrom a path 0 p) e in
+    let r = rest-of p 1·0 xs (walkFrom a path 0 p) e in
     omega (arith, ap length (r .is), agree a a path 0 p (r .rest) (r .ended) .few)
 
 -- it has the first point and the last
@@ -80,7 +81,7 @@ walk-two zero path xs e = never e
 walk-two (suc zero) path xs e = never e
 walk-two (suc (suc a)) path xs e =
     let p = pointAt path 0 in
-    let r = rest-of p oneF32 xs (walkFrom (suc a) path 0 p) e in
+    let r = rest-of p 1·0 xs (walkFrom (suc a) path 0 p) e in
     omega (arith, ap length (r .is), some a path (r .rest) (stretchOf path 0 p) (r .ended))
 
 -- more room changes no answer: a walk that ends within a points is the same within b, if it has at most b
@@ -89,13 +90,13 @@ unfolding walkIn
 walk-enough zero b path xs e h = never e
 walk-enough (suc a) zero path xs e h =
     let p = pointAt path 0 in
-    let r = rest-of p oneF32 xs (walkFrom a path 0 p) e in
+    let r = rest-of p 1·0 xs (walkFrom a path 0 p) e in
     absurd (omega (arith, ap length (r .is)))
 walk-enough (suc a) (suc b) path xs e h =
     let p = pointAt path 0 in
-    let r = rest-of p oneF32 xs (walkFrom a path 0 p) e in
+    let r = rest-of p 1·0 xs (walkFrom a path 0 p) e in
     let l : length xs ≡ suc (length (r .rest)) = ap length (r .is) in
-    ap (before (toDraw p oneF32 ∷ [])) (agree a b path 0 p (r .rest) (r .ended) .same (omega arith)) ∙ ap Ended (sym (r .is))
+    ap (before (toDraw p 1·0 ∷ [])) (agree a b path 0 p (r .rest) (r .ended) .same (omega arith)) ∙ ap Ended (sym (r .is))
 
 -- no room exactly where more are needed: a walk that ends with more than b points needs more than b
 pub walk-short : (a b : ℕ) (path : List Float) (xs : List PointToDraw) → walkIn a path ≡ Ended xs → b < length xs → walkIn b path ≡ More

@@ -6,6 +6,7 @@ use native.Mathlib.Omega.{arith}
 use lib.ListN.{length, length-append}
 use lib.Seq.{sets}
 use lib.Ieee.{Float}
+use Rattle.numbers.specs.Arith.{1·0}
 use Rattle.buffers.specs.Onto.{onto}
 use Rattle.buffers.proofs.Fronts.{onto-none, onto-over, sets-onto}
 use Rattle.curve.specs.declared.Point.{Point}
@@ -13,7 +14,7 @@ use Rattle.walk.specs.declared.Stretch.{Stretch}
 use Rattle.walk.specs.declared.Stretch.the-variants.{Ends, Emits}
 use Rattle.walk.specs.declared.Walked.{Walked}
 use Rattle.walk.specs.declared.Walked.the-variants.{Points, Room}
-use Rattle.walk.specs.Walk.{oneF32, pointAt, stretchOf, PointToDraw, toDraw, Walk, More, Ended, before, walkFrom, walkIn, flat, walkedOf, WalkedOn}
+use Rattle.walk.specs.Walk.{pointAt, stretchOf, PointToDraw, toDraw, Walk, More, Ended, before, walkFrom, walkIn, flat, walkedOf, WalkedOn}
 
 -- ---- three numbers a point
 
@@ -42,7 +43,7 @@ module _ (k n : ℕ) (path : List Float) (i : ℕ) (p : Point) (h : n < k) where
   walk-ends q d e g = rw (one-more, ← e, g)
 
   pub walk-emits : {r : Stretch} (q : Point) (j : ℕ) → r ≡ stretchOf path i p → r ≡ Emits q j
-      → walkFrom (k - n) path i p ≡ before (toDraw q oneF32 ∷ []) (walkFrom (k - (n + 1)) path j q)
+      → walkFrom (k - n) path i p ≡ before (toDraw q 1·0 ∷ []) (walkFrom (k - (n + 1)) path j q)
   unfolding walkFrom
   walk-emits q j e g = rw (one-more, ← e, g)
 
@@ -50,7 +51,7 @@ pub walk-none : (k n : ℕ) (path : List Float) (i : ℕ) (p : Point) → k ≤ 
 unfolding walkFrom
 walk-none k n path i p h = let e : k - n ≡ 0 = omega arith in rw e
 
-walk-begin : (k : ℕ) (path : List Float) → (k ≡ 0 → ⊥) → walkIn k path ≡ before (toDraw (pointAt path 0) oneF32 ∷ []) (walkFrom (k - 1) path 0 (pointAt path 0))
+walk-begin : (k : ℕ) (path : List Float) → (k ≡ 0 → ⊥) → walkIn k path ≡ before (toDraw (pointAt path 0) 1·0 ∷ []) (walkFrom (k - 1) path 0 (pointAt path 0))
 unfolding walkIn
 walk-begin zero path h = absurd (h refl)
 walk-begin (suc k) path h = let e : suc k - 1 ≡ k = omega arith in rw e
@@ -112,24 +113,24 @@ walked-over whole xs o e rest h w = go rest h
         rw h (g ∙ rw (flat-append xs ys) (onto-over (flat xs) (flat ys) o))
 
 -- q is the first point, and o₁ the buffer once it is written
-module _ (k : ℕ) (path o : List Float) {q : Point} {o₁ : List Float} (eq : q ≡ pointAt path 0) (h : k ≡ 0 → ⊥) (r : 3 ≤ length o) (e : o₁ ≡ sets o 0 (three q oneF32)) where
-  begun : o₁ ≡ onto (flat (toDraw q oneF32 ∷ [])) o
+module _ (k : ℕ) (path o : List Float) {q : Point} {o₁ : List Float} (eq : q ≡ pointAt path 0) (h : k ≡ 0 → ⊥) (r : 3 ≤ length o) (e : o₁ ≡ sets o 0 (three q 1·0)) where
+  begun : o₁ ≡ onto (flat (toDraw q 1·0 ∷ [])) o
   unfolding flat
-  begun = e ∙ ap (λ (t : List Float). sets t 0 (three q oneF32)) (sym (onto-none o)) ∙ sets-onto [] (three q oneF32) o 0 refl r
+  begun = e ∙ ap (λ (t : List Float). sets t 0 (three q 1·0)) (sym (onto-none o)) ∙ sets-onto [] (three q 1·0) o 0 refl r
 
-  begun-walk : walkIn k path ≡ before (toDraw q oneF32 ∷ []) (walkFrom (k - 1) path 0 q)
+  begun-walk : walkIn k path ≡ before (toDraw q 1·0 ∷ []) (walkFrom (k - 1) path 0 q)
   begun-walk = rw eq (walk-begin k path h)
 
   pub walking-begin : Walking (walkIn k path) (walkFrom (k - 1) path 0 q) o₁ o₁ 1
   unfolding flat
   walking-begin = record {
-    done = toDraw q oneF32 ∷ [];
+    done = toDraw q 1·0 ∷ [];
     parts = begun-walk;
     size = refl;
-    buffer = begun ∙ sym (ap (onto (three q oneF32)) begun ∙ onto-over (three q oneF32) [] o);
+    buffer = begun ∙ sym (ap (onto (three q 1·0)) begun ∙ onto-over (three q 1·0) [] o);
   }
 
   pub walking-over : (a : Walked) (x : List Float) → (a ≡ walkedOf (walkIn k path)) × WalkedOn (walkIn k path) o₁ x → (a ≡ walkedOf (walkIn k path)) × WalkedOn (walkIn k path) o x
-  walking-over a x w = (w .0, walked-over (walkIn k path) (toDraw q oneF32 ∷ []) o x (walkFrom (k - 1) path 0 q) begun-walk (rw begun at (w .1)))
+  walking-over a x w = (w .0, walked-over (walkIn k path) (toDraw q 1·0 ∷ []) o x (walkFrom (k - 1) path 0 q) begun-walk (rw begun at (w .1)))
 
 -- Assumes nothing.

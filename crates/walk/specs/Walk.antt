@@ -1,5 +1,5 @@
 -- `for_each_equally_spaced_point` at a distance of 1: the points that it calls its closure with, and what a lent buffer then holds. Definitions only.
--- 0x3f800000 is 1. The walk need not end (a step of 1 can round away), so it is said for at most k points; the laws on k are in proofs/Fuel.
+-- The walk need not end (a step of 1 can round away), so it is said for at most k points; the laws on k are in proofs/Fuel.
 use mathlib.Core.Path.{_≡_}
 use mathlib.Core.Bool.{Bool, true, false, cond}
 use mathlib.Core.List.{List, [], _∷_, _++_}
@@ -7,7 +7,7 @@ use Prim.Native.Nat.{ℕ, zero, suc, _+_, _-_, _*_, _/_, min}
 use lib.ListN.{length, getD}
 use lib.IntN.{pos, _-ℤ_}
 use lib.Ieee.{Float, nan, binary32, le, ofInt}
-use Rattle.numbers.specs.Arith.{f, _⊕_, _⊖_, _⊗_, _⊘_}
+use Rattle.numbers.specs.Arith.{0·0, 1·0, _⊕_, _⊖_, _⊗_, _⊘_}
 use Rattle.numbers.specs.Root.{sqrtOf}
 use Rattle.buffers.specs.Onto.{onto}
 use Rattle.curve.specs.declared.Point.{Point}
@@ -16,9 +16,6 @@ use Rattle.walk.specs.declared.Stretch.{Stretch}
 use Rattle.walk.specs.declared.Stretch.the-variants.{Ends, Emits}
 use Rattle.walk.specs.declared.Walked.{Walked}
 use Rattle.walk.specs.declared.Walked.the-variants.{Points, Room}
-
-abbrev pub oneF32 : Float
-oneF32 = f 0x3f800000
 
 -- ---- one unit of length
 
@@ -38,11 +35,11 @@ stretchIn (suc k) path i previous d =
     let delta = subPoint q previous in
     let l = distanceOf delta in
     let rest = stretchIn k path (i + 1) q (d ⊕ l) in
-    cond (le oneF32 (d ⊕ l)) (Emits (addPoint previous (mulPoint delta ((oneF32 ⊖ d) ⊘ l))) i) rest
+    cond (le 1·0 (d ⊕ l)) (Emits (addPoint previous (mulPoint delta ((1·0 ⊖ d) ⊘ l))) i) rest
 
 -- from current, which lies before point i
 unfoldable pub stretchOf : List Float → ℕ → Point → Stretch
-stretchOf path i current = stretchIn (length path / 2 - i) path i current (f 0)
+stretchOf path i current = stretchIn (length path / 2 - i) path i current 0·0
 
 -- ---- the walk
 
@@ -66,7 +63,7 @@ before xs (Ended ys) = Ended (xs ++ ys)
 -- the path's end is the last point; a point that is emitted has others behind it
 abbrev pub afterStretch : Stretch → (Point → ℕ → Walk) → Walk
 afterStretch (Ends q d) rest = Ended (toDraw q d ∷ [])
-afterStretch (Emits q i) rest = before (toDraw q oneF32 ∷ []) (rest q i)
+afterStretch (Emits q i) rest = before (toDraw q 1·0 ∷ []) (rest q i)
 
 -- the outer loop, in at most k points
 unfoldable pub walkFrom : ℕ → List Float → ℕ → Point → Walk
@@ -76,7 +73,7 @@ walkFrom (suc k) path i current = afterStretch (stretchOf path i current) (λ q 
 -- the walk along a path of one point or more, in at most k points
 unfoldable pub walkIn : ℕ → List Float → Walk
 walkIn zero path = More
-walkIn (suc k) path = before (toDraw (pointAt path 0) oneF32 ∷ []) (walkFrom k path 0 (pointAt path 0))
+walkIn (suc k) path = before (toDraw (pointAt path 0) 1·0 ∷ []) (walkFrom k path 0 (pointAt path 0))
 
 -- the walk along a path ends with these points: it does so in some number of points, and then in every greater one
 pub record Walks (path : List Float) (points : List PointToDraw) : Type 0 where
@@ -85,7 +82,7 @@ pub record Walks (path : List Float) (points : List PointToDraw) : Type 0 where
 
 -- `length`, of a walk of n points with the last multiplier
 unfoldable pub walkLength : ℕ → Float → Float
-walkLength n last = ofInt binary32 (pos n -ℤ pos 2) ⊗ oneF32 ⊕ last
+walkLength n last = ofInt binary32 (pos n -ℤ pos 2) ⊗ 1·0 ⊕ last
 
 -- points_to_draw[points_to_draw.len() - 1].1
 unfoldable pub lastMultiplier : List PointToDraw → Float

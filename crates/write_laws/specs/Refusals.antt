@@ -13,7 +13,7 @@ use Rattle.codes.specs.Codes.{numberOf}
 use Rattle.codes.specs.declared.Code.{Code}
 use Rattle.codes.specs.declared.Code.the-variants.{Splines, Coord, Points, Delta, Room, Shape}
 use Rattle.shape.specs.Shape.{pointsOf, Shaped}
-use Rattle.writer.specs.Write.{Told, WriteOutcome}
+use Rattle.writer.specs.Write.{WriteTold, WriteOutcome}
 use Rattle.writer.specs.declared.WriteAnswer.{WriteAnswer}
 
 -- a number that can't be written as a start, which may be the first; `fin s m e` has the magnitude m * up e / down e, and is negative where s is true
@@ -90,5 +90,5 @@ pub record Accepted (ns : List ℕ) (ss : List Float) (ds cs : List ℤ) (limit 
 -- an outcome of a refusal: the code's number, its place, no values, and nothing but zeros
 pub record WriteRefused (room : ℕ) (c : Code) (p : ℕ) (o : WriteOutcome) : Type 0 where
   pub answer : o .answer ≡ WriteAnswer.Refused c p
-  pub told : _≡_ {A = Told} (o .told) (record { number = numberOf c; place = p; values = 0 })
+  pub told : _≡_ {A = WriteTold} (o .told) (record { number = numberOf c; place = p; values = 0 })
   pub list : o .list ≡ replicate room 0

@@ -82,20 +82,20 @@ unfoldable pub valuesOf : List ℕ → List Float → List ℤ → List ℤ → 
 valuesOf counts starts deltas coefficients adjustment = listOf (described adjustment (map wholeOf starts) counts deltas coefficients)
 
 -- an answer in the terms of the table of codes: the code's number, the place, and how many values were written
-pub record Told : Type 0 where
+pub record WriteTold : Type 0 where
   pub number : ℕ
   pub place : ℕ
   pub values : ℕ
 
 -- a success is number 0 at place 0; a refusal has a count of 0
-abbrev pub toldOf : WriteAnswer → Told
+abbrev pub toldOf : WriteAnswer → WriteTold
 toldOf (Done n) = record { number = 0; place = 0; values = n }
 toldOf (Refused c p) = record { number = numberOf c; place = p; values = 0 }
 
 -- the answer, what it tells, and every cell of the lent list
 pub record WriteOutcome : Type 0 where
   pub answer : WriteAnswer
-  pub told : Told
+  pub told : WriteTold
   pub list : List ℕ
 
 abbrev pub leaves : WriteAnswer → List ℕ → WriteOutcome

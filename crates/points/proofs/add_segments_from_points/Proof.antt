@@ -4,8 +4,8 @@ use Prim.Native.Nat.{_-_, _/_, _≤_}
 use native.Mathlib.Omega.{arith}
 use borrow.Author.Needs.{needs}
 use lib.ListN.{length}
-use Rattle.numbers.specs.Arith.{_⊘_}
-use Rattle.points.specs.Points.{oneF32, segmentRoom, pointSegment}
+use Rattle.numbers.specs.Arith.{1·0, _⊘_}
+use Rattle.points.specs.Points.{segmentRoom, pointSegment}
 use Rattle.points.proofs.Adding.{Adding, adding-none, adding-all, adding-more, adding-full}
 use Rattle.points.proofs.add_segments_from_points.Statement.{statement}
 use Rattle.points.proofs.add_segments_from_points.Tie as tie
@@ -15,7 +15,7 @@ Inv-loop spline walk walk-length high-precision out₀ from inv-length n count�
     (i ≤ n)
     × (n ≡ length walk / 3)
     × (n ≤ 8388608)
-    × (inv-length ≡ oneF32 ⊘ walk-length)
+    × (inv-length ≡ 1·0 ⊘ walk-length)
     × (length out ≡ length out₀)
     × (count ≤ segmentRoom (length out₀))
     × Adding spline walk-length high-precision walk out₀ from (segmentRoom (length out₀)) out i count
@@ -44,7 +44,7 @@ same-length : tie.Need-same-length Inv-loop μ-loop
 same-length c = omega (arith, c .before .before .before .before .put-made .kept .1 .0)
 
 -- what was made, and what was answered, in terms of all points
-made : (e : tie.After-put-made Inv-loop μ-loop) → e .before .before .point-segment .result ≡ pointSegment (e .before .before .before .before .before .before .before .args .spline) (oneF32 ⊘ e .before .before .before .before .before .before .before .args .walk-length) (e .before .before .before .before .before .before .before .args .high-precision) (e .before .before .before .before .before .before .before .args .walk .now) (e .before .before .before .before .loop .i)
+made : (e : tie.After-put-made Inv-loop μ-loop) → e .before .before .point-segment .result ≡ pointSegment (e .before .before .before .before .before .before .before .args .spline) (1·0 ⊘ e .before .before .before .before .before .before .before .args .walk-length) (e .before .before .before .before .before .before .before .args .high-precision) (e .before .before .before .before .before .before .before .args .walk .now) (e .before .before .before .before .loop .i)
 made e = e .before .before .point-segment .ensures ∙ rw (e .before .before .before .before .loop .inv .3)
 
 returns : tie.Need-returns Inv-loop μ-loop

@@ -4,7 +4,8 @@ use Prim.Native.Nat.{_-_, _*_, _^_, _≤_, _<_}
 use native.Mathlib.Omega.{arith}
 use borrow.Author.Needs.{needs}
 use lib.ListN.{length}
-use Rattle.walk.specs.Walk.{oneF32, walkFrom, walkIn, walkRoom}
+use Rattle.numbers.specs.Arith.{1·0}
+use Rattle.walk.specs.Walk.{walkFrom, walkIn, walkRoom}
 use Rattle.walk.proofs.Walking.{Walking, walking-begin, walking-more, walking-room, walking-end, walking-over, walk-ends, walk-emits, walk-none}
 use Rattle.walk.proofs.walk.Statement.{statement}
 use Rattle.walk.proofs.walk.Tie as tie
@@ -106,7 +107,7 @@ loop-again c =
       omega arith,
       omega arith,
       omega (arith, c .before .before .put33 .kept .0),
-      rw (c .before .before .put33 .ensures) (walking-more _ oneF32 _ (rw e at (l .inv .4)) (omega (arith, l .inv, c .before .before .before .before .before .before .before .before .loop-test))),
+      rw (c .before .before .put33 .ensures) (walking-more _ 1·0 _ (rw e at (l .inv .4)) (omega (arith, l .inv, c .before .before .before .before .before .before .before .before .loop-test))),
     )
 
 same-length-2 : tie.Need-same-length-2 Inv-loop μ-loop
