@@ -2,12 +2,14 @@
 // either made from the other, and its line drawing: `gauge read`, `gauge draw`, `gauge rows`, `gauge bands`, `gauge touch`, `gauge why`, `gauge table`, `gauge check`, `gauge profile`, `gauge trace`, `gauge svg`.
 // A program has no exit status: with `--status` it is written as a digit to descriptor 3 (0: done, 1: refused, 2: wrong use).
 mod arguments;
+mod commands;
 mod options;
 
 ghost use Prim.Native.Nat.{_≤_};
 use arguments::Number;
 use canvas::Asked;
 use canvas::Task;
+use commands::Command;
 use drawing::Wanted;
 use files::Loaded;
 use options::Options;
@@ -64,13 +66,18 @@ fn perform_first(values: &[u32], n: usize, task: Task) -> u8 {
     rooms::of_list(&values[0..n], task)
 }
 
-// What is asked of the text in the file that argument i names.
+// What is asked of the text in the file that argument i names, whose values go to a room.
+fn perform_values(i: usize, text: &[u8], task: Task, values: &mut [u32; VALUES]) -> u8 {
+    match files::parse(i, text, values) {
+        Loaded::Status(status) => status,
+        Loaded::Count(n) => perform_first(values, n, task),
+    }
+}
+
+// The room is lent as an array: its length is then known by its type, and no proof counts its cells.
 fn perform_text(i: usize, text: &[u8], task: Task) -> u8 {
     let mut values = [0u32; VALUES];
-    match files::parse(i, text, &mut values) {
-        Loaded::Status(status) => status,
-        Loaded::Count(n) => perform_first(&values, n, task),
-    }
+    perform_values(i, text, task, &mut values)
 }
 
 // What is asked of the first n bytes, which the file that argument i names has.
@@ -84,13 +91,17 @@ fn perform_bytes(i: usize, bytes: &[u8], n: usize, task: Task) -> u8 {
     }
 }
 
-// What is asked of the file that argument i names.
+// What is asked of the file that argument i names, whose bytes go to a room.
+fn perform_loaded(i: usize, task: Task, bytes: &mut [u8; BYTES]) -> u8 {
+    match files::load(i, bytes) {
+        Loaded::Status(status) => status,
+        Loaded::Count(n) => perform_bytes(i, bytes, n, task),
+    }
+}
+
 fn perform(i: usize, task: Task) -> u8 {
     let mut bytes = [0u8; BYTES];
-    match files::load(i, &mut bytes) {
-        Loaded::Status(status) => status,
-        Loaded::Count(n) => perform_bytes(i, &bytes, n, task),
-    }
+    perform_loaded(i, task, &mut bytes)
 }
 
 // A task of these options, in words to standard output.
@@ -389,13 +400,17 @@ fn svg_first(bytes: &[u8], n: usize, wanted: Wanted) -> u8 {
     drawing::say(&bytes[0..n], wanted)
 }
 
-// The traces of the drawing that argument i names.
+// The traces of the drawing that argument i names, whose bytes go to a room.
+fn svg_loaded(i: u8, wanted: Wanted, bytes: &mut [u8; BYTES]) -> u8 {
+    match files::load(i as usize, bytes) {
+        Loaded::Status(status) => status,
+        Loaded::Count(n) => svg_first(bytes, n, wanted),
+    }
+}
+
 fn svg_in(i: u8, wanted: Wanted) -> u8 {
     let mut bytes = [0u8; BYTES];
-    match files::load(i as usize, &mut bytes) {
-        Loaded::Status(status) => status,
-        Loaded::Count(n) => svg_first(&bytes, n, wanted),
-    }
+    svg_loaded(i, wanted, &mut bytes)
 }
 
 // The same of the trace whose number the next argument is.
@@ -429,92 +444,29 @@ fn svg(i: u8, more: usize, options: Options) -> u8
     }
 }
 
-// Whether the command is this one, with so many words behind it.
-fn is_command(at: u8, word: &[u8]) -> bool {
-    arguments::is_argument(at as usize, word)
-}
-
 // The command with these options, whose words behind it are so many.
 fn run_words(at: u8, more: usize, options: Options) -> u8
     requires { ⌜ at ≤ 20 ⌝ }
 {
-    if is_command(at, b"read") {
-        return if more == 1 {
-            read(at + 1, options)
-        } else {
-            usage()
-        };
+    let command = commands::command_at(at as usize);
+    if !commands::may_have(command, more) {
+        return usage();
     }
-    if is_command(at, b"rows") {
-        return if more == 3 {
-            rows(at + 1, options)
-        } else {
-            usage()
-        };
+    let i = at + 1;
+    match command {
+        Command::Read => read(i, options),
+        Command::Rows => rows(i, options),
+        Command::Bands => table(i, options, Asked::Bands),
+        Command::Touch => touch(i, options),
+        Command::Why => why(i, options),
+        Command::Table => table(i, options, Asked::Table),
+        Command::Check => table(i, options, Asked::Check(i + 3)),
+        Command::Profile => profile(i, more, options),
+        Command::Draw => draw(i, options),
+        Command::Trace => trace(i, options),
+        Command::Svg => svg(i, more, options),
+        Command::None => usage(),
     }
-    if is_command(at, b"touch") {
-        return if more == 5 {
-            touch(at + 1, options)
-        } else {
-            usage()
-        };
-    }
-    if is_command(at, b"why") {
-        return if more == 4 {
-            why(at + 1, options)
-        } else {
-            usage()
-        };
-    }
-    if is_command(at, b"trace") {
-        return if more == 3 {
-            trace(at + 1, options)
-        } else {
-            usage()
-        };
-    }
-    if is_command(at, b"bands") {
-        return if more == 3 {
-            table(at + 1, options, Asked::Bands)
-        } else {
-            usage()
-        };
-    }
-    if is_command(at, b"table") {
-        return if more == 3 {
-            table(at + 1, options, Asked::Table)
-        } else {
-            usage()
-        };
-    }
-    if is_command(at, b"check") {
-        return if more == 4 {
-            table(at + 1, options, Asked::Check(at + 4))
-        } else {
-            usage()
-        };
-    }
-    if is_command(at, b"profile") {
-        if more == 0 {
-            return usage();
-        }
-        return if more < 3 {
-            profile(at + 1, more, options)
-        } else {
-            usage()
-        };
-    }
-    if is_command(at, b"svg") {
-        return svg(at + 1, more, options);
-    }
-    if is_command(at, b"draw") {
-        return if more == 4 {
-            draw(at + 1, options)
-        } else {
-            usage()
-        };
-    }
-    usage()
 }
 
 // The command behind the options that begin at argument `at`.

@@ -95,23 +95,45 @@ fn say_few(segments: &[f32], segment_count: u32, y: u32, listed: usize) -> u8
     )
 }
 
+fn say_missing(y: u32, i: u32, segment_count: u32) -> u8
+    ensures { λ r. ⌜ r ≤ 3 ⌝ }
+{
+    words::wrong(
+        1,
+        b"TABLE (14) at row #: it lists segment #, and there are #, counted from 0\n",
+        &[y as u64, i as u64, segment_count as u64],
+    )
+}
+
+fn say_other(y: u32, i: u32) -> u8
+    ensures { λ r. ⌜ r ≤ 3 ⌝ }
+{
+    words::wrong(
+        1,
+        b"TABLE (14) at row #: it lists segment #, which does not have this row\n",
+        &[y as u64, i as u64],
+    )
+}
+
+fn say_behind(y: u32, i: u32, behind: u32) -> u8
+    ensures { λ r. ⌜ r ≤ 3 ⌝ }
+{
+    words::wrong(
+        1,
+        b"TABLE (14) at row #: it lists segment # behind segment #\n",
+        &[y as u64, i as u64, behind as u64],
+    )
+}
+
 // What is wrong with an entry that stands behind another; 0 where nothing is.
 fn say_entry(segments: &[f32], segment_count: u32, y: u32, i: u32, behind: u32, first: bool) -> u8
     ensures { λ r. ⌜ r ≤ 3 ⌝ }
 {
     if segment_count <= i {
-        return words::wrong(
-            1,
-            b"TABLE (14) at row #: it lists segment #, and there are #, counted from 0\n",
-            &[y as u64, i as u64, segment_count as u64],
-        );
+        return say_missing(y, i, segment_count);
     }
     if has_row(segments, i as usize, y) == 0 {
-        return words::wrong(
-            1,
-            b"TABLE (14) at row #: it lists segment #, which does not have this row\n",
-            &[y as u64, i as u64],
-        );
+        return say_other(y, i);
     }
     if first {
         return 0;
@@ -119,11 +141,7 @@ fn say_entry(segments: &[f32], segment_count: u32, y: u32, i: u32, behind: u32, 
     if behind < i {
         return 0;
     }
-    words::wrong(
-        1,
-        b"TABLE (14) at row #: it lists segment # behind segment #\n",
-        &[y as u64, i as u64, behind as u64],
-    )
+    say_behind(y, i, behind)
 }
 
 // What is wrong with the entries of a row, one after another; or too few are listed.
@@ -144,6 +162,36 @@ fn say_entries(segments: &[f32], segment_count: u32, y: u32, row: &[u32]) -> u8
     say_few(segments, segment_count, y, row.len())
 }
 
+fn say_start(first: u32) -> u8
+    ensures { λ r. ⌜ r ≤ 3 ⌝ }
+{
+    words::wrong(
+        1,
+        b"TABLE (14) at row 0: its start is #, and 0 is due\n",
+        &[first as u64],
+    )
+}
+
+fn say_order(y: u32, first: u32, past: u32) -> u8
+    ensures { λ r. ⌜ r ≤ 3 ⌝ }
+{
+    words::wrong(
+        1,
+        b"TABLE (14) at row #: it starts at #, and the next one before that, at #\n",
+        &[y as u64, first as u64, past as u64],
+    )
+}
+
+fn say_end(y: u32, past: u32, listed: usize) -> u8
+    ensures { λ r. ⌜ r ≤ 3 ⌝ }
+{
+    words::wrong(
+        1,
+        b"TABLE (14) at row #: it ends at #, and there are # entries\n",
+        &[y as u64, past as u64, listed as u64],
+    )
+}
+
 // What is wrong with a row that begins and ends there.
 fn say_row(
     segments: &[f32],
@@ -157,32 +205,30 @@ fn say_row(
 {
     if y == 0 {
         if 0 < first {
-            return words::wrong(
-                1,
-                b"TABLE (14) at row 0: its start is #, and 0 is due\n",
-                &[first as u64],
-            );
+            return say_start(first);
         }
     }
     if past < first {
-        return words::wrong(
-            1,
-            b"TABLE (14) at row #: it starts at #, and the next one before that, at #\n",
-            &[y as u64, first as u64, past as u64],
-        );
+        return say_order(y, first, past);
     }
     if entries.len() < past as usize {
-        return words::wrong(
-            1,
-            b"TABLE (14) at row #: it ends at #, and there are # entries\n",
-            &[y as u64, past as u64, entries.len() as u64],
-        );
+        return say_end(y, past, entries.len());
     }
     say_entries(
         segments,
         segment_count,
         y,
         &entries[first as usize..past as usize],
+    )
+}
+
+fn say_left() -> u8
+    ensures { λ r. ⌜ r ≤ 3 ⌝ }
+{
+    words::wrong(
+        1,
+        b"TABLE (14): entries are left behind the last row, or there are more than a table may have\n",
+        &[],
     )
 }
 
@@ -209,29 +255,40 @@ fn say_wrong(
             );
         }
     }
-    words::wrong(
-        1,
-        b"TABLE (14): entries are left behind the last row, or there are more than a table may have\n",
-        &[],
-    )
+    say_left()
 }
 
 // ---- another maker's
 
-// Whether the numbers are the row starts and the entries of a picture of so many rows.
-fn check_numbers(segments: &[f32], segment_count: u32, height: u32, numbers: &[u32]) -> u8
+fn say_short(starts: usize, numbers: usize) -> u8
     ensures { λ r. ⌜ r ≤ 3 ⌝ }
 {
-    let starts = height as usize + 1;
-    if numbers.len() < starts {
-        return words::wrong(
-            1,
-            b"SHAPE (9): # row starts are due, and there are # numbers\n",
-            &[starts as u64, numbers.len() as u64],
-        );
-    }
-    let row_starts = &numbers[0..starts];
-    let entries = &numbers[starts..];
+    words::wrong(
+        1,
+        b"SHAPE (9): # row starts are due, and there are # numbers\n",
+        &[starts as u64, numbers as u64],
+    )
+}
+
+fn say_yes(n: u32) -> u8
+    ensures { λ r. ⌜ r ≤ 3 ⌝ }
+{
+    words::out(
+        b"yes: this is the table of the picture, with # entries\n",
+        &[n as u64],
+    )
+}
+
+// Whether these are the row starts and the entries of a picture of so many rows.
+fn check_parts(
+    segments: &[f32],
+    segment_count: u32,
+    height: u32,
+    row_starts: &[u32],
+    entries: &[u32],
+) -> u8
+    ensures { λ r. ⌜ r ≤ 3 ⌝ }
+{
     let listed = entries.len();
     if 1073741824 < listed {
         return 1;
@@ -244,14 +301,28 @@ fn check_numbers(segments: &[f32], segment_count: u32, height: u32, numbers: &[u
         entries,
         listed as u32,
     ) {
-        CheckAnswer::Done(n) => words::out(
-            b"yes: this is the table of the picture, with # entries\n",
-            &[n as u64],
-        ),
+        CheckAnswer::Done(n) => say_yes(n),
         CheckAnswer::Refused(_, place) => {
             say_wrong(segments, segment_count, row_starts, entries, height, place)
         }
     }
+}
+
+// The same of numbers, the row starts first.
+fn check_numbers(segments: &[f32], segment_count: u32, height: u32, numbers: &[u32]) -> u8
+    ensures { λ r. ⌜ r ≤ 3 ⌝ }
+{
+    let starts = height as usize + 1;
+    if numbers.len() < starts {
+        return say_short(starts, numbers.len());
+    }
+    check_parts(
+        segments,
+        segment_count,
+        height,
+        &numbers[0..starts],
+        &numbers[starts..],
+    )
 }
 
 // The same of the first k of these numbers.
@@ -262,6 +333,23 @@ fn check_first(segments: &[f32], segment_count: u32, height: u32, numbers: &[u32
         return 1;
     }
     check_numbers(segments, segment_count, height, &numbers[0..k])
+}
+
+// The same of the numbers that a text of the file that argument i names has, which go to a room.
+fn check_parsed(
+    segments: &[f32],
+    segment_count: u32,
+    height: u32,
+    i: u8,
+    bytes: &[u8],
+    numbers: &mut [u32; NUMBERS],
+) -> u8
+    ensures { λ r. ⌜ r ≤ 3 ⌝ }
+{
+    match files::parse(i as usize, bytes, numbers) {
+        Loaded::Status(status) => told(status),
+        Loaded::Count(k) => check_first(segments, segment_count, height, numbers, k),
+    }
 }
 
 // The same of the first n bytes of a text, which the file that argument i names has.
@@ -279,19 +367,37 @@ fn check_text(
         return 1;
     }
     let mut numbers = [0u32; NUMBERS];
-    match files::parse(i as usize, &bytes[0..n], &mut numbers) {
+    check_parsed(
+        segments,
+        segment_count,
+        height,
+        i,
+        &bytes[0..n],
+        &mut numbers,
+    )
+}
+
+// The same of the file that argument i names, whose bytes go to a room.
+fn check_file(
+    segments: &[f32],
+    segment_count: u32,
+    height: u32,
+    i: u8,
+    bytes: &mut [u8; BYTES],
+) -> u8
+    ensures { λ r. ⌜ r ≤ 3 ⌝ }
+{
+    match files::load(i as usize, bytes) {
         Loaded::Status(status) => told(status),
-        Loaded::Count(k) => check_first(segments, segment_count, height, &numbers, k),
+        Loaded::Count(n) => check_text(segments, segment_count, height, i, bytes, n),
     }
 }
 
 // Whether the file that argument i names holds the row starts and the entries of these segments, in a picture of so many rows.
+// The room is lent as an array: its length is then known by its type, and no proof counts its bytes.
 pub fn check(segments: &[f32], segment_count: u32, height: u32, i: u8) -> u8
     ensures { λ r. ⌜ r ≤ 3 ⌝ }
 {
     let mut bytes = [0u8; BYTES];
-    match files::load(i as usize, &mut bytes) {
-        Loaded::Status(status) => told(status),
-        Loaded::Count(n) => check_text(segments, segment_count, height, i, &bytes, n),
-    }
+    check_file(segments, segment_count, height, i, &mut bytes)
 }

@@ -154,6 +154,44 @@ fn pixels_of(task: Task) -> u32 {
     }
 }
 
+// What is asked of a list that is read in lent rooms. They are arrays: the length of each is then known by its type, and no proof counts its cells.
+fn list_in(
+    list: &[u32],
+    task: Task,
+    counts: &mut [u32; SPLINES],
+    starts: &mut [f32; STARTS],
+    deltas: &mut [i32; DELTAS],
+    coefficients: &mut [i32; COEFFICIENTS],
+) -> u8
+    ensures { λ r. ⌜ r ≤ 3 ⌝ }
+{
+    let pixels = pixels_of(task);
+    match reader::read(
+        list,
+        CONFIGURED,
+        pixels,
+        counts,
+        starts,
+        deltas,
+        coefficients,
+    ) {
+        ReadAnswer::Refused(code, place) => {
+            words::of_reading(code, place, list, list::limit(CONFIGURED, pixels))
+        }
+        ReadAnswer::Done(splines, points, adjustment) => answer_first(
+            counts,
+            starts,
+            deltas,
+            coefficients,
+            splines,
+            points,
+            adjustment,
+            Source::List(list.len()),
+            task,
+        ),
+    }
+}
+
 // What is asked of a list; the status.
 pub fn of_list(list: &[u32], task: Task) -> u8
     ensures { λ r. ⌜ r ≤ 3 ⌝ }
@@ -162,28 +200,38 @@ pub fn of_list(list: &[u32], task: Task) -> u8
     let mut starts = [0.0f32; STARTS];
     let mut deltas = [0i32; DELTAS];
     let mut coefficients = [0i32; COEFFICIENTS];
-    let pixels = pixels_of(task);
-    match reader::read(
+    list_in(
         list,
-        CONFIGURED,
-        pixels,
+        task,
         &mut counts,
         &mut starts,
         &mut deltas,
         &mut coefficients,
-    ) {
-        ReadAnswer::Refused(code, place) => {
-            words::of_reading(code, place, list, list::limit(CONFIGURED, pixels))
-        }
-        ReadAnswer::Done(splines, points, adjustment) => answer_first(
-            &counts,
-            &starts,
-            &deltas,
-            &coefficients,
+    )
+}
+
+// What is asked of a trace file that is read in lent rooms.
+fn trace_in(
+    bytes: &[u8],
+    task: Task,
+    counts: &mut [u32; SPLINES],
+    starts: &mut [f32; STARTS],
+    deltas: &mut [i32; DELTAS],
+    coefficients: &mut [i32; COEFFICIENTS],
+) -> u8
+    ensures { λ r. ⌜ r ≤ 3 ⌝ }
+{
+    match trace2_read::trace_read2(bytes, counts, starts, deltas, coefficients) {
+        FileAnswer::Refused(code, place) => words::of_trace(code, place, bytes),
+        FileAnswer::Done(splines, points, adjustment, edition) => answer_first(
+            counts,
+            starts,
+            deltas,
+            coefficients,
             splines,
             points,
             adjustment,
-            Source::List(list.len()),
+            Source::File(bytes.len(), edition),
             task,
         ),
     }
@@ -197,24 +245,12 @@ pub fn of_trace(bytes: &[u8], task: Task) -> u8
     let mut starts = [0.0f32; STARTS];
     let mut deltas = [0i32; DELTAS];
     let mut coefficients = [0i32; COEFFICIENTS];
-    match trace2_read::trace_read2(
+    trace_in(
         bytes,
+        task,
         &mut counts,
         &mut starts,
         &mut deltas,
         &mut coefficients,
-    ) {
-        FileAnswer::Refused(code, place) => words::of_trace(code, place, bytes),
-        FileAnswer::Done(splines, points, adjustment, edition) => answer_first(
-            &counts,
-            &starts,
-            &deltas,
-            &coefficients,
-            splines,
-            points,
-            adjustment,
-            Source::File(bytes.len(), edition),
-            task,
-        ),
-    }
+    )
 }

@@ -140,19 +140,40 @@ fn say_entries(needed: u64) -> u8
     )
 }
 
-// Whether a description has no room for its first spline already.
-fn is_first_short(
+// The spline k was drawn as the first of all: where it has no room then either, its walk is too long, else the segments are too many.
+fn say_drawn(drawn: Drawn, k: usize) -> u8
+    ensures { λ r. ⌜ r ≡ 1 ⌝ }
+{
+    match drawn {
+        Drawn::Count(_) => say_segments(k),
+        Drawn::Short(first) => if first == 0 {
+            say_walk(k)
+        } else {
+            say_segments(k)
+        },
+    }
+}
+
+// The first spline of these, which is the spline k of all and has n points, has no room: its path, which its points tell, its walk, which it then has no room for as the first of all either, or the segments.
+fn say_first(
     counts: &[u32],
     starts: &[f32],
     deltas: &[i32],
     coefficients: &[i32],
     adjustment: i32,
+    k: usize,
+    n: u32,
     path: &mut [f32],
     walk: &mut [f32],
     segments: &mut [f32],
     owners: &mut [u64],
-) -> bool {
-    match draw_all(
+) -> u8
+    ensures { λ r. ⌜ r ≡ 1 ⌝ }
+{
+    if 511 < n {
+        return say_path(k, n);
+    }
+    let drawn = draw_all(
         counts,
         starts,
         deltas,
@@ -163,13 +184,11 @@ fn is_first_short(
         walk,
         segments,
         owners,
-    ) {
-        Drawn::Count(_) => false,
-        Drawn::Short(k) => k == 0,
-    }
+    );
+    say_drawn(drawn, k)
 }
 
-// The spline k has no room: its path, which its points tell, its walk, which it then has no room for as the first of all either, or the segments.
+// The spline k has no room.
 fn say_spline(
     counts: &[u32],
     starts: &[f32],
@@ -197,23 +216,19 @@ fn say_spline(
     if coefficients.len() / 128 <= k {
         return words::of_building(Code::Room, k);
     }
-    if 511 < counts[k] {
-        say_path(k, counts[k])
-    } else if is_first_short(
+    say_first(
         &counts[k..],
         &starts[2 * k..],
         &deltas[at..],
         &coefficients[128 * k..],
         adjustment,
+        k,
+        counts[k],
         path,
         walk,
         segments,
         owners,
-    ) {
-        say_walk(k)
-    } else {
-        say_segments(k)
-    }
+    )
 }
 
 // Which room of the program was too short for a description that was refused for ROOM; the status of a refusal.

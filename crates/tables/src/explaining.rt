@@ -45,21 +45,50 @@ fn say_exact(text: &[u8], size: f32) -> u8
     }
 }
 
+fn say_no_number() -> u8
+    ensures { λ r. ⌜ r ≤ 3 ⌝ }
+{
+    words::out(b" not a number, taken as 0\n", &[])
+}
+
+fn say_below() -> u8
+    ensures { λ r. ⌜ r ≤ 3 ⌝ }
+{
+    words::out(b" below range\n", &[])
+}
+
+fn say_below_taken() -> u8
+    ensures { λ r. ⌜ r ≤ 3 ⌝ }
+{
+    words::out(b" below range, taken as 0\n", &[])
+}
+
+fn say_above() -> u8
+    ensures { λ r. ⌜ r ≤ 3 ⌝ }
+{
+    words::out(b" above range\n", &[])
+}
+
+// An end that is a whole number, below 0 or not.
+fn say_whole(negative: bool, end: f32) -> u8
+    ensures { λ r. ⌜ r ≤ 3 ⌝ }
+{
+    if negative {
+        say_exact(b" exactly -#\n", -end)
+    } else {
+        say_exact(b" exactly #\n", end)
+    }
+}
+
 // An end of the rows, by its kind.
 fn say_row_kind(end: f32) -> u8
     ensures { λ r. ⌜ r ≤ 3 ⌝ }
 {
     match numbers::rounded_to_i64(end) {
-        KindI64::Exact(n) => {
-            if n < 0 {
-                say_exact(b" exactly -#\n", -end)
-            } else {
-                say_exact(b" exactly #\n", end)
-            }
-        }
-        KindI64::NotNumber => words::out(b" not a number, taken as 0\n", &[]),
-        KindI64::Below => words::out(b" below range\n", &[]),
-        KindI64::Above => words::out(b" above range\n", &[]),
+        KindI64::Exact(n) => say_whole(n < 0, end),
+        KindI64::NotNumber => say_no_number(),
+        KindI64::Below => say_below(),
+        KindI64::Above => say_above(),
     }
 }
 
@@ -69,9 +98,9 @@ fn say_column_kind(end: f32) -> u8
 {
     match numbers::rounded_to_u64(end) {
         KindU64::Exact(n) => words::out(b" exactly #\n", &[n]),
-        KindU64::NotNumber => words::out(b" not a number, taken as 0\n", &[]),
-        KindU64::Below => words::out(b" below range, taken as 0\n", &[]),
-        KindU64::Above => words::out(b" above range\n", &[]),
+        KindU64::NotNumber => say_no_number(),
+        KindU64::Below => say_below_taken(),
+        KindU64::Above => say_above(),
     }
 }
 
@@ -109,22 +138,34 @@ fn say_place(x: f32, y: f32, distance: f32) -> u8
     say_number(b"distance", distance)
 }
 
-fn say_ends(x: f32, y: f32, distance: f32) -> u8
+fn say_rows(y: f32, distance: f32) -> u8
     ensures { λ r. ⌜ r ≤ 3 ⌝ }
 {
     let status = say_row(b"first row", y - distance);
     if status != 0 {
         return status;
     }
-    let status = say_row(b"last row", y + distance);
-    if status != 0 {
-        return status;
-    }
+    say_row(b"last row", y + distance)
+}
+
+fn say_columns(x: f32, distance: f32) -> u8
+    ensures { λ r. ⌜ r ≤ 3 ⌝ }
+{
     let status = say_column(b"first column", x - distance);
     if status != 0 {
         return status;
     }
     say_column(b"last column", x + distance)
+}
+
+fn say_ends(x: f32, y: f32, distance: f32) -> u8
+    ensures { λ r. ⌜ r ≤ 3 ⌝ }
+{
+    let status = say_rows(y, distance);
+    if status != 0 {
+        return status;
+    }
+    say_columns(x, distance)
 }
 
 fn say_segment(n: usize, owner: u64, x: f32, y: f32, distance: f32) -> u8
@@ -141,16 +182,22 @@ fn say_segment(n: usize, owner: u64, x: f32, y: f32, distance: f32) -> u8
     say_ends(x, y, distance)
 }
 
+fn say_missing(segment_count: u32) -> u8
+    ensures { λ r. ⌜ r ≤ 3 ⌝ }
+{
+    words::wrong(
+        2,
+        b"no segment has this number: there are #, counted from 0\n",
+        &[segment_count as u64],
+    )
+}
+
 // The segment n of so many.
 pub fn say(segments: &[f32], owners: &[u64], segment_count: u32, n: u32) -> u8
     ensures { λ r. ⌜ r ≤ 3 ⌝ }
 {
     if segment_count <= n {
-        return words::wrong(
-            2,
-            b"no segment has this number: there are #, counted from 0\n",
-            &[segment_count as u64],
-        );
+        return say_missing(segment_count);
     }
     let k = n as usize;
     if segments.len() / 8 <= k {
