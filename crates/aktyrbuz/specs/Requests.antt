@@ -1,4 +1,4 @@
--- The later requests, as named statements on outcomes that the proved contracts of the calls allow (specs/Calls.antt). proofs/Requests.antt proves each, and proofs/PointsTexts.antt most of (iv). Definitions only.
+-- The later requests, as named statements on outcomes that the proved contracts of the calls allow (specs/Calls.antt). proofs/Requests.antt proves each, but proofs/PointsTexts.antt most of (iv) and proofs/Bands.antt those on bands. Definitions only.
 use mathlib.Core.Path.{_≡_}
 use mathlib.Core.Bool.{Bool, true, false}
 use mathlib.Core.Logic.{_↔_, _⊎_}
