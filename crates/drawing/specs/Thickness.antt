@@ -9,10 +9,17 @@ use Rattle.numbers.specs.Magnitude.{absOf}
 use Rattle.numbers.specs.Whole.{roundOf}
 use Rattle.dequantize.specs.Coefficients.{invAdjustedQuant}
 
--- by a first sigma coefficient, whose weight is 0.3333
+-- sigma's of CHANNEL_WEIGHT
+abbrev 0·3333 : Float
+0·3333 = f 0x3eaaa64c
+
+abbrev 200·0 : Float
+200·0 = f 0x43480000
+
+-- by a first sigma coefficient
 unfoldable pub meanSigma : ℤ → ℤ → Float
-meanSigma sigma adjustment = ofInt binary32 sigma ⊗ f 0x3eaaa64c ⊗ invAdjustedQuant adjustment
+meanSigma sigma adjustment = ofInt binary32 sigma ⊗ 0·3333 ⊗ invAdjustedQuant adjustment
 
 -- twice that, in hundredths of a pixel
 unfoldable pub hundredthsOf : Float → ℕ
-hundredthsOf mean = toUnsigned 64 (roundOf binary32 (f 0x43480000 ⊗ absOf mean))
+hundredthsOf mean = toUnsigned 64 (roundOf binary32 (200·0 ⊗ absOf mean))
