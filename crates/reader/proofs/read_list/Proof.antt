@@ -23,12 +23,12 @@ enum-told c = search needs
 returns : tie.Need-returns
 returns c =
     let a = c .before .before .before .before .before .before .args in
-    list-stop _ Code.Short 0 _ _ _ _ _ _ _ _ (read-short (a .limit) (roomsOf (a .counts .now) (a .starts .now) (a .deltas .now) (a .coefficients .now)) (a .list .now) (cc))
+    list-stop _ Code.Short 0 _ _ _ _ _ _ _ _ (read-short (a .limit) (roomsOf (a .counts .now) (a .starts .now) (a .deltas .now) (a .coefficients .now)) (a .list .now) (sym (c .before .before .head .ensures) ∙ c .enum-told .given .1))
 
 returns-2 : tie.Need-returns-2
 returns-2 c =
     let a = c .before .before .before .before .before .before .before .before .args in
-    list-stop _ Code.Splines 0 _ _ _ _ _ _ _ _ (read-splines (a .limit) (roomsOf (a .counts .now) (a .starts .now) (a .deltas .now) (a .coefficients .now)) (a .list .now) (c .before .before .v .given .0 .0) (cc) (omega arith))
+    list-stop _ Code.Splines 0 _ _ _ _ _ _ _ _ (read-splines (a .limit) (roomsOf (a .counts .now) (a .starts .now) (a .deltas .now) (a .coefficients .now)) (a .list .now) (c .before .before .v .given .0 .0) (sym (c .before .before .before .before .head .ensures) ∙ c .before .before .v .given .1) (omega arith))
 
 add-s : tie.Need-add-s
 add-s c = search needs
@@ -39,7 +39,7 @@ cast-n c = search needs
 returns-3 : tie.Need-returns-3
 returns-3 c =
     let a = c .before .before .before .before .before .before .before .before .before .args in
-    list-stop _ Code.Room 0 _ _ _ _ _ _ _ _ (no-counts (a .limit) (roomsOf (a .counts .now) (a .starts .now) (a .deltas .now) (a .coefficients .now)) (a .list .now) (c .before .before .before .v .given .0 .0) (cc) (omega arith) (omega arith))
+    list-stop _ Code.Room 0 _ _ _ _ _ _ _ _ (no-counts (a .limit) (roomsOf (a .counts .now) (a .starts .now) (a .deltas .now) (a .coefficients .now)) (a .list .now) (c .before .before .before .v .given .0 .0) (sym (c .before .before .before .before .before .head .ensures) ∙ c .before .before .before .v .given .1) (c .before .if1 .left) (c .if2 .taken))
 
 mul-if3 : tie.Need-mul-if3
 mul-if3 c = search needs
@@ -47,7 +47,7 @@ mul-if3 c = search needs
 returns-4 : tie.Need-returns-4
 returns-4 c =
     let a = c .before .before .before .before .before .before .before .before .before .before .args in
-    list-stop _ Code.Room 0 _ _ _ _ _ _ _ _ (no-starts (a .limit) (roomsOf (a .counts .now) (a .starts .now) (a .deltas .now) (a .coefficients .now)) (a .list .now) (c .before .before .before .before .v .given .0 .0) (cc) (omega arith) (omega arith) (omega arith))
+    list-stop _ Code.Room 0 _ _ _ _ _ _ _ _ (no-starts (a .limit) (roomsOf (a .counts .now) (a .starts .now) (a .deltas .now) (a .coefficients .now)) (a .list .now) (c .before .before .before .before .v .given .0 .0) (sym (c .before .before .before .before .before .before .head .ensures) ∙ c .before .before .before .before .v .given .1) (c .before .before .if1 .left) (c .before .if2 .left) (c .if3 .taken))
 
 mul-if4 : tie.Need-mul-if4
 mul-if4 c = search needs
@@ -55,13 +55,13 @@ mul-if4 c = search needs
 returns-5 : tie.Need-returns-5
 returns-5 c =
     let a = c .before .before .before .before .before .before .before .before .before .before .before .args in
-    list-stop _ Code.Room 0 _ _ _ _ _ _ _ _ (no-coefficients (a .limit) (roomsOf (a .counts .now) (a .starts .now) (a .deltas .now) (a .coefficients .now)) (a .list .now) (c .before .before .before .before .before .v .given .0 .0) (cc) (omega arith) (omega arith) (omega arith) (omega arith))
+    list-stop _ Code.Room 0 _ _ _ _ _ _ _ _ (no-coefficients (a .limit) (roomsOf (a .counts .now) (a .starts .now) (a .deltas .now) (a .coefficients .now)) (a .list .now) (c .before .before .before .before .before .v .given .0 .0) (sym (c .before .before .before .before .before .before .before .head .ensures) ∙ c .before .before .before .before .before .v .given .1) (c .before .before .before .if1 .left) (c .before .before .if2 .left) (c .before .if3 .left) (c .if4 .taken))
 
 sub-rest : tie.Need-sub-rest
-sub-rest c = omega (arith, ap length (next-is (c .before .before .before .before .before .before .before .before .before .before .before .args .list .now) (c .before .before .before .before .before .v .given .0 .0) (cc)))
+sub-rest c = omega (arith, ap length (next-is (c .before .before .before .before .before .before .before .before .before .before .before .args .list .now) (c .before .before .before .before .before .v .given .0 .0) (sym (c .before .before .before .before .before .before .before .head .ensures) ∙ c .before .before .before .before .before .v .given .1)))
 
 part-rest-start : tie.Need-part-rest-start
-part-rest-start c = omega (arith, ap length (next-is (c .before .before .before .before .before .before .before .before .before .before .before .args .list .now) (c .before .before .before .before .before .v .given .0 .0) (cc)))
+part-rest-start c = omega (arith, ap length (next-is (c .before .before .before .before .before .before .before .before .before .before .before .args .list .now) (c .before .before .before .before .before .v .given .0 .0) (sym (c .before .before .before .before .before .before .before .head .ensures) ∙ c .before .before .before .before .before .v .given .1)))
 
 part-rest-end : tie.Need-part-rest-end
 part-rest-end c = search needs
@@ -87,7 +87,7 @@ sub-read-rest c =
     let v = c .before .before .before .before .before .before .before .before .before .before .before .before .v .given .0 .0 in
     let g = c .before .before .before .before .read-starts in
     let rest = take (length (a .list .now) - 1) (drop 1 (a .list .now)) in
-    read-long (a .limit) (roomsOf (a .counts .now) (a .starts .now) (a .deltas .now) (a .coefficients .now)) (a .list .now) rest v (cc) (omega arith) (omega arith) (omega arith) (omega arith) (part-tail 1 (a .list .now))
+    read-long (a .limit) (roomsOf (a .counts .now) (a .starts .now) (a .deltas .now) (a .coefficients .now)) (a .list .now) rest v (sym (c .before .before .before .before .before .before .before .before .before .before .before .before .before .before .head .ensures) ∙ c .before .before .before .before .before .before .before .before .before .before .before .before .v .given .1) (c .before .before .before .before .before .before .before .before .before .before .if1 .left) (c .before .before .before .before .before .before .before .before .before .if2 .left) (c .before .before .before .before .before .before .before .before .if3 .left) (c .before .before .before .before .before .before .before .if4 .left) (part-tail 1 (a .list .now))
     (a .starts .now) (g .last .1 .1 .1 .0) (rw (c .enum-told2 .given .1) at (g .ensures))
 
 part-read-rest-start : tie.Need-part-read-rest-start
@@ -100,7 +100,7 @@ read-rest-requires : tie.Need-read-rest-requires
 read-rest-requires c κs = search needs
 
 same-length : tie.Need-same-length
-same-length c = search needs
+same-length c = c .before .before .before .before .before .read-starts .kept .1 .1 .1 .0
 
 returns-6 : tie.Need-returns-6
 returns-6 c =
@@ -108,20 +108,20 @@ returns-6 c =
     let v = c .before .before .before .before .before .before .before .before .before .before .before .before .before .v .given .0 .0 in
     let g = c .before .before .before .before .before .read-starts in
     let rest = take (length (a .list .now) - 1) (drop 1 (a .list .now)) in
-    list-stop _ (c .before .c .given .0 .0) (c .before .c .given .0 .1 .0) _ _ _ _ _ _ _ _ (read-starts-stop (a .limit) (roomsOf (a .counts .now) (a .starts .now) (a .deltas .now) (a .coefficients .now)) (a .list .now) rest v (cc) (omega arith) (omega arith) (omega arith) (omega arith) (part-tail 1 (a .list .now))
+    list-stop _ (c .before .c .given .0 .0) (c .before .c .given .0 .1 .0) _ _ _ _ _ _ _ _ (read-starts-stop (a .limit) (roomsOf (a .counts .now) (a .starts .now) (a .deltas .now) (a .coefficients .now)) (a .list .now) rest v (sym (c .before .before .before .before .before .before .before .before .before .before .before .before .before .before .before .head .ensures) ∙ c .before .before .before .before .before .before .before .before .before .before .before .before .before .v .given .1) (c .before .before .before .before .before .before .before .before .before .before .before .if1 .left) (c .before .before .before .before .before .before .before .before .before .before .if2 .left) (c .before .before .before .before .before .before .before .before .before .if3 .left) (c .before .before .before .before .before .before .before .before .if4 .left) (part-tail 1 (a .list .now))
     (a .starts .now) (g .last .1 .1 .1 .0) (c .before .c .given .0 .0) (c .before .c .given .0 .1 .0) (rw (c .before .c .given .1) at (g .ensures)))
 
 same-length-2 : tie.Need-same-length-2
-same-length-2 c = search needs
+same-length-2 c = c .before .before .before .before .read-rest .kept .1 .1 .1 .1 .0
 
 same-length-3 : tie.Need-same-length-3
-same-length-3 c = search needs
+same-length-3 c = c .before .before .before .before .before .before .before .before .before .before .before .before .before .read-starts .kept .1 .1 .1 .0
 
 same-length-4 : tie.Need-same-length-4
-same-length-4 c = search needs
+same-length-4 c = c .before .before .before .before .read-rest .kept .1 .1 .1 .1 .1 .0
 
 same-length-5 : tie.Need-same-length-5
-same-length-5 c = search needs
+same-length-5 c = c .before .before .before .before .read-rest .kept .1 .1 .1 .1 .1 .1 .0
 
 returns-7 : tie.Need-returns-7
 returns-7 c =
@@ -129,7 +129,7 @@ returns-7 c =
     let v = c .before .before .before .before .before .before .before .before .before .before .before .before .before .before .before .before .before .before .before .before .before .v .given .0 .0 in
     let g = c .before .before .before .before .before .before .before .before .before .before .before .before .before .read-starts in
     let rest = take (length (a .list .now) - 1) (drop 1 (a .list .now)) in
-    let t = c .before .before .before .before .read-rest in read-after (a .limit) (roomsOf (a .counts .now) (a .starts .now) (a .deltas .now) (a .coefficients .now)) (a .list .now) rest v (sym (c .before .before .before .before .before .before .before .before .before .before .before .before .before .before .before .before .before .before .before .before .before .before .before .head .ensures) ∙ c .before .before .before .before .before .before .before .before .before .before .before .before .before .before .before .before .before .before .before .before .before .v .given .1) (omega arith) (omega arith) (omega arith) (omega arith) (part-tail 1 (a .list .now))
+    let t = c .before .before .before .before .read-rest in read-after (a .limit) (roomsOf (a .counts .now) (a .starts .now) (a .deltas .now) (a .coefficients .now)) (a .list .now) rest v (sym (c .before .before .before .before .before .before .before .before .before .before .before .before .before .before .before .before .before .before .before .before .before .before .before .head .ensures) ∙ c .before .before .before .before .before .before .before .before .before .before .before .before .before .before .before .before .before .before .before .before .before .v .given .1) (c .before .before .before .before .before .before .before .before .before .before .before .before .before .before .before .before .before .before .before .if1 .left) (c .before .before .before .before .before .before .before .before .before .before .before .before .before .before .before .before .before .before .if2 .left) (c .before .before .before .before .before .before .before .before .before .before .before .before .before .before .before .before .before .if3 .left) (c .before .before .before .before .before .before .before .before .before .before .before .before .before .before .before .before .if4 .left) (part-tail 1 (a .list .now))
     (a .starts .now) (g .last .1 .1 .1 .0) (rw (c .before .before .before .before .before .before .before .before .before .enum-told2 .given .1) at (g .ensures)) (take (length rest - 2 * (v + 1)) (drop (2 * (v + 1)) rest)) (part-tail (2 * (v + 1)) rest) (t .result) (a .counts .now) (t .last .1 .1 .1 .1 .0) (a .deltas .now) (t .last .1 .1 .1 .1 .1 .0) (a .coefficients .now) (t .last .1 .1 .1 .1 .1 .1 .0) (t .ensures)
 
 pub read-list-spec : {M : Type 1} → statement M
