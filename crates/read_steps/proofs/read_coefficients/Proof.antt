@@ -1,5 +1,5 @@
 -- `read_steps::read_coefficients` meets its contract. What is read stands before `i`, and the rest of the list gives what is left.
-use mathlib.Core.Path.{_≡_, refl, ap, _∙_}
+use mathlib.Core.Path.{_≡_, refl, ap, _∙_, sym}
 use Prim.Native.Nat.{_-_, _≤_}
 use native.Mathlib.Omega.{arith}
 use borrow.Author.Needs.{needs}
@@ -33,14 +33,14 @@ enum-told : tie.Need-enum-told Inv-loop μ-loop
 enum-told c = search needs
 
 same-length : tie.Need-same-length Inv-loop μ-loop
-same-length c = search needs
+same-length c = c .before .before .before .before .loop .inv .1
 
 returns : tie.Need-returns Inv-loop μ-loop
 returns c =
     let a = c .before .before .before .before .before .before .args in
     let v = c .before .before .before .before .loop in
     filled-stop _ (take (v .i) (v .out)) _ _ Code.Short (a .total)
-    (v .inv .3 ∙ rw (coefficients-short (a .total) (a .n - v .i) (v .rest .now) (omega arith) (cc)))
+    (v .inv .3 ∙ rw (coefficients-short (a .total) (a .n - v .i) (v .rest .now) (omega arith) (sym (c .before .before .head .ensures) ∙ c .enum-told .given .1)))
 
 unpack-signed-requires : tie.Need-unpack-signed-requires Inv-loop μ-loop
 unpack-signed-requires c κs = search needs
@@ -52,10 +52,10 @@ slice-set-from-out : tie.Need-slice-set-from-out Inv-loop μ-loop
 slice-set-from-out c = search needs
 
 sub-rest : tie.Need-sub-rest Inv-loop μ-loop
-sub-rest c = omega (arith, ap length (next-is (c .before .before .before .before .before .before .loop .rest .now) (c .before .before .a .given .0 .0) (cc)))
+sub-rest c = omega (arith, ap length (next-is (c .before .before .before .before .before .before .loop .rest .now) (c .before .before .a .given .0 .0) (sym (c .before .before .before .before .head .ensures) ∙ c .before .before .a .given .1)))
 
 part-rest-start : tie.Need-part-rest-start Inv-loop μ-loop
-part-rest-start c = omega (arith, ap length (next-is (c .before .before .before .before .before .before .loop .rest .now) (c .before .before .a .given .0 .0) (cc)))
+part-rest-start c = omega (arith, ap length (next-is (c .before .before .before .before .before .before .loop .rest .now) (c .before .before .a .given .0 .0) (sym (c .before .before .before .before .head .ensures) ∙ c .before .before .a .given .1)))
 
 part-rest-end : tie.Need-part-rest-end Inv-loop μ-loop
 part-rest-end c = search needs
@@ -75,11 +75,11 @@ loop-again c =
       omega arith,
       simp length-set (v .inv .1),
       keep-one (v .out) (a .out .now) (v .i) _ (v .inv .2),
-      rw z (coefficients-more (a .total) (a .n) (v .i) (a .list .now) (v .rest .now) (v .out) x (v .inv .3) (omega arith) (omega arith) (cc)),
+      rw z (coefficients-more (a .total) (a .n) (v .i) (a .list .now) (v .rest .now) (v .out) x (v .inv .3) (omega arith) (omega arith) (sym (c .before .before .before .before .before .head .ensures) ∙ c .before .before .before .a .given .1)),
     )
 
 same-length-2 : tie.Need-same-length-2 Inv-loop μ-loop
-same-length-2 c = search needs
+same-length-2 c = c .before .loop .inv .1
 
 returns-2 : tie.Need-returns-2 Inv-loop μ-loop
 unfolding coefficientsOf

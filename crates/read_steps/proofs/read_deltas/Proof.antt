@@ -1,5 +1,5 @@
 -- `read_steps::read_deltas` meets its contract. What is read stands before `i`, and the rest of the list gives what is left.
-use mathlib.Core.Path.{_≡_, refl, ap, _∙_}
+use mathlib.Core.Path.{_≡_, refl, ap, _∙_, sym}
 use Prim.Native.Nat.{_+_, _-_, _*_, _≤_}
 use native.Mathlib.Omega.{arith}
 use borrow.Author.Needs.{needs}
@@ -31,14 +31,14 @@ enum-told : tie.Need-enum-told Inv-loop μ-loop
 enum-told c = search needs
 
 same-length : tie.Need-same-length Inv-loop μ-loop
-same-length c = search needs
+same-length c = c .before .before .before .before .loop .inv .1
 
 returns : tie.Need-returns Inv-loop μ-loop
 returns c =
     let a = c .before .before .before .before .before .before .args in
     let v = c .before .before .before .before .loop in
     filled-stop _ (take (v .i) (v .out)) _ _ Code.Short (a .total)
-    (v .inv .4 ∙ rw (deltas-short (a .total) (v .left) (v .rest .now) (omega arith) (cc)))
+    (v .inv .4 ∙ rw (deltas-short (a .total) (v .left) (v .rest .now) (omega arith) (sym (c .before .before .two .ensures) ∙ c .enum-told .given .1)))
 
 wild-requires : tie.Need-wild-requires Inv-loop μ-loop
 wild-requires c κs = search needs
@@ -47,14 +47,14 @@ sub-place : tie.Need-sub-place Inv-loop μ-loop
 sub-place c = search needs
 
 same-length-2 : tie.Need-same-length-2 Inv-loop μ-loop
-same-length-2 c = search needs
+same-length-2 c = c .before .before .before .before .before .before .before .loop .inv .1
 
 returns-2 : tie.Need-returns-2 Inv-loop μ-loop
 returns-2 c =
     let a = c .before .before .before .before .before .before .before .before .before .args in
     let v = c .before .before .before .before .before .before .before .loop in
     filled-stop _ (take (v .i) (v .out)) _ _ Code.Delta (a .total - length (v .rest .now))
-    (v .inv .4 ∙ rw (deltas-wild (a .total) (v .left) (v .rest .now) (c .before .before .before .a .given .0 .0) (c .before .before .before .a .given .0 .1 .0) (omega arith) (cc) (cc)))
+    (v .inv .4 ∙ rw (deltas-wild (a .total) (v .left) (v .rest .now) (c .before .before .before .a .given .0 .0) (c .before .before .before .a .given .0 .1 .0) (omega arith) (sym (c .before .before .before .before .before .two .ensures) ∙ c .before .before .before .a .given .1) (sym (c .before .wild .ensures) ∙ c .if1 .taken)))
 
 unpack-signed-requires : tie.Need-unpack-signed-requires Inv-loop μ-loop
 unpack-signed-requires c κs = search needs
@@ -78,10 +78,10 @@ slice-set-from-out-2 : tie.Need-slice-set-from-out-2 Inv-loop μ-loop
 slice-set-from-out-2 c = simp length-set (omega arith)
 
 sub-rest : tie.Need-sub-rest Inv-loop μ-loop
-sub-rest c = omega (arith, ap length (pair-is (c .before .before .before .before .before .before .before .before .before .loop .rest .now) (c .before .before .before .before .before .a .given .0 .0) (c .before .before .before .before .before .a .given .0 .1 .0) (cc)))
+sub-rest c = omega (arith, ap length (pair-is (c .before .before .before .before .before .before .before .before .before .loop .rest .now) (c .before .before .before .before .before .a .given .0 .0) (c .before .before .before .before .before .a .given .0 .1 .0) (sym (c .before .before .before .before .before .before .before .two .ensures) ∙ c .before .before .before .before .before .a .given .1)))
 
 part-rest-start : tie.Need-part-rest-start Inv-loop μ-loop
-part-rest-start c = omega (arith, ap length (pair-is (c .before .before .before .before .before .before .before .before .before .loop .rest .now) (c .before .before .before .before .before .a .given .0 .0) (c .before .before .before .before .before .a .given .0 .1 .0) (cc)))
+part-rest-start c = omega (arith, ap length (pair-is (c .before .before .before .before .before .before .before .before .before .loop .rest .now) (c .before .before .before .before .before .a .given .0 .0) (c .before .before .before .before .before .a .given .0 .1 .0) (sym (c .before .before .before .before .before .before .before .two .ensures) ∙ c .before .before .before .before .before .a .given .1)))
 
 part-rest-end : tie.Need-part-rest-end Inv-loop μ-loop
 part-rest-end c = search needs
@@ -107,11 +107,11 @@ loop-again c =
       simp length-set (v .inv .1),
       omega (arith, c .rest .given .2),
       keep-two (v .out) (a .out .now) (v .i) _ _ (v .inv .3),
-      rw (zx, zy) (deltas-more (a .total) (a .n) (v .left) (v .i) (a .list .now) (v .rest .now) (v .out) x y (v .inv .4) (omega arith) (omega arith) (cc) (cc)),
+      rw (zx, zy) (deltas-more (a .total) (a .n) (v .left) (v .i) (a .list .now) (v .rest .now) (v .out) x y (v .inv .4) (omega arith) (omega arith) (sym (c .before .before .before .before .before .before .before .before .two .ensures) ∙ c .before .before .before .before .before .before .a .given .1) (sym (c .before .before .before .before .wild .ensures) ∙ c .before .before .before .if1 .left)),
     )
 
 same-length-3 : tie.Need-same-length-3 Inv-loop μ-loop
-same-length-3 c = search needs
+same-length-3 c = c .before .loop .inv .1
 
 returns-3 : tie.Need-returns-3 Inv-loop μ-loop
 unfolding deltasOf

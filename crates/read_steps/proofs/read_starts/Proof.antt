@@ -1,5 +1,5 @@
 -- `read_steps::read_starts` meets its contract. What is read stands before `i`, and the rest of the list, after the last start, gives what is left.
-use mathlib.Core.Path.{_≡_, refl, ap, _∙_}
+use mathlib.Core.Path.{_≡_, refl, ap, _∙_, sym}
 use mathlib.Core.Bool.{true, false}
 use Prim.Native.Nat.{_+_, _-_, _*_, _≤_, _<_, _^_}
 use native.Mathlib.Omega.{arith}
@@ -37,14 +37,14 @@ enum-told : tie.Need-enum-told Inv-loop μ-loop
 enum-told c = search needs
 
 same-length : tie.Need-same-length Inv-loop μ-loop
-same-length c = search needs
+same-length c = c .before .before .before .before .loop .inv .1
 
 returns : tie.Need-returns Inv-loop μ-loop
 returns c =
     let a = c .before .before .before .before .before .before .before .args in
     let v = c .before .before .before .before .loop in
     filled-stop _ (take (v .i) (v .out)) _ _ Code.Short (a .total)
-    (v .inv .6 ∙ rw (starts-short (a .total) (v .first) (toZ w64 (v .last-x)) (toZ w64 (v .last-y)) (v .left) (v .rest .now) (omega arith) (cc)))
+    (v .inv .6 ∙ rw (starts-short (a .total) (v .first) (toZ w64 (v .last-x)) (toZ w64 (v .last-y)) (v .left) (v .rest .now) (omega arith) (sym (c .before .before .two .ensures) ∙ c .enum-told .given .1)))
 
 coordinate-of-requires : tie.Need-coordinate-of-requires Inv-loop μ-loop
 coordinate-of-requires c κs = search needs
@@ -59,7 +59,7 @@ sub-place : tie.Need-sub-place Inv-loop μ-loop
 sub-place c = search needs
 
 same-length-2 : tie.Need-same-length-2 Inv-loop μ-loop
-same-length-2 c = search needs
+same-length-2 c = c .before .before .before .before .before .before .before .before .before .loop .inv .1
 
 returns-2 : tie.Need-returns-2 Inv-loop μ-loop
 returns-2 c =
@@ -70,7 +70,7 @@ returns-2 c =
     let judged : beyond posLimit (c .before .before .before .coordinate-of .result) (c .before .before .coordinate-of2 .result) ≡ true
     = judge zx zy (c .before .far .ensures) (c .if1 .taken) in
     filled-stop _ (take (v .i) (v .out)) _ _ Code.Coord (a .total - length (v .rest .now))
-    (v .inv .6 ∙ rw (starts-far (a .total) (v .first) (toZ w64 (v .last-x)) (toZ w64 (v .last-y)) (c .before .before .before .coordinate-of .result) (c .before .before .coordinate-of2 .result) (v .left) (v .rest .now) (c .before .before .before .before .before .a .given .0 .0) (c .before .before .before .before .before .a .given .0 .1 .0) (omega arith) (cc) (cc) (cc) judged))
+    (v .inv .6 ∙ rw (starts-far (a .total) (v .first) (toZ w64 (v .last-x)) (toZ w64 (v .last-y)) (c .before .before .before .coordinate-of .result) (c .before .before .coordinate-of2 .result) (v .left) (v .rest .now) (c .before .before .before .before .before .a .given .0 .0) (c .before .before .before .before .before .a .given .0 .1 .0) (omega arith) (sym (c .before .before .before .before .before .before .before .two .ensures) ∙ c .before .before .before .before .before .a .given .1) (c .before .before .before .coordinate-of .ensures) (c .before .before .coordinate-of2 .ensures) judged))
 
 start-of-requires : tie.Need-start-of-requires Inv-loop μ-loop
 start-of-requires c κs =
@@ -106,10 +106,10 @@ slice-write-out-2 : tie.Need-slice-write-out-2 Inv-loop μ-loop
 slice-write-out-2 c = simp length-set (omega arith)
 
 sub-rest : tie.Need-sub-rest Inv-loop μ-loop
-sub-rest c = omega (arith, ap length (pair-is (c .before .before .before .before .before .before .before .before .before .before .before .loop .rest .now) (c .before .before .before .before .before .before .before .a .given .0 .0) (c .before .before .before .before .before .before .before .a .given .0 .1 .0) (cc)))
+sub-rest c = omega (arith, ap length (pair-is (c .before .before .before .before .before .before .before .before .before .before .before .loop .rest .now) (c .before .before .before .before .before .before .before .a .given .0 .0) (c .before .before .before .before .before .before .before .a .given .0 .1 .0) (sym (c .before .before .before .before .before .before .before .before .before .two .ensures) ∙ c .before .before .before .before .before .before .before .a .given .1)))
 
 part-rest-start : tie.Need-part-rest-start Inv-loop μ-loop
-part-rest-start c = omega (arith, ap length (pair-is (c .before .before .before .before .before .before .before .before .before .before .before .loop .rest .now) (c .before .before .before .before .before .before .before .a .given .0 .0) (c .before .before .before .before .before .before .before .a .given .0 .1 .0) (cc)))
+part-rest-start c = omega (arith, ap length (pair-is (c .before .before .before .before .before .before .before .before .before .before .before .loop .rest .now) (c .before .before .before .before .before .before .before .a .given .0 .0) (c .before .before .before .before .before .before .before .a .given .0 .1 .0) (sym (c .before .before .before .before .before .before .before .before .before .two .ensures) ∙ c .before .before .before .before .before .before .before .a .given .1)))
 
 part-rest-end : tie.Need-part-rest-end Inv-loop μ-loop
 part-rest-end c = search needs
@@ -144,11 +144,11 @@ loop-again c =
       as-small zy (near .1),
       rw (c .before .before .start-of .ensures, c .before .start-of2 .ensures, zx, zy)
           (starts-more (a .total) (a .n) (v .left) (v .i) (a .list .now) (v .rest .now) (v .out) (v .first) (toZ w64 (v .last-x)) (toZ w64 (v .last-y)) x y ux uy
-          (v .inv .6) (omega arith) (omega arith) (cc) (cc) (cc) (cc)),
+          (v .inv .6) (omega arith) (omega arith) (sym (c .before .before .before .before .before .before .before .before .before .before .two .ensures) ∙ c .before .before .before .before .before .before .before .before .a .given .1) (c .before .before .before .before .before .before .coordinate-of .ensures) (c .before .before .before .before .before .coordinate-of2 .ensures) judged),
     )
 
 same-length-3 : tie.Need-same-length-3 Inv-loop μ-loop
-same-length-3 c = search needs
+same-length-3 c = c .before .loop .inv .1
 
 returns-3 : tie.Need-returns-3 Inv-loop μ-loop
 unfolding startsOf
