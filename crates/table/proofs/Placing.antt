@@ -32,7 +32,7 @@ use Rattle.rows.specs.Rows as listing
 use Rattle.rows.proofs.Table.{rest-same}
 use Rattle.faint.specs.Faint.{faintIn}
 use Rattle.table.specs.declared.BuildAnswer.the-variants.{Done, Refused}
-use Rattle.table.specs.Table.{BuildRooms, Setting, givenOf, leaves, zeros, refusedWith, verdictOf, afterRows, afterPaint, buildOf}
+use Rattle.table.specs.Table.{BuildRooms, BuildOutcome, Setting, roomsOf, givenOf, leaves, zeros, refusedWith, verdictOf, afterRows, afterPaint, buildOf}
 
 -- ---- a buffer that is cleared behind what it keeps
 
@@ -85,6 +85,16 @@ module _ (r : BuildRooms) (height estimate : ℕ) where
         w,
         s,
       )
+
+-- the same, said of what the call before left: its buffers are as long as they were
+module _ (path walk segments : List Float) (owners starts entries : List ℕ) (path′ walk′ segments′ : List Float) (owners′ : List ℕ) (a : length path′ ≡ length path) (b : length walk′ ≡ length walk) (c : length segments′ ≡ length segments) (d : length owners′ ≡ length owners)
+    (height estimate : ℕ) (p : Painted) {x : BuildOutcome} where
+  pub refused-none : (k : ℕ) → x ≡ refusedWith (roomsOf path′ walk′ segments′ owners′ starts entries) Code.Room k → drawnOf p ≡ Drawn.Room k → x ≡ afterPaint (roomsOf path walk segments owners starts entries) height estimate p
+  refused-none k e q = (rw (a, b, c, d) at e) ∙ painted-none (roomsOf path walk segments owners starts entries) height estimate p k q
+
+  pub listed-all : (n : ℕ) → x ≡ afterRows (roomsOf path′ walk′ segments′ owners′ starts entries) estimate n (take (8 * n) segments′) (take n owners′) (built (inRow segments′) n height (length starts) (length entries)) → On p segments segments′ owners owners′ → drawnOf p ≡ Drawn.Count n
+      → x ≡ afterPaint (roomsOf path walk segments owners starts entries) height estimate p
+  listed-all n e h q = (rw (a, b, c, d) at e) ∙ painted-all (roomsOf path walk segments owners starts entries) height estimate segments segments′ owners owners′ p h n q
 
 -- ---- the whole build
 

@@ -47,13 +47,13 @@ returns : tie.Need-returns
 returns c = rw (sym (c .before .before .starting-point .ensures) ∙ c .enum-told .given .1) (refl, tt)
 
 same-length : tie.Need-same-length
-same-length c = search needs
+same-length c = c .before .before .before .before .before .before .draw-spline .kept .1 .1 .1 .1 .0
 
 same-length-2 : tie.Need-same-length-2
-same-length-2 c = search needs
+same-length-2 c = c .before .before .before .before .before .before .draw-spline .kept .1 .1 .1 .1 .1 .0
 
 same-length-3 : tie.Need-same-length-3
-same-length-3 c = search needs
+same-length-3 c = c .before .before .before .before .before .before .draw-spline .kept .1 .1 .1 .1 .1 .1 .0
 
 returns-2 : tie.Need-returns-2
 returns-2 c = rw (sym (c .before .before .before .before .before .before .before .before .before .before .before .before .before .starting-point .ensures) ∙ c .before .before .before .before .before .before .before .before .before .before .before .start .given .1, ← c .before .before .before .before .before .before .before .before .before .before .before .before .before .before .before .before .spline-at .ensures) (c .before .before .before .before .before .before .draw-spline .ensures)

@@ -41,13 +41,13 @@ returns-2 c =
     for-hidden (A .known) (A .whole) (A .splines) (A .bits .now) (A .desk) (A .y) (A .x0) (A .n) (three (A .r0 .now) (A .r1 .now) (A .r2 .now)) (c .before .before .before .before .before .before .span-good .ensures) (sym (c .before .before .before .before .before .judge-for .ensures) ∙ c .before .before .before .enum-told .given .1) (sym (c .before .hidden .ensures) ∙ c .if1 .taken)
 
 same-length : tie.Need-same-length
-same-length c = search needs
+same-length c = c .before .before .before .before .before .before .draw-alone .kept .1 .1 .1 .1 .1 .0
 
 same-length-2 : tie.Need-same-length-2
-same-length-2 c = search needs
+same-length-2 c = c .before .before .before .before .before .before .draw-alone .kept .1 .1 .1 .1 .1 .1 .0
 
 same-length-3 : tie.Need-same-length-3
-same-length-3 c = search needs
+same-length-3 c = c .before .before .before .before .before .before .draw-alone .kept .1 .1 .1 .1 .1 .1 .1 .0
 
 returns-3 : tie.Need-returns-3
 returns-3 c =

@@ -7,14 +7,10 @@ use Rattle.curve.specs.Curve.{pathRoom}
 use Rattle.walk.specs.Walk.{walkRoom}
 use Rattle.owners.specs.Owners.{ownedRoom}
 use Rattle.painting.specs.Painting.{Painted, paintOf}
-use Rattle.table.specs.Table.{BuildRooms, roomsOf}
-use Rattle.table.proofs.Placing.{painted-fits, painted-none, painted-all}
+use Rattle.table.proofs.Placing.{painted-fits, refused-none, listed-all}
 use borrow.Author.Needs.{needs}
 use Rattle.table.proofs.paint.Statement.{statement}
 use Rattle.table.proofs.paint.Tie as tie
-
-abbrev rooms : tie.Start → BuildRooms
-rooms s = roomsOf (s .args .path .now) (s .args .walk .now) (s .args .segments .now) (s .args .owners .now) (s .args .row-starts .now) (s .args .entries .now)
 
 abbrev painted : tie.Start → Painted
 painted s = paintOf (descriptionOf (s .args .counts .now) (s .args .starts .now) (s .args .deltas .now) (s .args .coefficients .now)) (s .args .given) (s .args .high-precision) (pathRoom (length (s .args .path .now))) (walkRoom (length (s .args .walk .now))) (ownedRoom (length (s .args .segments .now)) (length (s .args .owners .now)))
@@ -39,54 +35,54 @@ list-segments-requires c κs =
     (omega (arith, f .0, d .kept .1 .1 .1 .1 .1 .1 .1 .1 .0), omega (arith, f .1, d .kept .1 .1 .1 .1 .1 .1 .1 .1 .1 .0), f .2, s .pre .2, s .pre .3)
 
 same-length : tie.Need-same-length
-same-length c = search needs
+same-length c = c .before .before .before .before .before .before .before .before .before .before .before .before .refuse .kept .1 .1 .0 ∙ c .before .before .before .before .before .before .before .before .before .before .before .before .before .before .before .before .before .before .before .before .before .before .before .before .before .before .before .before .before .before .draw-all .kept .1 .1 .1 .1 .1 .1 .0
 
 same-length-2 : tie.Need-same-length-2
-same-length-2 c = search needs
+same-length-2 c = c .before .before .before .before .before .before .before .before .before .before .before .before .refuse .kept .1 .1 .1 .0 ∙ c .before .before .before .before .before .before .before .before .before .before .before .before .before .before .before .before .before .before .before .before .before .before .before .before .before .before .before .before .before .before .draw-all .kept .1 .1 .1 .1 .1 .1 .1 .0
 
 same-length-3 : tie.Need-same-length-3
-same-length-3 c = search needs
+same-length-3 c = c .before .before .before .before .before .before .before .before .before .before .before .before .refuse .kept .1 .1 .1 .1 .0 ∙ c .before .before .before .before .before .before .before .before .before .before .before .before .before .before .before .before .before .before .before .before .before .before .before .before .before .before .before .before .before .before .draw-all .kept .1 .1 .1 .1 .1 .1 .1 .1 .0
 
 same-length-4 : tie.Need-same-length-4
-same-length-4 c = search needs
+same-length-4 c = c .before .before .before .before .before .before .before .before .before .before .before .before .refuse .kept .1 .1 .1 .1 .1 .0 ∙ c .before .before .before .before .before .before .before .before .before .before .before .before .before .before .before .before .before .before .before .before .before .before .before .before .before .before .before .before .before .before .draw-all .kept .1 .1 .1 .1 .1 .1 .1 .1 .1 .0
 
 same-length-5 : tie.Need-same-length-5
-same-length-5 c = search needs
+same-length-5 c = c .before .before .before .before .before .before .before .before .before .before .before .before .refuse .kept .1 .1 .1 .1 .1 .1 .0
 
 same-length-6 : tie.Need-same-length-6
-same-length-6 c = search needs
+same-length-6 c = c .before .before .before .before .before .before .before .before .before .before .before .before .refuse .kept .1 .1 .1 .1 .1 .1 .1 .0
 
 returns : tie.Need-returns
 returns c =
     let s = c .before .before .before .before .before .before .before .before .before .before .before .before .before .before .before .before .before .before .before .before .before .before .before .before .before .before .before .before .before .before .before .before .before .before .before .before .before .before .before .before .before .before .before in
     let d = c .before .before .before .before .before .before .before .before .before .before .before .before .before .before .before .before .before .before .before .before .before .before .before .before .before .before .before .before .before .before .draw-all in
-    (rw (d .kept .1 .1 .1 .1 .1 .1 .0, d .kept .1 .1 .1 .1 .1 .1 .1 .0, d .kept .1 .1 .1 .1 .1 .1 .1 .1 .0, d .kept .1 .1 .1 .1 .1 .1 .1 .1 .1 .0) at (c .before .before .before .before .before .before .before .before .before .before .before .before .refuse .ensures))
-    ∙ painted-none (rooms s) (s .args .height) (s .args .estimate) (painted s) (c .before .before .before .before .before .before .before .before .before .before .before .before .before .before .before .before .before .before .before .before .k .given .0 .0) (sym (d .ensures .0) ∙ c .before .before .before .before .before .before .before .before .before .before .before .before .before .before .before .before .before .before .before .before .k .given .1)
+    refused-none (s .args .path .now) (s .args .walk .now) (s .args .segments .now) (s .args .owners .now) (s .args .row-starts .now) (s .args .entries .now) (d .last .1 .1 .1 .1 .1 .1 .0) (d .last .1 .1 .1 .1 .1 .1 .1 .0) (d .last .1 .1 .1 .1 .1 .1 .1 .1 .0) (d .last .1 .1 .1 .1 .1 .1 .1 .1 .1 .0) (d .kept .1 .1 .1 .1 .1 .1 .0) (d .kept .1 .1 .1 .1 .1 .1 .1 .0) (d .kept .1 .1 .1 .1 .1 .1 .1 .1 .0) (d .kept .1 .1 .1 .1 .1 .1 .1 .1 .1 .0)
+    (s .args .height) (s .args .estimate) (painted s) (c .before .before .before .before .before .before .before .before .before .before .before .before .before .before .before .before .before .before .before .before .k .given .0 .0) (c .before .before .before .before .before .before .before .before .before .before .before .before .refuse .ensures) (sym (d .ensures .0) ∙ c .before .before .before .before .before .before .before .before .before .before .before .before .before .before .before .before .before .before .before .before .k .given .1)
 
 same-length-7 : tie.Need-same-length-7
-same-length-7 c = search needs
+same-length-7 c = c .before .before .before .before .before .before .before .before .before .before .before .before .list-segments .kept .1 .1 .1 .0 ∙ c .before .before .before .before .before .before .before .before .before .before .before .before .before .before .before .before .before .before .before .before .before .before .before .before .before .before .before .before .before .before .draw-all .kept .1 .1 .1 .1 .1 .1 .0
 
 same-length-8 : tie.Need-same-length-8
-same-length-8 c = search needs
+same-length-8 c = c .before .before .before .before .before .before .before .before .before .before .before .before .list-segments .kept .1 .1 .1 .1 .0 ∙ c .before .before .before .before .before .before .before .before .before .before .before .before .before .before .before .before .before .before .before .before .before .before .before .before .before .before .before .before .before .before .draw-all .kept .1 .1 .1 .1 .1 .1 .1 .0
 
 same-length-9 : tie.Need-same-length-9
-same-length-9 c = search needs
+same-length-9 c = c .before .before .before .before .before .before .before .before .before .before .before .before .list-segments .kept .1 .1 .1 .1 .1 .0 ∙ c .before .before .before .before .before .before .before .before .before .before .before .before .before .before .before .before .before .before .before .before .before .before .before .before .before .before .before .before .before .before .draw-all .kept .1 .1 .1 .1 .1 .1 .1 .1 .0
 
 same-length-10 : tie.Need-same-length-10
-same-length-10 c = search needs
+same-length-10 c = c .before .before .before .before .before .before .before .before .before .before .before .before .list-segments .kept .1 .1 .1 .1 .1 .1 .0 ∙ c .before .before .before .before .before .before .before .before .before .before .before .before .before .before .before .before .before .before .before .before .before .before .before .before .before .before .before .before .before .before .draw-all .kept .1 .1 .1 .1 .1 .1 .1 .1 .1 .0
 
 same-length-11 : tie.Need-same-length-11
-same-length-11 c = search needs
+same-length-11 c = c .before .before .before .before .before .before .before .before .before .before .before .before .list-segments .kept .1 .1 .1 .1 .1 .1 .1 .0
 
 same-length-12 : tie.Need-same-length-12
-same-length-12 c = search needs
+same-length-12 c = c .before .before .before .before .before .before .before .before .before .before .before .before .list-segments .kept .1 .1 .1 .1 .1 .1 .1 .1 .0
 
 returns-2 : tie.Need-returns-2
 returns-2 c =
     let s = c .before .before .before .before .before .before .before .before .before .before .before .before .before .before .before .before .before .before .before .before .before .before .before .before .before .before .before .before .before .before .before .before .before .before .before .before .before .before .before .before .before .before .before in
     let d = c .before .before .before .before .before .before .before .before .before .before .before .before .before .before .before .before .before .before .before .before .before .before .before .before .before .before .before .before .before .before .draw-all in
-    (rw (d .kept .1 .1 .1 .1 .1 .1 .0, d .kept .1 .1 .1 .1 .1 .1 .1 .0, d .kept .1 .1 .1 .1 .1 .1 .1 .1 .0, d .kept .1 .1 .1 .1 .1 .1 .1 .1 .1 .0) at (c .before .before .before .before .before .before .before .before .before .before .before .before .list-segments .ensures))
-    ∙ painted-all (rooms s) (s .args .height) (s .args .estimate) (s .args .segments .now) (d .last .1 .1 .1 .1 .1 .1 .1 .1 .0) (s .args .owners .now) (d .last .1 .1 .1 .1 .1 .1 .1 .1 .1 .0) (painted s) (d .ensures .1) (c .before .before .before .before .before .before .before .before .before .before .before .before .before .before .before .before .before .before .before .before .count .given .0 .0) (sym (d .ensures .0) ∙ c .before .before .before .before .before .before .before .before .before .before .before .before .before .before .before .before .before .before .before .before .count .given .1)
+    listed-all (s .args .path .now) (s .args .walk .now) (s .args .segments .now) (s .args .owners .now) (s .args .row-starts .now) (s .args .entries .now) (d .last .1 .1 .1 .1 .1 .1 .0) (d .last .1 .1 .1 .1 .1 .1 .1 .0) (d .last .1 .1 .1 .1 .1 .1 .1 .1 .0) (d .last .1 .1 .1 .1 .1 .1 .1 .1 .1 .0) (d .kept .1 .1 .1 .1 .1 .1 .0) (d .kept .1 .1 .1 .1 .1 .1 .1 .0) (d .kept .1 .1 .1 .1 .1 .1 .1 .1 .0) (d .kept .1 .1 .1 .1 .1 .1 .1 .1 .1 .0)
+    (s .args .height) (s .args .estimate) (painted s) (c .before .before .before .before .before .before .before .before .before .before .before .before .before .before .before .before .before .before .before .before .count .given .0 .0) (c .before .before .before .before .before .before .before .before .before .before .before .before .list-segments .ensures) (d .ensures .1) (sym (d .ensures .0) ∙ c .before .before .before .before .before .before .before .before .before .before .before .before .before .before .before .before .before .before .before .before .count .given .1)
 
 pub paint-spec : {M : Type 1} → statement M
 paint-spec =
