@@ -44,7 +44,8 @@ impl Counter {
     }
 }
 
-/// Whether the processor says that qemu emulates it.
+/// Whether the processor says that qemu emulates it; elsewhere than on x86-64 what runs was compiled for the machine (tools/native).
+#[cfg(target_arch = "x86_64")]
 pub fn emulated() -> bool {
     /// The part of the processor's description that a hypervisor or an emulator signs.
     const SIGNED: u32 = 0x4000_0000;
@@ -53,4 +54,9 @@ pub fn emulated() -> bool {
     let signature = unsafe { std::arch::x86_64::__cpuid(SIGNED) };
     [signature.ebx, signature.ecx, signature.edx].map(u32::to_le_bytes)
         == [*b"TCGT", *b"CGTC", *b"GTCG"]
+}
+
+#[cfg(not(target_arch = "x86_64"))]
+pub fn emulated() -> bool {
+    false
 }

@@ -12,7 +12,8 @@ pub fn stack_of<F: FnMut()>(mut call: F) -> usize {
     // SAFETY: the end of the buffer, rounded down to 16 bytes as the C interface asks.
     let top = unsafe { stack.as_mut_ptr().add(STACK) };
     let top = top.wrapping_sub(top as usize % 16);
-    // SAFETY: `run` takes the call that `argument` points to; r12 outlives any C function; the buffer is used by nothing else.
+    // SAFETY: `run` takes the call that its argument points to; r12 or x20 outlives any C function; the buffer is used by nothing else.
+    #[cfg(target_arch = "x86_64")]
     unsafe {
         asm!(
             "mov r12, rsp",
@@ -23,6 +24,20 @@ pub fn stack_of<F: FnMut()>(mut call: F) -> usize {
             run = in(reg) run::<F> as extern "C" fn(*mut F),
             in("rdi") &raw mut call,
             out("r12") _,
+            clobber_abi("C"),
+        );
+    }
+    #[cfg(target_arch = "aarch64")]
+    unsafe {
+        asm!(
+            "mov x20, sp",
+            "mov sp, {top}",
+            "blr {run}",
+            "mov sp, x20",
+            top = in(reg) top,
+            run = in(reg) run::<F> as extern "C" fn(*mut F),
+            in("x0") &raw mut call,
+            out("x20") _,
             clobber_abi("C"),
         );
     }
