@@ -52,7 +52,7 @@ cast-e c = omega (arith, c .shared-slice-known7 .given (c .before .before .befor
 draw-entries-requires : tie.Need-draw-entries-requires
 draw-entries-requires c κs =
     let f = judged-fine _ _ _ _ _ _ _ _ (sym (c .before .before .before .before .before .before .before .before .judge .ensures) ∙ c .before .before .before .before .before .before .enum-told .given .1) in
-    (omega arith, ((search (f .row .table .all-named), search (f .row .all-owned)), (omega arith, omega arith)))
+    (omega arith, ((f .row .table .all-named, f .row .all-owned), (omega arith, omega arith)))
 
 returns : tie.Need-returns
 returns c =
