@@ -5,7 +5,12 @@ use crate::finding;
 use text::Parsed;
 use writer::WriteAnswer;
 
-const DELTAS: usize = 32768;
+// A text below this takes no more double deltas than there is room for in the short room: two numbers for at least four bytes.
+const SHORT_TEXT: usize = 65536;
+
+const SHORT_DELTAS: usize = 32768;
+
+const DELTAS: usize = 2097152;
 
 // Which traces are asked for: all, or that of a number.
 pub enum Wanted {
@@ -69,16 +74,40 @@ fn say_first(number: u64, x: f32, y: f32, deltas: &[i32], n: usize) -> u8
     say_trace(number, x, y, &deltas[0..2 * n])
 }
 
-// A trace by its text of points.
-fn say_points(number: u64, text: &[u8]) -> u8
+// A trace by its text of points, whose double deltas go to a room.
+fn say_read(number: u64, text: &[u8], deltas: &mut [i32]) -> u8
     ensures { λ r. ⌜ r ≤ 3 ⌝ }
 {
     let mut start = [0.0f32; 2];
-    let mut deltas = [0i32; DELTAS];
-    match polyline_read::points_read(text, &mut start, &mut deltas) {
+    match polyline_read::points_read(text, &mut start, deltas) {
         WriteAnswer::Refused(code, place) => words::of_points(code, place, number, text.len()),
-        WriteAnswer::Done(n) => say_first(number, start[0], start[1], &deltas, n),
+        WriteAnswer::Done(n) => say_first(number, start[0], start[1], deltas, n),
     }
+}
+
+// The rooms are lent as arrays: the length of each is then known by its type, and no proof counts its cells.
+fn say_short(number: u64, text: &[u8], deltas: &mut [i32; SHORT_DELTAS]) -> u8
+    ensures { λ r. ⌜ r ≤ 3 ⌝ }
+{
+    say_read(number, text, deltas)
+}
+
+fn say_long(number: u64, text: &[u8], deltas: &mut [i32; DELTAS]) -> u8
+    ensures { λ r. ⌜ r ≤ 3 ⌝ }
+{
+    say_read(number, text, deltas)
+}
+
+// Of so many traces each has its room cleared, so that a short text gets a short one.
+fn say_points(number: u64, text: &[u8]) -> u8
+    ensures { λ r. ⌜ r ≤ 3 ⌝ }
+{
+    if text.len() < SHORT_TEXT {
+        let mut deltas = [0i32; SHORT_DELTAS];
+        return say_short(number, text, &mut deltas);
+    }
+    let mut deltas = [0i32; DELTAS];
+    say_long(number, text, &mut deltas)
 }
 
 fn is_wanted(wanted: Wanted, number: u64) -> bool {

@@ -6,7 +6,7 @@ use dequantize::coefficients::inv_adjusted_quant;
 use writer::WriteAnswer;
 
 // The text of a spline that has all the points that this program has room for: a pair takes 17 bytes at most, and one parts it from the next.
-const TEXT: usize = 294930;
+const TEXT: usize = 18874386;
 
 // The status, after a line that says why the file could not be written.
 fn unwritten() -> u8
@@ -151,7 +151,34 @@ fn begin(fd: i32, width: u32, height: u32) -> bool {
         == 0
 }
 
-// The drawing of a description in an image of this size; the status.
+// The drawing of a description in an image of this size, each text of points in a room first. The room is lent as an array: its length is then known by its type, and no proof counts its cells.
+fn write_in(
+    counts: &[u32],
+    starts: &[f32],
+    deltas: &[i32],
+    coefficients: &[i32],
+    adjustment: i32,
+    width: u32,
+    height: u32,
+    fd: i32,
+    text: &mut [u8; TEXT],
+) -> u8
+    ensures { λ r. ⌜ r ≤ 3 ⌝ }
+{
+    if !begin(fd, width, height) {
+        return unwritten();
+    }
+    let status = traces(counts, starts, deltas, coefficients, adjustment, fd, text);
+    if status != 0 {
+        return status;
+    }
+    if !io::write_all(fd, b"</svg>\n") {
+        return unwritten();
+    }
+    words::out(b"# traces\n", &[counts.len() as u64])
+}
+
+// The same; the status.
 pub fn write(
     counts: &[u32],
     starts: &[f32],
@@ -165,23 +192,15 @@ pub fn write(
     ensures { λ r. ⌜ r ≤ 3 ⌝ }
 {
     let mut text = [0u8; TEXT];
-    if !begin(fd, width, height) {
-        return unwritten();
-    }
-    let status = traces(
+    write_in(
         counts,
         starts,
         deltas,
         coefficients,
         adjustment,
+        width,
+        height,
         fd,
         &mut text,
-    );
-    if status != 0 {
-        return status;
-    }
-    if !io::write_all(fd, b"</svg>\n") {
-        return unwritten();
-    }
-    words::out(b"# traces\n", &[counts.len() as u64])
+    )
 }

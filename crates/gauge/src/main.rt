@@ -13,11 +13,18 @@ use commands::Command;
 use drawing::Wanted;
 use files::Loaded;
 use options::Options;
+use rooms::Told;
 
-const VALUES: usize = 65536;
+// As many as a list of 4096 splines and 2^20 points has.
+const VALUES: usize = 2633730;
 
-// More than a file may have, so that one that fills it is known to be too long.
-const BYTES: usize = 524288;
+// A value of a list takes 11 bytes at most, with what parts it from the next, and a trace file is shorter; and more, so that a file that fills it is known to be too long.
+const BYTES: usize = 33554432;
+
+// A text that does not fill this has no more values than the room below has.
+const SHORT_BYTES: usize = 65536;
+
+const SHORT_VALUES: usize = 32768;
 
 // The size of an image or a pixel of it, by two arguments.
 enum Two {
@@ -67,41 +74,128 @@ fn perform_first(values: &[u32], n: usize, task: Task) -> u8 {
 }
 
 // What is asked of the text in the file that argument i names, whose values go to a room.
-fn perform_values(i: usize, text: &[u8], task: Task, values: &mut [u32; VALUES]) -> u8 {
+fn perform_text(i: usize, text: &[u8], task: Task, values: &mut [u32; VALUES]) -> u8 {
     match files::parse(i, text, values) {
+        Loaded::Long => 2,
         Loaded::Status(status) => status,
         Loaded::Count(n) => perform_first(values, n, task),
     }
 }
 
-// The room is lent as an array: its length is then known by its type, and no proof counts its cells.
-fn perform_text(i: usize, text: &[u8], task: Task) -> u8 {
-    let mut values = [0u32; VALUES];
-    perform_values(i, text, task, &mut values)
-}
-
 // What is asked of the first n bytes, which the file that argument i names has.
-fn perform_bytes(i: usize, bytes: &[u8], n: usize, task: Task) -> u8 {
+fn perform_bytes(i: usize, bytes: &[u8], n: usize, task: Task, values: &mut [u32; VALUES]) -> u8 {
     if bytes.len() < n {
         return 2;
     }
     match kind_at(i) {
         Kind::Trace => rooms::of_trace(&bytes[0..n], task),
-        _ => perform_text(i, &bytes[0..n], task),
+        _ => perform_text(i, &bytes[0..n], task, values),
     }
 }
 
-// What is asked of the file that argument i names, whose bytes go to a room.
-fn perform_loaded(i: usize, task: Task, bytes: &mut [u8; BYTES]) -> u8 {
-    match files::load(i, bytes) {
+// What is asked of an open file, which argument i names. The rooms are lent as arrays: the length of each is then known by its type, and no proof counts its cells.
+fn perform_in(
+    i: usize,
+    fd: i32,
+    task: Task,
+    bytes: &mut [u8; BYTES],
+    values: &mut [u32; VALUES],
+) -> u8 {
+    match files::fill(i, fd, bytes) {
+        Loaded::Long => files::say_long(i, BYTES - 1),
         Loaded::Status(status) => status,
-        Loaded::Count(n) => perform_bytes(i, bytes, n, task),
+        Loaded::Count(n) => perform_bytes(i, bytes, n, task, values),
+    }
+}
+
+// What is asked of an open file, in rooms for all that this program takes.
+fn perform_long(i: usize, fd: i32, task: Task) -> u8 {
+    let mut bytes = [0u8; BYTES];
+    let mut values = [0u32; VALUES];
+    perform_in(i, fd, task, &mut bytes, &mut values)
+}
+
+// What a list holds, the first n of the values.
+fn tell_first(values: &[u32], n: usize) -> Told {
+    if values.len() < n {
+        return Told::Status(2);
+    }
+    rooms::tell_list(&values[0..n])
+}
+
+fn tell_text(i: usize, text: &[u8], values: &mut [u32; SHORT_VALUES]) -> Told {
+    match files::parse(i, text, values) {
+        Loaded::Long => Told::Room,
+        Loaded::Status(status) => Told::Status(status),
+        Loaded::Count(n) => tell_first(values, n),
+    }
+}
+
+// What the first n bytes hold, which the file that argument i names has.
+fn tell_bytes(i: usize, bytes: &[u8], n: usize, values: &mut [u32; SHORT_VALUES]) -> Told {
+    if bytes.len() < n {
+        return Told::Status(2);
+    }
+    match kind_at(i) {
+        Kind::Trace => rooms::tell_trace(&bytes[0..n]),
+        _ => tell_text(i, &bytes[0..n], values),
+    }
+}
+
+fn tell_in(
+    i: usize,
+    fd: i32,
+    bytes: &mut [u8; SHORT_BYTES],
+    values: &mut [u32; SHORT_VALUES],
+) -> Told {
+    match files::fill(i, fd, bytes) {
+        Loaded::Long => Told::Room,
+        Loaded::Status(status) => Told::Status(status),
+        Loaded::Count(n) => tell_bytes(i, bytes, n, values),
+    }
+}
+
+// What an open file holds, in rooms that fit a small stack.
+fn tell_short(i: usize, fd: i32) -> Told {
+    let mut bytes = [0u8; SHORT_BYTES];
+    let mut values = [0u32; SHORT_VALUES];
+    tell_in(i, fd, &mut bytes, &mut values)
+}
+
+// The file that argument i names, open; below 0 where it is not, after a line that says why.
+fn open(i: usize) -> i32 {
+    let mut held = io::buffer();
+    let n = os::arg(i, &mut held);
+    let path = &held[..n];
+    let fd = os::open_read(path);
+    if fd < 0 {
+        os::fail(path);
+    }
+    fd
+}
+
+// What an open file holds. One that is too long is read again; a pipe, which has no position, can be read only once.
+fn read_open(i: usize, fd: i32, task: Task) -> u8 {
+    if libc::lseek(fd, 0, libc::SEEK_CUR) < 0 {
+        return perform_long(i, fd, task);
+    }
+    match tell_short(i, fd) {
+        Told::Status(status) => status,
+        Told::Room => {
+            libc::lseek(fd, 0, libc::SEEK_SET);
+            perform_long(i, fd, task)
+        }
     }
 }
 
 fn perform(i: usize, task: Task) -> u8 {
-    let mut bytes = [0u8; BYTES];
-    perform_loaded(i, task, &mut bytes)
+    let fd = open(i);
+    if fd < 0 {
+        return 2;
+    }
+    let status = perform_long(i, fd, task);
+    libc::close(fd);
+    status
 }
 
 // A task of these options, in words to standard output.
@@ -122,7 +216,13 @@ fn task(options: Options, width: u32, height: u32, asked: Asked) -> Task {
 }
 
 fn read(i: u8, options: Options) -> u8 {
-    perform(i as usize, task(options, 0, 0, Asked::Told))
+    let fd = open(i as usize);
+    if fd < 0 {
+        return 2;
+    }
+    let status = read_open(i as usize, fd, task(options, 0, 0, Asked::Told));
+    libc::close(fd);
+    status
 }
 
 fn is_within(n: u32, most: u32) -> bool {
@@ -403,6 +503,7 @@ fn svg_first(bytes: &[u8], n: usize, wanted: Wanted) -> u8 {
 // The traces of the drawing that argument i names, whose bytes go to a room.
 fn svg_loaded(i: u8, wanted: Wanted, bytes: &mut [u8; BYTES]) -> u8 {
     match files::load(i as usize, bytes) {
+        Loaded::Long => files::say_long(i as usize, BYTES - 1),
         Loaded::Status(status) => status,
         Loaded::Count(n) => svg_first(bytes, n, wanted),
     }

@@ -5,10 +5,11 @@ use files::Loaded;
 use makers::CheckAnswer;
 use segments::Segment;
 
-// More than a text may have, so that one that fills it is known to be too long.
-const BYTES: usize = 524288;
+// A start of 16385 takes nine bytes and an entry of 2^24 takes eight, each with what parts it from the next; and more, so that a text that fills it is known to be too long.
+const BYTES: usize = 135266304;
 
-const NUMBERS: usize = 65536;
+// As many starts and entries as a table of this program has.
+const NUMBERS: usize = 16793601;
 
 // ---- ours
 
@@ -347,6 +348,7 @@ fn check_parsed(
     ensures { λ r. ⌜ r ≤ 3 ⌝ }
 {
     match files::parse(i as usize, bytes, numbers) {
+        Loaded::Long => 1,
         Loaded::Status(status) => told(status),
         Loaded::Count(k) => check_first(segments, segment_count, height, numbers, k),
     }
@@ -388,6 +390,7 @@ fn check_file(
     ensures { λ r. ⌜ r ≤ 3 ⌝ }
 {
     match files::load(i as usize, bytes) {
+        Loaded::Long => files::say_long(i as usize, BYTES - 1),
         Loaded::Status(status) => told(status),
         Loaded::Count(n) => check_text(segments, segment_count, height, i, bytes, n),
     }

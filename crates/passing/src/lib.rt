@@ -5,10 +5,11 @@ ghost use Prim.Native.Nat.{_≤_};
 use codes::Code;
 use writer::WriteAnswer;
 
-// As much as a trace file of 512 splines and 16384 points has, of version 2.
-const BYTES: usize = 399396;
+// As much as a trace file of 4096 splines and 2^20 points has, of version 2.
+const BYTES: usize = 10534948;
 
-const VALUES: usize = 65536;
+// As much as a list of such a description has.
+const VALUES: usize = 2633730;
 
 // The usual configured limit, and no limit by pixels.
 const CONFIGURED: u32 = 1048576;
@@ -55,7 +56,37 @@ fn refuse(code: Code, place: usize) -> u8
     words::of_trace(code, place, &[])
 }
 
-// `gauge trace out`, in a file of version 2 with this edition, or of version 1 where the edition is 0; the status.
+// A trace file that goes to a room first, in version 2 with this edition, or in version 1 where the edition is 0. The room is lent as an array: its length is then known by its type, and no proof counts its cells.
+fn trace_in(
+    counts: &[u32],
+    starts: &[f32],
+    deltas: &[i32],
+    coefficients: &[i32],
+    adjustment: i32,
+    edition: u32,
+    fd: i32,
+    bytes: &mut [u8; BYTES],
+) -> u8
+    ensures { λ r. ⌜ r ≤ 3 ⌝ }
+{
+    let version = if edition == 0 { 1 } else { 2 };
+    let held = if edition == 0 { 1 } else { edition };
+    match trace2_write::trace_write2(
+        counts,
+        starts,
+        deltas,
+        coefficients,
+        adjustment,
+        version,
+        held,
+        bytes,
+    ) {
+        WriteAnswer::Refused(code, place) => refuse(code, place),
+        WriteAnswer::Done(n) => write_trace(fd, bytes, n),
+    }
+}
+
+// `gauge trace out`; the status.
 pub fn as_trace(
     counts: &[u32],
     starts: &[f32],
@@ -68,20 +99,44 @@ pub fn as_trace(
     ensures { λ r. ⌜ r ≤ 3 ⌝ }
 {
     let mut bytes = [0u8; BYTES];
-    let version = if edition == 0 { 1 } else { 2 };
-    let held = if edition == 0 { 1 } else { edition };
-    match trace2_write::trace_write2(
+    trace_in(
         counts,
         starts,
         deltas,
         coefficients,
         adjustment,
-        version,
-        held,
+        edition,
+        fd,
         &mut bytes,
+    )
+}
+
+// A list that goes to a room first.
+fn list_in(
+    counts: &[u32],
+    starts: &[f32],
+    deltas: &[i32],
+    coefficients: &[i32],
+    adjustment: i32,
+    fd: i32,
+    list: &mut [u32; VALUES],
+) -> u8
+    ensures { λ r. ⌜ r ≤ 3 ⌝ }
+{
+    match writer::write(
+        counts,
+        starts,
+        deltas,
+        coefficients,
+        adjustment,
+        CONFIGURED,
+        PIXELS,
+        list,
     ) {
-        WriteAnswer::Refused(code, place) => refuse(code, place),
-        WriteAnswer::Done(n) => write_trace(fd, &bytes, n),
+        WriteAnswer::Refused(code, place) => {
+            words::of_writing(code, place, counts.len(), CONFIGURED)
+        }
+        WriteAnswer::Done(n) => write_list(fd, list, n, counts),
     }
 }
 
@@ -97,19 +152,13 @@ pub fn as_list(
     ensures { λ r. ⌜ r ≤ 3 ⌝ }
 {
     let mut list = [0u32; VALUES];
-    match writer::write(
+    list_in(
         counts,
         starts,
         deltas,
         coefficients,
         adjustment,
-        CONFIGURED,
-        PIXELS,
+        fd,
         &mut list,
-    ) {
-        WriteAnswer::Refused(code, place) => {
-            words::of_writing(code, place, counts.len(), CONFIGURED)
-        }
-        WriteAnswer::Done(n) => write_list(fd, &list, n, counts),
-    }
+    )
 }

@@ -1,22 +1,27 @@
 // A list or a trace file that is read in the fixed rooms of the program, lent buffers on the stack, and what is asked of its description.
+mod short;
 mod telling;
 
 ghost use Prim.Native.Nat.{_≤_};
 use canvas::Asked;
 use canvas::Task;
 use reader::ReadAnswer;
+pub use short::Told;
+pub use short::tell_list;
+pub use short::tell_trace;
 use trace2::FileAnswer;
 
-const SPLINES: usize = 512;
+const SPLINES: usize = 4096;
 
-const STARTS: usize = 1024;
+const STARTS: usize = 8192;
 
-const DELTAS: usize = 32768;
+// Two for each of 2^20 points, the most that a list has under the usual limit.
+const DELTAS: usize = 2097152;
 
-const COEFFICIENTS: usize = 65536;
+const COEFFICIENTS: usize = 524288;
 
 // The usual configured limit.
-const CONFIGURED: u32 = 1048576;
+pub const CONFIGURED: u32 = 1048576;
 
 // What a description was read from: a list of so many values, or a trace file of so many bytes and its edition.
 pub enum Source {

@@ -105,7 +105,7 @@ fn say_path(k: usize, n: u32) -> u8
 {
     words::wrong(
         1,
-        b"refused: ROOM (7) at spline #: its path has # points, and this program has room for 8192\n",
+        b"refused: ROOM (7) at spline #: its path has # points, and this program has room for 65536\n",
         &[k as u64, 16 * (n as u64) + 1],
     )
 }
@@ -115,7 +115,7 @@ fn say_walk(k: usize) -> u8
 {
     words::wrong(
         1,
-        b"refused: ROOM (7) at spline #: its walk has more points than this program has room for, 16384\n",
+        b"refused: ROOM (7) at spline #: its walk has more points than this program has room for, 65536\n",
         &[k as u64],
     )
 }
@@ -125,7 +125,7 @@ fn say_segments(k: usize) -> u8
 {
     words::wrong(
         1,
-        b"refused: ROOM (7) at spline #: with it there are more segments than this program has room for, 49152\n",
+        b"refused: ROOM (7) at spline #: with it there are more segments than this program has room for, 1048576\n",
         &[k as u64],
     )
 }
@@ -135,7 +135,7 @@ fn say_entries(needed: u64) -> u8
 {
     words::wrong(
         1,
-        b"refused: ROOM (7) at spline 0: the rows of all splines have # entries, and this program has room for 524288\n",
+        b"refused: ROOM (7) at spline 0: the rows of all splines have # entries, and this program has room for 16777216\n",
         &[needed],
     )
 }
@@ -170,7 +170,7 @@ fn say_first(
 ) -> u8
     ensures { λ r. ⌜ r ≡ 1 ⌝ }
 {
-    if 511 < n {
+    if 4095 < n {
         return say_path(k, n);
     }
     let drawn = draw_all(

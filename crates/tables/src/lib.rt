@@ -9,20 +9,38 @@ use codes::Code;
 use table::BuildAnswer;
 
 // As many as a description of this program has splines.
-const TRACES: usize = 512;
+const TRACES: usize = 4096;
 
-const PATH: usize = 16384;
+// Rooms that are soon cleared and hold most tables: of 8192 points of a path and 16384 of a walk, for 49152 segments with their owners.
+const SHORT_PATH: usize = 16384;
 
-const WALK: usize = 49152;
+const SHORT_WALK: usize = 49152;
 
-const SEGMENTS: usize = 393216;
+const SHORT_SEGMENTS: usize = 393216;
 
-// One for each segment that has room.
-const OWNERS: usize = 49152;
+const SHORT_OWNERS: usize = 49152;
 
+const SHORT_ENTRIES: usize = 524288;
+
+// The rooms of all others: 65536 points of a path and of a walk, for 2^20 segments with their owners.
+const PATH: usize = 131072;
+
+const WALK: usize = 196608;
+
+const SEGMENTS: usize = 8388608;
+
+const OWNERS: usize = 1048576;
+
+const ENTRIES: usize = 16777216;
+
+// For 16384 rows.
 const ROW_STARTS: usize = 16385;
 
-const ENTRIES: usize = 524288;
+// The status; or the rooms are too short for the table.
+enum Built {
+    Status(u8),
+    Room,
+}
 
 fn say_built(segments: u32, faint: u32, entries: u32, estimate: u64) -> u8
     ensures { λ r. ⌜ r ≤ 3 ⌝ }
@@ -175,10 +193,19 @@ fn perform(
     }
 }
 
-fn refuse(code: Code, place: usize) -> u8
+// A status is one of four.
+fn within(status: u8) -> u8
     ensures { λ r. ⌜ r ≤ 3 ⌝ }
 {
-    words::of_building(code, place)
+    if status < 3 { status } else { 3 }
+}
+
+// ROOM, or the status of another refusal.
+fn refuse(code: Code, place: usize) -> Built {
+    if codes::number_of(code) == 7 {
+        return Built::Room;
+    }
+    Built::Status(words::of_building(code, place))
 }
 
 // In lent rooms. X gains nothing of Y and B all of it, as usual; the precision that is asked for, and the lesser area limit.
@@ -195,9 +222,7 @@ fn build_in(
     owners: &mut [u64],
     row_starts: &mut [u32],
     entries: &mut [u32],
-) -> u8
-    ensures { λ r. ⌜ r ≤ 3 ⌝ }
-{
+) -> Built {
     let width = task.width;
     let height = task.height;
     let high = task.high;
@@ -220,26 +245,8 @@ fn build_in(
         row_starts,
         entries,
     ) {
-        BuildAnswer::Refused(code, place) => {
-            if codes::number_of(code) == 7 {
-                shortage::say(
-                    counts,
-                    starts,
-                    deltas,
-                    coefficients,
-                    adjustment,
-                    height,
-                    high,
-                    path,
-                    walk,
-                    segments,
-                    owners,
-                )
-            } else {
-                refuse(code, place)
-            }
-        }
-        BuildAnswer::Done(made, listed, estimate, faint) => perform(
+        BuildAnswer::Refused(code, place) => refuse(code, place),
+        BuildAnswer::Done(made, listed, estimate, faint) => Built::Status(perform(
             segments,
             owners,
             made,
@@ -250,27 +257,25 @@ fn build_in(
             estimate,
             faint,
             task,
-        ),
+        )),
     }
 }
 
-// In rooms lent as arrays: the length of each is then known by its type, and no proof counts its cells.
-fn build_lent(
+// Rooms are lent as arrays: the length of each is then known by its type, and no proof counts its cells.
+fn build_short(
     counts: &[u32],
     starts: &[f32],
     deltas: &[i32],
     coefficients: &[i32],
     adjustment: i32,
     task: Task,
-    path: &mut [f32; PATH],
-    walk: &mut [f32; WALK],
-    segments: &mut [f32; SEGMENTS],
-    owners: &mut [u64; OWNERS],
+    path: &mut [f32; SHORT_PATH],
+    walk: &mut [f32; SHORT_WALK],
+    segments: &mut [f32; SHORT_SEGMENTS],
+    owners: &mut [u64; SHORT_OWNERS],
     row_starts: &mut [u32; ROW_STARTS],
-    entries: &mut [u32; ENTRIES],
-) -> u8
-    ensures { λ r. ⌜ r ≤ 3 ⌝ }
-{
+    entries: &mut [u32; SHORT_ENTRIES],
+) -> Built {
     build_in(
         counts,
         starts,
@@ -287,8 +292,101 @@ fn build_lent(
     )
 }
 
-// What is asked of the table of a description; the status.
-pub fn build(
+fn build_long(
+    counts: &[u32],
+    starts: &[f32],
+    deltas: &[i32],
+    coefficients: &[i32],
+    adjustment: i32,
+    task: Task,
+    path: &mut [f32; PATH],
+    walk: &mut [f32; WALK],
+    segments: &mut [f32; SEGMENTS],
+    owners: &mut [u64; OWNERS],
+    row_starts: &mut [u32; ROW_STARTS],
+    entries: &mut [u32; ENTRIES],
+) -> Built {
+    build_in(
+        counts,
+        starts,
+        deltas,
+        coefficients,
+        adjustment,
+        task,
+        path,
+        walk,
+        segments,
+        owners,
+        row_starts,
+        entries,
+    )
+}
+
+// Which of the long rooms was too short.
+fn say_short(
+    counts: &[u32],
+    starts: &[f32],
+    deltas: &[i32],
+    coefficients: &[i32],
+    adjustment: i32,
+    task: Task,
+    path: &mut [f32; PATH],
+    walk: &mut [f32; WALK],
+    segments: &mut [f32; SEGMENTS],
+    owners: &mut [u64; OWNERS],
+) -> u8
+    ensures { λ r. ⌜ r ≤ 3 ⌝ }
+{
+    let height = task.height;
+    let high = task.high;
+    shortage::say(
+        counts,
+        starts,
+        deltas,
+        coefficients,
+        adjustment,
+        height,
+        high,
+        path,
+        walk,
+        segments,
+        owners,
+    )
+}
+
+// What is asked of a table that is built in the short rooms.
+fn in_short(
+    counts: &[u32],
+    starts: &[f32],
+    deltas: &[i32],
+    coefficients: &[i32],
+    adjustment: i32,
+    task: Task,
+) -> Built {
+    let mut path = [0.0f32; SHORT_PATH];
+    let mut walk = [0.0f32; SHORT_WALK];
+    let mut segments = [0.0f32; SHORT_SEGMENTS];
+    let mut owners = [0u64; SHORT_OWNERS];
+    let mut row_starts = [0u32; ROW_STARTS];
+    let mut entries = [0u32; SHORT_ENTRIES];
+    build_short(
+        counts,
+        starts,
+        deltas,
+        coefficients,
+        adjustment,
+        task,
+        &mut path,
+        &mut walk,
+        &mut segments,
+        &mut owners,
+        &mut row_starts,
+        &mut entries,
+    )
+}
+
+// What is asked of a table that is built in the long rooms, or which of them was too short.
+fn in_long(
     counts: &[u32],
     starts: &[f32],
     deltas: &[i32],
@@ -304,7 +402,7 @@ pub fn build(
     let mut owners = [0u64; OWNERS];
     let mut row_starts = [0u32; ROW_STARTS];
     let mut entries = [0u32; ENTRIES];
-    build_lent(
+    match build_long(
         counts,
         starts,
         deltas,
@@ -317,5 +415,36 @@ pub fn build(
         &mut owners,
         &mut row_starts,
         &mut entries,
-    )
+    ) {
+        Built::Status(status) => within(status),
+        Built::Room => say_short(
+            counts,
+            starts,
+            deltas,
+            coefficients,
+            adjustment,
+            task,
+            &mut path,
+            &mut walk,
+            &mut segments,
+            &mut owners,
+        ),
+    }
+}
+
+// What is asked of the table of a description; the status.
+pub fn build(
+    counts: &[u32],
+    starts: &[f32],
+    deltas: &[i32],
+    coefficients: &[i32],
+    adjustment: i32,
+    task: Task,
+) -> u8
+    ensures { λ r. ⌜ r ≤ 3 ⌝ }
+{
+    match in_short(counts, starts, deltas, coefficients, adjustment, task) {
+        Built::Status(status) => within(status),
+        Built::Room => in_long(counts, starts, deltas, coefficients, adjustment, task),
+    }
 }

@@ -2,7 +2,7 @@
 ghost use Prim.Native.Nat.{_≤_};
 
 // As many traces as a list that is read has at most.
-const TRACES: usize = 512;
+const TRACES: usize = 4096;
 
 // How far in hundredths of a pixel, by a key.
 fn hundredths(key: u64) -> u64 {

@@ -40,7 +40,7 @@ pub fn of_points(code: Code, place: usize, trace: u64, length: usize) -> u8
         ),
         Code::Room => wrong(
             1,
-            b"refused: ROOM (7) at trace #: it has more double deltas than this program has room for, 16384\n",
+            b"refused: ROOM (7) at trace #: it has more double deltas than this program has room for, 1048576\n",
             &[trace],
         ),
         _ => wrong(

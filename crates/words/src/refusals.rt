@@ -59,13 +59,13 @@ fn of_room(place: u64, splines: u64, points: u64) -> u8
     if place == 0 {
         wrong(
             1,
-            b"refused: ROOM (7) at value 0: # splines, and this program has room for 512\n",
+            b"refused: ROOM (7) at value 0: # splines, and this program has room for 4096\n",
             &[splines],
         )
     } else {
         wrong(
             1,
-            b"refused: ROOM (7) at value #: # more points, and this program has room for 16384 in all\n",
+            b"refused: ROOM (7) at value #: # more points, and this program has room for 1048576 in all\n",
             &[place, points],
         )
     }

@@ -94,7 +94,7 @@ pub fn of_trace(code: Code, place: usize, bytes: &[u8]) -> u8
         ),
         Code::Room => wrong(
             1,
-            b"refused: ROOM (7): # splines and # points, and this program has room for 512 and 16384\n",
+            b"refused: ROOM (7): # splines and # points, and this program has room for 4096 and 1048576\n",
             &[number_at(bytes, 4), number_at(bytes, 8)],
         ),
         _ => wrong(

@@ -1,5 +1,5 @@
 -- `say` meets what `traces` requires by its four tests, and lends the keys that were found.
-use mathlib.Core.Path.{sym}
+use mathlib.Core.Path.{refl, sym}
 use lib.Seq.{length-take-le}
 use borrow.Author.Needs.{needs}
 use Rattle.tables.proofs.touching.say.Statement.{statement}
@@ -24,7 +24,7 @@ slice-aggregate-traces-2 : tie.Need-slice-aggregate-traces-2
 slice-aggregate-traces-2 c = search needs
 
 traces-requires : tie.Need-traces-requires
-traces-requires c κs = search needs
+traces-requires c κs = (search needs, refl)
 
 array-share-prefix-found : tie.Need-array-share-prefix-found
 array-share-prefix-found c = search needs

@@ -1,0 +1,2 @@
+-- The definitions of the crate `rooms`.
+pub mod Tells
