@@ -7,7 +7,7 @@ use lib.IntN.{ℤ}
 use lib.Ieee.{Float}
 use Rattle.numbers.specs.Ln.{lnOf}
 use Rattle.list.specs.List.{ListRooms}
-use Rattle.reader.specs.Read.{Outcome, readOutcome}
+use Rattle.reader.specs.Read.{ReadOutcome, readOutcome}
 use Rattle.writer.specs.Write.{WriteOutcome, writeOf}
 use Rattle.write_laws.specs.Floats.{Floats}
 use Rattle.dequantize.specs.Judge.{Description}
@@ -34,7 +34,7 @@ use Rattle.hull.specs.Reach as reaching
 use Rattle.aktyrbuz.specs.Calls.{ReadCall, reads, WriteCall, writes, BuildCall, builds, DrawCall, draws, ReachCall, reaches, HideCall, hides, LnCall, logs, BuildDone, KeptTable, withBits, PartCall, RowCalls, ImageCalls, HideCalls}
 use Rattle.aktyrbuz.specs.Calls as calls
 
-pub read-equation : (l : List ℕ) (configured pixels : ℕ) (rooms : ListRooms) (o : Outcome) → ReadCall l configured pixels rooms o → o ≡ readOutcome configured pixels rooms l
+pub read-equation : (l : List ℕ) (configured pixels : ℕ) (rooms : ListRooms) (o : ReadOutcome) → ReadCall l configured pixels rooms o → o ≡ readOutcome configured pixels rooms l
 read-equation l configured pixels rooms o (reads κs _ _ _ _ _ _ _ _ _ _ _ _ _ _ _ p) = p
 
 pub write-equation : (ns : List ℕ) (ss : List Float) (ds cs : List ℤ) (a : ℤ) (configured pixels room : ℕ) (o : WriteOutcome) → WriteCall ns ss ds cs a configured pixels room o

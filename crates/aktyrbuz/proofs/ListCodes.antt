@@ -3,7 +3,7 @@ use mathlib.Core.Path.{_≡_, refl, sym, ap, _∙_}
 use mathlib.Core.List.{List}
 use Prim.Native.Nat.{ℕ}
 use Rattle.codes.specs.declared.Code.{Code}
-use Rattle.reader.specs.Read.{Outcome}
+use Rattle.reader.specs.Read.{ReadOutcome}
 use Rattle.reader.specs.declared.ReadAnswer.{ReadAnswer}
 use Rattle.reader.specs.declared.ReadAnswer.the-variants.{Done, Refused}
 use Rattle.reader.proofs.Promises as reading
@@ -12,7 +12,7 @@ use Rattle.write_laws.proofs.Words as writing
 use Rattle.aktyrbuz.specs.ListCodes.{ReadDone, ReadCodes, WriteCodes, WrittenSize}
 use Rattle.aktyrbuz.proofs.Calls.{read-equation, write-equation}
 
-answered : (o : Outcome) → ((c : Code) (p : ℕ) → o .answer ≡ Refused c p → ⊥) → ReadDone o
+answered : (o : ReadOutcome) → ((c : Code) (p : ℕ) → o .answer ≡ Refused c p → ⊥) → ReadDone o
 answered o none = go (o .answer) refl
   where
     go : (r : ReadAnswer) → o .answer ≡ r → ReadDone o

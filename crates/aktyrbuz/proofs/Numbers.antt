@@ -26,7 +26,7 @@ use Rattle.aktyrbuz.specs.Exported.{signedOf, toldIn, toldRead, toldWrit
 pub signed-back : (n : ℕ) → toZ w64 (ofZ w64 (signedOf n)) ≡ signedOf n
 signed-back n = toZ-ofZ {w = w64} {z = signedOf n} (record { sfits = omega arith })
 
-pub read-exported : {o : Read.Outcome} (r : ReadAnswer) (t : Told) (five : List ℤ) (ns : List ℕ) (zs : List Float) (ds cs : List ℤ)
+pub read-exported : {o : Read.ReadOutcome} (r : ReadAnswer) (t : Told) (five : List ℤ) (ns : List ℕ) (zs : List Float) (ds cs : List ℤ)
     → Read.leaves r ns zs ds cs ≡ o → t ≡ toldRead r → five ≡ toldIn t
     → readLeaves (t .number) five ns zs ds cs ≡ readExport o
 read-exported r t five ns zs ds cs p q s = rw (← p, s, q)

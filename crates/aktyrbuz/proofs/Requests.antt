@@ -41,7 +41,7 @@ use Rattle.picture.specs.Sights.{hides, KeptSight}
 use Rattle.picture.proofs.Sights.{none-hidden}
 use Rattle.picture.proofs.Keeping.{kept-count, kept-is, kept-owner, owned-for, shown-lists, kept-lists}
 use Rattle.aktyrbuz.specs.Calls.{KeptTable, RowRun, BuildDone, DrawCall, ReachCall, HideCall, HideCalls, withBits}
-use Rattle.aktyrbuz.specs.Requests.{Reaches, InReach, NoReach, HasSegment, OutsideReachUntouched, BothEnds, ReachEndsUpdated, ReachEmptyExactly, LeftEdgeReached, SegmentsNear, TablesNear, Beyond, RowIs, ColumnIs, Clear, DrawingsNear, OwnersOf, OwnersLeft, OwnersAscend, SplineOwns, OwnerIsSpline, NoOwner, SkippedHasNone, NumbersByKind, FaintCounted, FaintEnds, FaintByKind, FileReadBack, FileWrittenBack, OneFile, TraceReadCodes, TraceWriteCodes, TraceOneOutcome, NegativeFirstStart, DesksApart, OtherDeskUnseen, OwnBitsAlone, HideChangesOneBit, HideCodes, HideOneOutcome, BuiltIsLent, AsWithoutDesks, MeetsExactly, FirstBrokenRule, ProfileCodes, ProfileBuildIsBuild, ProfileBuildCodes, ProfileOneOutcome, Edition1In2, EditionExactly, OlderReaderSaysHeader, OneFilePerVersion, VersionOneAsBefore, FileReadCodes, FileWriteCodes, FileOneOutcome, TableAcceptedExactly, AcceptedTable, TableRefusal, FirstWrongRow, CheckCodes, CheckOneOutcome, BuiltIsAccepted, AcceptedDrawsTheSame, PointsAsDefined, FirstBadByteTold, PointsRefusalsZero, PointsOneOutcome}
+use Rattle.aktyrbuz.specs.Requests.{Reaches, InReach, NoReach, HasSegment, OutsideReachUntouched, BothEnds, ReachEndsUpdated, ReachEmptyExactly, LeftEdgeReached, SegmentsNear, TablesNear, BeyondByOne, RowIs, ColumnIs, Clear, DrawingsNear, OwnersOf, OwnersLeft, OwnersAscend, SplineOwns, OwnerIsSpline, NoOwner, SkippedHasNone, NumbersByKind, FaintCounted, FaintEnds, FaintByKind, FileReadBack, FileWrittenBack, OneFile, TraceReadCodes, TraceWriteCodes, TraceOneOutcome, NegativeFirstStart, DesksApart, OtherDeskUnseen, OwnBitsAlone, HideChangesOneBit, HideCodes, HideOneOutcome, BuiltIsLent, AsWithoutDesks, MeetsExactly, FirstBrokenRule, ProfileCodes, ProfileBuildIsBuild, ProfileBuildCodes, ProfileOneOutcome, Edition1In2, EditionExactly, OlderReaderSaysHeader, OneFilePerVersion, VersionOneAsBefore, FileReadCodes, FileWriteCodes, FileOneOutcome, TableAcceptedExactly, AcceptedTable, TableRefusal, FirstWrongRow, CheckCodes, CheckOneOutcome, BuiltIsAccepted, AcceptedDrawsTheSame, PointsAsDefined, FirstBadByteTold, PointsRefusalsZero, PointsOneOutcome}
 use Rattle.aktyrbuz.proofs.Readings.{starred-readings}
 use Rattle.aktyrbuz.proofs.Calls.{draw-equation, reach-equation, hide-equation, hide-told-by, built-by, kept-are, own-alike, row-by, hides-by, build-equation}
 use mathlib.Core.Bool.{Bool, true, false, true≢false, not, _&&_}
@@ -69,7 +69,7 @@ use Rattle.faint.proofs.Counts.{faint-front}
 use lib.IntN.{ℤ}
 use lib.Signed.{mag}
 use Rattle.list.specs.List.{ListRooms, Got, got, Described, described}
-use Rattle.reader.specs.Read.{Outcome}
+use Rattle.reader.specs.Read.{ReadOutcome}
 use Rattle.reader.specs.declared.ReadAnswer.{ReadAnswer}
 use Rattle.writer.specs.Write.{WriteOutcome}
 use Rattle.writer.specs.declared.WriteAnswer.{WriteAnswer}
@@ -133,10 +133,10 @@ use Rattle.aktyrbuz.specs.PolylineCalls as polylines
 
 -- ---- (i) a trace file
 
-trace-read-equation : (bytes : List ℕ) (rooms : ListRooms) (o : Outcome) → TraceReadCall bytes rooms o → o ≡ readTraceOf rooms bytes
+trace-read-equation : (bytes : List ℕ) (rooms : ListRooms) (o : ReadOutcome) → TraceReadCall bytes rooms o → o ≡ readTraceOf rooms bytes
 trace-read-equation bytes rooms o (reads κs _ _ _ _ _ _ _ _ _ _ _ b p) = p
 
-trace-read-bytes : (bytes : List ℕ) (rooms : ListRooms) (o : Outcome) → TraceReadCall bytes rooms o → Bytes bytes
+trace-read-bytes : (bytes : List ℕ) (rooms : ListRooms) (o : ReadOutcome) → TraceReadCall bytes rooms o → Bytes bytes
 trace-read-bytes bytes rooms o (reads κs _ _ _ _ _ _ _ _ _ _ _ b p) = b
 
 trace-write-equation : (ns : List ℕ) (ss : List Float) (ds cs : List ℤ) (a : ℤ) (room : ℕ) (o : WriteOutcome) → TraceWriteCall ns ss ds cs a room o → o ≡ writeTraceOf ns ss ds cs a room
@@ -169,13 +169,13 @@ one-file bytes bytes′ rooms q s p a r r′ e =
 along : {A : Type 0} {x y : A} (B : A → Type 0) {C : Type 0} → x ≡ y → B y ↔ C → B x ↔ C
 along B {C} e i = subst (λ (z : _). B z ↔ C) (sym e) i
 
-done-of : (rooms : ListRooms) (x : Described) (o : Outcome) → o ≡ reading.outcome rooms (got x []) → ReadDone o
-done-of rooms (described a zs ns ds cs) o e = record { splines = _; points = _; adjustment = a; is = ap (λ (u : Outcome). u .answer) e }
+done-of : (rooms : ListRooms) (x : Described) (o : ReadOutcome) → o ≡ reading.outcome rooms (got x []) → ReadDone o
+done-of rooms (described a zs ns ds cs) o e = record { splines = _; points = _; adjustment = a; is = ap (λ (u : ReadOutcome). u .answer) e }
 
 pub trace-read-codes : TraceReadCodes
 unfolding readTraceOf
 trace-read-codes = record {
-  exactly = λ bytes rooms o r c p. along (λ (u : Outcome). u .answer ≡ ReadAnswer.Refused c p) (trace-read-equation bytes rooms o r) (read-exactly rooms bytes c p);
+  exactly = λ bytes rooms o r c p. along (λ (u : ReadOutcome). u .answer ≡ ReadAnswer.Refused c p) (trace-read-equation bytes rooms o r) (read-exactly rooms bytes c p);
   told = λ bytes rooms o r c p t. read-refused rooms bytes c p o (trace-read-equation bytes rooms o r) t;
   else-done = λ bytes rooms o r none.
       done-of rooms (describedIn 8 (numbersIn bytes)) o (trace-read-equation bytes rooms o r ∙ ap (reading.outcome rooms) (judged-fine rooms bytes (read-else rooms bytes none)));
@@ -725,14 +725,14 @@ file-write-equation ns ss ds cs a v e room o (files.writes κs _ _ _ _ _ _ _ _ _
 file-write-lent : (ns : List ℕ) (ss : List Float) (ds cs : List ℤ) (a : ℤ) (v e room : ℕ) (o : WriteOutcome) → FileWriteCall ns ss ds cs a v e room o → Lent ns ss cs a
 file-write-lent ns ss ds cs a v e room o (files.writes κs _ _ _ _ _ _ _ _ _ _ _ _ _ _ _ _ _ n f c m p) = record { counts = n; starts = f; coefficients = c; adjustment = m }
 
-refused-by : (rooms : ListRooms) (c : Code) (k : ℕ) (o : Outcome) → o ≡ reading.outcome rooms (Got.stop c k) → ReadRefused rooms c k o
+refused-by : (rooms : ListRooms) (c : Code) (k : ℕ) (o : ReadOutcome) → o ≡ reading.outcome rooms (Got.stop c k) → ReadRefused rooms c k o
 refused-by rooms c k o e = record {
-  answer = ap (λ (u : Outcome). u .answer) e;
-  told = ap (λ (u : Outcome). u .told) e;
-  counts = ap (λ (u : Outcome). u .counts) e;
-  starts = ap (λ (u : Outcome). u .starts) e;
-  deltas = ap (λ (u : Outcome). u .deltas) e;
-  coefficients = ap (λ (u : Outcome). u .coefficients) e;
+  answer = ap (λ (u : ReadOutcome). u .answer) e;
+  told = ap (λ (u : ReadOutcome). u .told) e;
+  counts = ap (λ (u : ReadOutcome). u .counts) e;
+  starts = ap (λ (u : ReadOutcome). u .starts) e;
+  deltas = ap (λ (u : ReadOutcome). u .deltas) e;
+  coefficients = ap (λ (u : ReadOutcome). u .coefficients) e;
 }
 
 pub older-reader-says-header : OlderReaderSaysHeader
@@ -857,10 +857,10 @@ found-has : (test : ℕ → Bool) (n : ℕ) (row : List ℕ) (j : ℕ) → Lists
 found-has test n row j l f = subst (λ (z : ℕ). test z ≡ true) (f .is) (l .passes (f .index) (f .in-row) .1)
 
 -- a row farther than d + 1 is not the segment's, nor is a column
-no-row : (s : Segment) (y : ℕ) → RowIs Beyond s y → hasRow s y ≡ true → ⊥
+no-row : (s : Segment) (y : ℕ) → RowIs BeyondByOne s y → hasRow s y ≡ true → ⊥
 no-row s y b e = not-le-of-lt (b .is) (rows-near s (b .k) (b .c) (b .d) (b .edge) .outside y e)
 
-no-column : (s : Segment) (x : ℕ) → ColumnIs Beyond s x → hasColumn s x ≡ true → ⊥
+no-column : (s : Segment) (x : ℕ) → ColumnIs BeyondByOne s x → hasColumn s x ≡ true → ⊥
 no-column s x b e = not-le-of-lt (b .is) (columns-near s (b .k) (b .c) (b .d) (b .edge) (b .clear) .outside x e)
 
 module _ (d : Description) (i : Setting) (segments : List Segment) (t : Table) (kept : KeptTable d i segments t) (y j : ℕ) (h : y < i .height) where

@@ -41,7 +41,7 @@ use Rattle.hull.proofs.reach.Reads as reach
 -- ---- outcomes that a contract allows
 
 -- of a list, under two limits, with so many cells lent
-pub data ReadCall : List ℕ → ℕ → ℕ → ListRooms → reading.Outcome → Type 0 where
+pub data ReadCall : List ℕ → ℕ → ℕ → ListRooms → reading.ReadOutcome → Type 0 where
   reads : (κs : Lfts 5) (list : _) (configured : _) (pixels : _) (counts : _) (starts : _) (deltas : _) (coefficients : _) (r : _)
       (list′ : _) (configured′ : _) (pixels′ : _) (counts′ : _) (starts′ : _) (deltas′ : _) (coefficients′ : _)
       → read.Post κs (list, (configured, (pixels, (counts, (starts, (deltas, (coefficients, tt))))))) r

@@ -19,7 +19,7 @@ use Rattle.numbers.specs.Ieee754.{Ieee754}
 use Rattle.shape.specs.Shape.{pointsOf}
 use Rattle.list.specs.List.{ListRooms, unpackSigned}
 use Rattle.list.specs.Steps.{zeroF32}
-use Rattle.reader.specs.Read.{Outcome, readOutcome}
+use Rattle.reader.specs.Read.{ReadOutcome, readOutcome}
 use Rattle.reader.specs.Read as reading
 use Rattle.reader.specs.declared.ReadAnswer.{ReadAnswer}
 use Rattle.writer.specs.Write.{WriteOutcome, writeOf}
@@ -62,7 +62,7 @@ use Rattle.aktyrbuz.specs.Calls.{ReadCall, WriteCall, BuildCall, DrawCal
 
 -- `read` answers and leaves what `Splines::read` makes of the list, with the checks in their order
 abbrev pub ReadsAsSplineRs : Type 0
-ReadsAsSplineRs = (l : List ℕ) (configured pixels : ℕ) (rooms : ListRooms) (o : Outcome) → ReadCall l configured pixels rooms o → o ≡ readOutcome configured pixels rooms l
+ReadsAsSplineRs = (l : List ℕ) (configured pixels : ℕ) (rooms : ListRooms) (o : ReadOutcome) → ReadCall l configured pixels rooms o → o ≡ readOutcome configured pixels rooms l
 
 -- `write` answers and leaves the list of a description, with the checks in their order
 abbrev pub WritesTheList : Type 0
@@ -75,14 +75,14 @@ abbrev pub WrittenIsRead : Type 0
 WrittenIsRead =
     (ns : List ℕ) (ss : List Float) (ds cs : List ℤ) (a : ℤ) (configured pixels room : ℕ) (o : WriteOutcome) (n : ℕ)
     → WriteCall ns ss ds cs a configured pixels room o → o .answer ≡ WriteAnswer.Done n
-    → (rooms : ListRooms) → Enough rooms ns ss ds cs → (q : Outcome) → ReadCall (take n (o .list)) configured pixels rooms q
+    → (rooms : ListRooms) → Enough rooms ns ss ds cs → (q : ReadOutcome) → ReadCall (take n (o .list)) configured pixels rooms q
     → q ≡ reading.leaves (ReadAnswer.Done (length ns) (pointsOf ns) a) (padded (rooms .counts) 0 ns) (padded (rooms .starts) zeroF32 ss)
     (padded (rooms .deltas) (pos 0) ds) (padded (rooms .coefficients) (pos 0) cs)
 
 -- what `read` accepts, `write` writes back under the same limits: the list, every value
 abbrev pub ReadIsWritten : Type 0
 ReadIsWritten =
-    (configured pixels : ℕ) (rooms : ListRooms) (l : List ℕ) (q : Outcome) (s p : ℕ) (a : ℤ) → ReadCall l configured pixels rooms q
+    (configured pixels : ℕ) (rooms : ListRooms) (l : List ℕ) (q : ReadOutcome) (s p : ℕ) (a : ℤ) → ReadCall l configured pixels rooms q
     → q .answer ≡ ReadAnswer.Done s p a → (room : ℕ) → length l ≤ room → (o : WriteOutcome)
     → WriteCall (take s (q .counts)) (take (2 * s) (q .starts)) (take (2 * p) (q .deltas)) (take (128 * s) (q .coefficients)) a configured pixels room o
     → o ≡ writing.leaves (WriteAnswer.Done (length l)) (l ++ replicate (room - length l) 0)
@@ -125,7 +125,7 @@ pub record NumbersByIeee754 : Type 0 where
 -- ---- refusals
 
 -- every cell that reading lends is zero
-pub record ReadZeros (rooms : ListRooms) (o : Outcome) : Type 0 where
+pub record ReadZeros (rooms : ListRooms) (o : ReadOutcome) : Type 0 where
   pub counts : o .counts ≡ replicate (rooms .counts) 0
   pub starts : o .starts ≡ replicate (rooms .starts) zeroF32
   pub deltas : o .deltas ≡ replicate (rooms .deltas) (pos 0)
@@ -142,7 +142,7 @@ pub record BuildZeros (rooms : building.BuildRooms) (o : building.BuildOutcome) 
 
 -- a refusal of reading, writing or building leaves every lent cell zero
 pub record RefusedLeavesZero : Type 0 where
-  pub read : (l : List ℕ) (configured pixels : ℕ) (rooms : ListRooms) (o : Outcome) (c : Code) (p : ℕ) → ReadCall l configured pixels rooms o
+  pub read : (l : List ℕ) (configured pixels : ℕ) (rooms : ListRooms) (o : ReadOutcome) (c : Code) (p : ℕ) → ReadCall l configured pixels rooms o
       → o .answer ≡ ReadAnswer.Refused c p → ReadZeros rooms o
   pub write : (ns : List ℕ) (ss : List Float) (ds cs : List ℤ) (a : ℤ) (configured pixels room : ℕ) (o : WriteOutcome) (c : Code) (p : ℕ)
       → WriteCall ns ss ds cs a configured pixels room o → o .answer ≡ WriteAnswer.Refused c p → o .list ≡ replicate room 0
@@ -257,7 +257,7 @@ pub record NothingStale : Type 0 where
 -- ---- any two outcomes that a contract allows are equal
 
 pub record OneOutcome : Type 0 where
-  pub read : (l : List ℕ) (configured pixels : ℕ) (rooms : ListRooms) (o q : Outcome) → ReadCall l configured pixels rooms o → ReadCall l configured pixels rooms q → o ≡ q
+  pub read : (l : List ℕ) (configured pixels : ℕ) (rooms : ListRooms) (o q : ReadOutcome) → ReadCall l configured pixels rooms o → ReadCall l configured pixels rooms q → o ≡ q
   pub write : (ns : List ℕ) (ss : List Float) (ds cs : List ℤ) (a : ℤ) (configured pixels room : ℕ) (o q : WriteOutcome)
       → WriteCall ns ss ds cs a configured pixels room o → WriteCall ns ss ds cs a configured pixels room q → o ≡ q
   pub build : (d : Description) (i : Setting) (r : building.BuildRooms) (o q : building.BuildOutcome) → BuildCall d i r o → BuildCall d i r q → o ≡ q

@@ -6,7 +6,7 @@ use lib.IntN.{ℤ, pos}
 use lib.Ieee.{Float}
 use Rattle.codes.specs.Codes.{numberOf}
 use Rattle.codes.specs.declared.Code.{Code}
-use Rattle.reader.specs.Read.{Outcome}
+use Rattle.reader.specs.Read.{ReadOutcome}
 use Rattle.reader.specs.declared.ReadAnswer.{ReadAnswer}
 use Rattle.writer.specs.Write.{WriteOutcome}
 use Rattle.writer.specs.declared.WriteAnswer.{WriteAnswer}
@@ -68,7 +68,7 @@ pub record ReadExport : Type 0 where
 abbrev pub readLeaves : ℕ → List ℤ → List ℕ → List Float → List ℤ → List ℤ → ReadExport
 readLeaves r five ns zs ds cs = record { number = r; answer = five; counts = ns; starts = zs; deltas = ds; coefficients = cs }
 
-abbrev pub readExport : Outcome → ReadExport
+abbrev pub readExport : ReadOutcome → ReadExport
 readExport o =
     readLeaves (toldRead (o .answer) .number) (toldIn (toldRead (o .answer))) (o .counts) (o .starts) (o .deltas) (o .coefficients)
 

@@ -9,16 +9,16 @@ use Rattle.codes.specs.declared.Code.{Code}
 use Rattle.shape.specs.Shape.{pointsOf}
 use Rattle.list.specs.List.{ListRooms, limitOf}
 use lib.ListN.{length}
-use Rattle.reader.specs.Read.{Outcome}
+use Rattle.reader.specs.Read.{ReadOutcome}
 use Rattle.reader.specs.Refusals.{ReadRefusal, ReadRefused}
 use Rattle.reader.specs.declared.ReadAnswer.{ReadAnswer}
 use Rattle.writer.specs.Write.{WriteOutcome}
 use Rattle.writer.specs.declared.WriteAnswer.{WriteAnswer}
-use Rattle.write_laws.specs.Refusals.{WriteRefusal, WriteRefused, Accepted, listSize}
+use Rattle.write_laws.specs.Refusals.{WriteRefusal, WriteRefused, WriteAccepted, listSize}
 use Rattle.aktyrbuz.specs.Calls.{ReadCall, WriteCall}
 
 -- an answer of success, with its counts
-pub record ReadDone (o : Outcome) : Type 0 where
+pub record ReadDone (o : ReadOutcome) : Type 0 where
   pub splines : ℕ
   pub points : ℕ
   pub adjustment : ℤ
@@ -27,11 +27,11 @@ pub record ReadDone (o : Outcome) : Type 0 where
 -- reading refuses with a code at a place exactly when the table of reading gives it; the number, the place and the counts of 0 are then told, and every lent cell is zero
 -- where the table gives nothing, reading is done
 pub record ReadCodes : Type 0 where
-  pub exactly : (l : List ℕ) (configured pixels : ℕ) (rooms : ListRooms) (o : Outcome) → ReadCall l configured pixels rooms o
+  pub exactly : (l : List ℕ) (configured pixels : ℕ) (rooms : ListRooms) (o : ReadOutcome) → ReadCall l configured pixels rooms o
       → (c : Code) (p : ℕ) → o .answer ≡ ReadAnswer.Refused c p ↔ ReadRefusal (limitOf configured pixels) rooms l c p
-  pub told : (l : List ℕ) (configured pixels : ℕ) (rooms : ListRooms) (o : Outcome) → ReadCall l configured pixels rooms o
+  pub told : (l : List ℕ) (configured pixels : ℕ) (rooms : ListRooms) (o : ReadOutcome) → ReadCall l configured pixels rooms o
       → (c : Code) (p : ℕ) → ReadRefusal (limitOf configured pixels) rooms l c p → ReadRefused rooms c p o
-  pub else-done : (l : List ℕ) (configured pixels : ℕ) (rooms : ListRooms) (o : Outcome) → ReadCall l configured pixels rooms o
+  pub else-done : (l : List ℕ) (configured pixels : ℕ) (rooms : ListRooms) (o : ReadOutcome) → ReadCall l configured pixels rooms o
       → ((c : Code) (p : ℕ) → ReadRefusal (limitOf configured pixels) rooms l c p → ⊥) → ReadDone o
 
 -- writing likewise, by the table of writing; and it is done exactly when nothing is given
@@ -41,7 +41,7 @@ pub record WriteCodes : Type 0 where
   pub told : (ns : List ℕ) (ss : List Float) (ds cs : List ℤ) (a : ℤ) (configured pixels room : ℕ) (o : WriteOutcome) → WriteCall ns ss ds cs a configured pixels room o
       → (c : Code) (p : ℕ) → WriteRefusal ns ss ds cs (limitOf configured pixels) room c p → WriteRefused room c p o
   pub done : (ns : List ℕ) (ss : List Float) (ds cs : List ℤ) (a : ℤ) (configured pixels room : ℕ) (o : WriteOutcome) → WriteCall ns ss ds cs a configured pixels room o
-      → (n : ℕ) → o .answer ≡ WriteAnswer.Done n ↔ Accepted ns ss ds cs (limitOf configured pixels) room n
+      → (n : ℕ) → o .answer ≡ WriteAnswer.Done n ↔ WriteAccepted ns ss ds cs (limitOf configured pixels) room n
 
 -- 2 + 131 S + 2 P values are written of S splines and P points
 abbrev pub WrittenSize : Type 0

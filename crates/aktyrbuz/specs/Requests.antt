@@ -41,7 +41,7 @@ use Rattle.codes.specs.declared.Code.{Code}
 use Rattle.shape.specs.Shape.{pointsOf}
 use Rattle.list.specs.List.{ListRooms}
 use Rattle.list.specs.Steps.{zeroF32}
-use Rattle.reader.specs.Read.{Outcome}
+use Rattle.reader.specs.Read.{ReadOutcome}
 use Rattle.reader.specs.Refusals.{ReadRefused}
 use Rattle.reader.specs.declared.ReadAnswer.{ReadAnswer}
 use Rattle.writer.specs.Write.{WriteOutcome, WriteTold}
@@ -67,7 +67,7 @@ use Rattle.trace2_laws.specs.Refusals.{FileReadRefusal, FileWriteRefusal, FileA
 use Rattle.aktyrbuz.specs.Trace2Calls.{FileReadCall, FileWriteCall}
 use Rattle.makers.specs.declared.CheckAnswer.{CheckAnswer}
 use Rattle.makers.specs.Check.{toldOf}
-use Rattle.makers.specs.Refusals.{Fits, FirstWrong, Accepted, CheckRefusal}
+use Rattle.makers.specs.Refusals.{Fits, FirstWrong, CheckAccepted, CheckRefusal}
 use Rattle.makers_laws.specs.Cut.{cutToCounts}
 use Rattle.aktyrbuz.specs.MakersCalls.{CheckCall}
 use Rattle.bands.specs.declared.BandsAnswer.{BandsAnswer}
@@ -107,14 +107,14 @@ use Rattle.writer.specs.Write as writing
 abbrev pub FileReadBack : Type 0
 FileReadBack =
     (ns : List ℕ) (ss : List Float) (ds cs : List ℤ) (a : ℤ) (room : ℕ) (o : WriteOutcome) (n : ℕ) → TraceWriteCall ns ss ds cs a room o → o .answer ≡ WriteAnswer.Done n
-    → (rooms : ListRooms) → Enough rooms ns ss ds cs → (q : Outcome) → TraceReadCall (take n (o .list)) rooms q
+    → (rooms : ListRooms) → Enough rooms ns ss ds cs → (q : ReadOutcome) → TraceReadCall (take n (o .list)) rooms q
     → q ≡ reading.leaves (ReadAnswer.Done (length ns) (pointsOf ns) a) (padded (rooms .counts) 0 ns) (padded (rooms .starts) zeroF32 ss)
     (padded (rooms .deltas) (pos 0) ds) (padded (rooms .coefficients) (pos 0) cs)
 
 -- what is read is written as the same bytes, with zeros behind
 abbrev pub FileWrittenBack : Type 0
 FileWrittenBack =
-    (bytes : List ℕ) (rooms : ListRooms) (q : Outcome) (s p : ℕ) (a : ℤ) → TraceReadCall bytes rooms q → q .answer ≡ ReadAnswer.Done s p a
+    (bytes : List ℕ) (rooms : ListRooms) (q : ReadOutcome) (s p : ℕ) (a : ℤ) → TraceReadCall bytes rooms q → q .answer ≡ ReadAnswer.Done s p a
     → (room : ℕ) → length bytes ≤ room → (o : WriteOutcome)
     → TraceWriteCall (take s (q .counts)) (take (2 * s) (q .starts)) (take (2 * p) (q .deltas)) (take (128 * s) (q .coefficients)) a room o
     → o ≡ writing.leaves (WriteAnswer.Done (length bytes)) (bytes ++ replicate (room - length bytes) 0)
@@ -122,17 +122,17 @@ FileWrittenBack =
 -- a description has one file only
 abbrev pub OneFile : Type 0
 OneFile =
-    (bytes bytes′ : List ℕ) (rooms : ListRooms) (q : Outcome) (s p : ℕ) (a : ℤ) → TraceReadCall bytes rooms q → TraceReadCall bytes′ rooms q
+    (bytes bytes′ : List ℕ) (rooms : ListRooms) (q : ReadOutcome) (s p : ℕ) (a : ℤ) → TraceReadCall bytes rooms q → TraceReadCall bytes′ rooms q
     → q .answer ≡ ReadAnswer.Done s p a → bytes ≡ bytes′
 
 -- reading refuses with a code at a place exactly when the table of reading gives it; the number, the place and the counts of 0 are then told, and every lent cell is zero
 -- where the table gives nothing, reading is done
 pub record TraceReadCodes : Type 0 where
-  pub exactly : (bytes : List ℕ) (rooms : ListRooms) (o : Outcome) → TraceReadCall bytes rooms o
+  pub exactly : (bytes : List ℕ) (rooms : ListRooms) (o : ReadOutcome) → TraceReadCall bytes rooms o
       → (c : Code) (p : ℕ) → o .answer ≡ ReadAnswer.Refused c p ↔ TraceReadRefusal rooms bytes c p
-  pub told : (bytes : List ℕ) (rooms : ListRooms) (o : Outcome) → TraceReadCall bytes rooms o
+  pub told : (bytes : List ℕ) (rooms : ListRooms) (o : ReadOutcome) → TraceReadCall bytes rooms o
       → (c : Code) (p : ℕ) → TraceReadRefusal rooms bytes c p → ReadRefused rooms c p o
-  pub else-done : (bytes : List ℕ) (rooms : ListRooms) (o : Outcome) → TraceReadCall bytes rooms o
+  pub else-done : (bytes : List ℕ) (rooms : ListRooms) (o : ReadOutcome) → TraceReadCall bytes rooms o
       → ((c : Code) (p : ℕ) → TraceReadRefusal rooms bytes c p → ⊥) → ReadDone o
 
 -- writing likewise, by the table of writing; and it is done exactly when nothing is given, with so many bytes
@@ -146,14 +146,14 @@ pub record TraceWriteCodes : Type 0 where
 
 -- any two outcomes that a contract allows are equal
 pub record TraceOneOutcome : Type 0 where
-  pub read : (bytes : List ℕ) (rooms : ListRooms) (o q : Outcome) → TraceReadCall bytes rooms o → TraceReadCall bytes rooms q → o ≡ q
+  pub read : (bytes : List ℕ) (rooms : ListRooms) (o q : ReadOutcome) → TraceReadCall bytes rooms o → TraceReadCall bytes rooms q → o ≡ q
   pub write : (ns : List ℕ) (ss : List Float) (ds cs : List ℤ) (a : ℤ) (room : ℕ) (o q : WriteOutcome)
       → TraceWriteCall ns ss ds cs a room o → TraceWriteCall ns ss ds cs a room q → o ≡ q
 
 -- a negative first start is read, and so is -8388608: a small file of one spline with the start -3 and -8388608 and the adjustment -8
 abbrev pub NegativeFirstStart : Type 0
 NegativeFirstStart =
-    (o : Outcome) → TraceReadCall smallFile smallRooms o
+    (o : ReadOutcome) → TraceReadCall smallFile smallRooms o
     → o ≡ reading.leaves (ReadAnswer.Done 1 0 (negsuc 7)) (0 ∷ []) (fin true 3 (pos 0) ∷ fin true 1 (pos 23) ∷ []) [] (replicate 128 (pos 0))
 
 -- ---- (iii) the reach of a row
@@ -523,9 +523,9 @@ pub record EditionExactly : Type 0 where
 
 -- a reader that knows only version 1 answers HEADER at 0 to every file of version 2, which is one whose first number is 2 and that has eight numbers at least; and so to all that is written at version 2
 pub record OlderReaderSaysHeader : Type 0 where
-  pub any : (bytes : List ℕ) (rooms : ListRooms) (o : Outcome) → 32 ≤ length bytes → number bytes 0 ≡ 2 → TraceReadCall bytes rooms o → ReadRefused rooms Code.Header 0 o
+  pub any : (bytes : List ℕ) (rooms : ListRooms) (o : ReadOutcome) → 32 ≤ length bytes → number bytes 0 ≡ 2 → TraceReadCall bytes rooms o → ReadRefused rooms Code.Header 0 o
   pub written : (ns : List ℕ) (ss : List Float) (ds cs : List ℤ) (a : ℤ) (e room : ℕ) (o : WriteOutcome) (n : ℕ) → FileWriteCall ns ss ds cs a 2 e room o → o .answer ≡ WriteAnswer.Done n
-      → (rooms : ListRooms) (q : Outcome) → TraceReadCall (take n (o .list)) rooms q → ReadRefused rooms Code.Header 0 q
+      → (rooms : ListRooms) (q : ReadOutcome) → TraceReadCall (take n (o .list)) rooms q → ReadRefused rooms Code.Header 0 q
 
 -- a description with its edition has one file per version: reading what was written gives it back with its edition, every number, with zeros behind, in rooms exact or larger;
 -- what is read is written, at its version and edition, as the same bytes, with zeros behind; and two files of one version with one description and edition are equal
@@ -546,7 +546,7 @@ pub record OneFilePerVersion : Type 0 where
 
 -- version 1 is as before, every cell: a file of version 1 is read as `trace_read` reads it, with edition 1, and version 1 with edition 1 is written as `trace_write` writes it
 pub record VersionOneAsBefore : Type 0 where
-  pub read : (bytes : List ℕ) (rooms : ListRooms) (o : FileOutcome) (q : Outcome) → number bytes 0 ≡ 1 → FileReadCall bytes rooms o → TraceReadCall bytes rooms q → o ≡ withEdition 1 q
+  pub read : (bytes : List ℕ) (rooms : ListRooms) (o : FileOutcome) (q : ReadOutcome) → number bytes 0 ≡ 1 → FileReadCall bytes rooms o → TraceReadCall bytes rooms q → o ≡ withEdition 1 q
   pub write : (ns : List ℕ) (ss : List Float) (ds cs : List ℤ) (a : ℤ) (room : ℕ) (o q : WriteOutcome) → FileWriteCall ns ss ds cs a 1 1 room o → TraceWriteCall ns ss ds cs a room q → o ≡ q
 
 -- reading refuses with a code at a place exactly when the table of reading gives it; the number, the place and the counts of 0 are then told, and every lent cell is zero
@@ -688,7 +688,7 @@ pub record BandsOfDesksApart : Type 0 where
 
 -- the words of the check, of a table as drawing takes it: accepted with m entries, of the right size, wrong first at row w, and refused with a code at a place
 abbrev pub AcceptedTable : Table → ℕ → Type 0
-AcceptedTable t m = Accepted (t .segments) (t .segmentCount) (t .height) (t .rowStarts) (t .entries) (t .entryCount) m
+AcceptedTable t m = CheckAccepted (t .segments) (t .segmentCount) (t .height) (t .rowStarts) (t .entries) (t .entryCount) m
 
 abbrev pub FitsTable : Table → Type 0
 FitsTable t = Fits (t .segments) (t .segmentCount) (t .height) (t .rowStarts) (t .entries) (t .entryCount)
@@ -772,11 +772,11 @@ TablesNear =
     → ListedNear t (i .height) j k c far
 
 -- how far a is from d, where 1 is `one`: no farther than d - 1, and farther than d + 1
-abbrev pub Inside : ℕ → ℕ → ℕ → Type 0
-Inside one d a = a + one ≤ d
+abbrev pub InsideByOne : ℕ → ℕ → ℕ → Type 0
+InsideByOne one d a = a + one ≤ d
 
-abbrev pub Beyond : ℕ → ℕ → ℕ → Type 0
-Beyond one d a = d + one < a
+abbrev pub BeyondByOne : ℕ → ℕ → ℕ → Type 0
+BeyondByOne one d a = d + one < a
 
 -- row y is so far from a segment's centre, under the premises
 pub record RowIs (So : ℕ → ℕ → ℕ → Type 0) (s : Segment) (y : ℕ) : Type 0 where
@@ -802,14 +802,14 @@ pub record UpdatesBy (t : Table) (s : Sight) (y x0 n x j : ℕ) : Type 0 where
 
 -- a pixel in row y is farther than d + 1 from segment j of a table, by its row or by its column x
 abbrev pub Clear : Table → ℕ → ℕ → ℕ → Type 0
-Clear t y x j = RowIs Beyond (segmentAt (t .segments) j) y ⊎ ColumnIs Beyond (segmentAt (t .segments) j) x
+Clear t y x j = RowIs BeyondByOne (segmentAt (t .segments) j) y ⊎ ColumnIs BeyondByOne (segmentAt (t .segments) j) x
 
 -- what a drawing of a row of a kept table updates: a segment that is not hidden for the desk updates the pixels of the part that are no farther than d - 1 from its centre by row and by column,
 -- and none that is farther than d + 1 by either; so a pixel that is so far from every segment that is not hidden comes back as it was
 pub record DrawingsNear : Type 0 where
   pub inside : (d : Description) (i : Setting) (segments : List Segment) (owners : List ℕ) (t : Table) (s : Sight) → KeptTable d i segments t → KeptSight d i segments owners s
       → (y x0 n x j : ℕ) → y < i .height → x < n → j < t .segmentCount → hiddenIn s j ≡ false
-      → RowIs Inside (segmentAt (t .segments) j) y → ColumnIs Inside (segmentAt (t .segments) j) (x0 + x) → UpdatesBy t s y x0 n x j
+      → RowIs InsideByOne (segmentAt (t .segments) j) y → ColumnIs InsideByOne (segmentAt (t .segments) j) (x0 + x) → UpdatesBy t s y x0 n x j
   pub outside : (d : Description) (i : Setting) (segments : List Segment) (owners : List ℕ) (t : Table) (s : Sight) → KeptTable d i segments t → KeptSight d i segments owners s
       → (y x0 n x j : ℕ) → y < i .height → Clear t y (x0 + x) j → UpdatesBy t s y x0 n x j → ⊥
   pub kept : (d : Description) (i : Setting) (segments : List Segment) (owners : List ℕ) (t : Table) (s : Sight) → KeptTable d i segments t → KeptSight d i segments owners s

@@ -17,7 +17,7 @@ use Rattle.trace_read.proofs.trace_read.Reads as trace-read
 use Rattle.trace_write.proofs.trace_write.Reads as trace-write
 
 -- of a file, with so many cells lent; the file is bytes, as every slice of u8 is that can be lent (the contract of `trace_laws::lend_bytes`)
-pub data TraceReadCall : List ℕ → ListRooms → reading.Outcome → Type 0 where
+pub data TraceReadCall : List ℕ → ListRooms → reading.ReadOutcome → Type 0 where
   reads : (κs : Lfts 5) (bytes : _) (counts : _) (starts : _) (deltas : _) (coefficients : _) (r : _)
       (bytes′ : _) (counts′ : _) (starts′ : _) (deltas′ : _) (coefficients′ : _)
       → Bytes (now bytes) → trace-read.Post κs (bytes, (counts, (starts, (deltas, (coefficients, tt))))) r

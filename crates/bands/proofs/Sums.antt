@@ -21,7 +21,7 @@ use Rattle.checks.proofs.Checks.{row-facts-for}
 use Rattle.checks.proofs.Entries.{slice-next, slice-none, not-below, not-owned, owned-on}
 use Rattle.hull.specs.Reach.{joined, reachOver, columnsBelow}
 use Rattle.hull.proofs.Hulls.{same-range, joinedOver, joined-over}
-use Rattle.bands.specs.declared.Numbers.{Numbers}
+use Rattle.bands.specs.declared.BandNumbers.{BandNumbers}
 use Rattle.bands.specs.declared.Summed.{Summed}
 use Rattle.bands.specs.declared.Summed.the-variants.{Good, Bad}
 use Rattle.bands.specs.Bands.{rowsGoodFrom, shownFrom, leastOf, greatestOf, numbersOver}
@@ -29,34 +29,34 @@ use Rattle.bands.specs.Steps.{nothing, leastWith, withOne, summed, goodO
 
 -- ---- listed entries
 
-pub same-numbers : (m n : Numbers) → m .entries ≡ n .entries → m .least ≡ n .least → m .greatest ≡ n .greatest → m .first ≡ n .first → m .past ≡ n .past → m ≡ n
+pub same-numbers : (m n : BandNumbers) → m .entries ≡ n .entries → m .least ≡ n .least → m .greatest ≡ n .greatest → m .first ≡ n .first → m .past ≡ n .past → m ≡ n
 same-numbers m n p q r u v = rw (p, q, r, u, v)
 
-abbrev rangeOf : Numbers → Range
+abbrev rangeOf : BandNumbers → Range
 rangeOf m = record { first = m .first; past = m .past }
 
 module _ (segs : List Float) (W : ℕ) where
-  pub summed-entries : (m : Numbers) (l : List ℕ) → summed segs W m l .entries ≡ m .entries + length l
+  pub summed-entries : (m : BandNumbers) (l : List ℕ) → summed segs W m l .entries ≡ m .entries + length l
   unfolding withOne
   summed-entries m [] = omega arith
   summed-entries m (i ∷ l) = omega (arith, summed-entries (withOne segs W m i) l)
 
-  summed-least : (m : Numbers) (l : List ℕ) → 0 < m .entries → summed segs W m l .least ≡ foldl min (m .least) l
+  summed-least : (m : BandNumbers) (l : List ℕ) → 0 < m .entries → summed segs W m l .least ≡ foldl min (m .least) l
   unfolding withOne
   summed-least m [] h = refl
   summed-least m (i ∷ l) h = summed-least (withOne segs W m i) l (omega arith) ∙ ap (λ (b : Bool). foldl min (cond b (min (m .least) i) i) l) (lt-ltb 0 (m .entries) h)
 
-  summed-greatest : (m : Numbers) (l : List ℕ) → summed segs W m l .greatest ≡ foldl max (m .greatest) l
+  summed-greatest : (m : BandNumbers) (l : List ℕ) → summed segs W m l .greatest ≡ foldl max (m .greatest) l
   unfolding withOne
   summed-greatest m [] = refl
   summed-greatest m (i ∷ l) = summed-greatest (withOne segs W m i) l
 
-  summed-range : (m : Numbers) (l : List ℕ) → rangeOf (summed segs W m l) ≡ joinedOver segs W (rangeOf m) l
+  summed-range : (m : BandNumbers) (l : List ℕ) → rangeOf (summed segs W m l) ≡ joinedOver segs W (rangeOf m) l
   unfolding withOne
   summed-range m [] = refl
   summed-range m (i ∷ l) = summed-range (withOne segs W m i) l
 
-  pub summed-append : (m : Numbers) (a b : List ℕ) → summed segs W m (a ++ b) ≡ summed segs W (summed segs W m a) b
+  pub summed-append : (m : BandNumbers) (a b : List ℕ) → summed segs W m (a ++ b) ≡ summed segs W (summed segs W m a) b
   summed-append m [] b = refl
   summed-append m (i ∷ a) b = summed-append (withOne segs W m i) a b
 
@@ -90,7 +90,7 @@ summed-all t W w l =
 -- ---- an entry after another
 
 -- the sum with one entry, from its parts
-pub one-is : (segs : List Float) (W : ℕ) (m : Numbers) (i w : ℕ) {l g : ℕ} {q r : Range} {z : Segment} → z ≡ segmentAt segs i → r ≡ joined q (columnsBelow w z) → l ≡ leastWith m i → w ≡ W → q .first ≡ m .first → q .past ≡ m .past → g ≡ max (m .greatest) i → record { entries = m .entries + 1; least = l; greatest = g; first = r .first; past = r .past } ≡ withOne segs W m i
+pub one-is : (segs : List Float) (W : ℕ) (m : BandNumbers) (i w : ℕ) {l g : ℕ} {q r : Range} {z : Segment} → z ≡ segmentAt segs i → r ≡ joined q (columnsBelow w z) → l ≡ leastWith m i → w ≡ W → q .first ≡ m .first → q .past ≡ m .past → g ≡ max (m .greatest) i → record { entries = m .entries + 1; least = l; greatest = g; first = r .first; past = r .past } ≡ withOne segs W m i
 unfolding withOne
 one-is segs W m i w {l} {g} {q} {r} {z} a b u k x y v =
     let j : r ≡ joined (rangeOf m) (columnsBelow W (segmentAt segs i)) =
@@ -102,44 +102,44 @@ one-is segs W m i w {l} {g} {q} {r} {z} a b u k x y v =
     rw (u, v, j)
 
 -- a sum with entry i, unless it is hidden
-abbrev pub sumWith : List Float → Sight → ℕ → Numbers → ℕ → Numbers
+abbrev pub sumWith : List Float → Sight → ℕ → BandNumbers → ℕ → BandNumbers
 sumWith segs s W m i = cond (hiddenIn s i) m (withOne segs W m i)
 
-pub sum-hidden : (segs : List Float) (s : Sight) (W : ℕ) (m : Numbers) (i : ℕ) → hiddenIn s i ≡ true → m ≡ sumWith segs s W m i
+pub sum-hidden : (segs : List Float) (s : Sight) (W : ℕ) (m : BandNumbers) (i : ℕ) → hiddenIn s i ≡ true → m ≡ sumWith segs s W m i
 sum-hidden segs s W m i e = rw e
 
-pub sum-shown : (segs : List Float) (s : Sight) (W : ℕ) (m : Numbers) (i : ℕ) {q : Numbers} → hiddenIn s i ≡ false → q ≡ withOne segs W m i → q ≡ sumWith segs s W m i
+pub sum-shown : (segs : List Float) (s : Sight) (W : ℕ) (m : BandNumbers) (i : ℕ) {q : BandNumbers} → hiddenIn s i ≡ false → q ≡ withOne segs W m i → q ≡ sumWith segs s W m i
 sum-shown segs s W m i e k = rw e k
 
 -- it counts one more at most
-pub with-most : (segs : List Float) (s : Sight) (W : ℕ) (m : Numbers) (i : ℕ) {q : Numbers} → q ≡ sumWith segs s W m i → q .entries ≤ m .entries + 1
+pub with-most : (segs : List Float) (s : Sight) (W : ℕ) (m : BandNumbers) (i : ℕ) {q : BandNumbers} → q ≡ sumWith segs s W m i → q .entries ≤ m .entries + 1
 unfolding withOne
-with-most segs s W m i {q} e = rw (ap (λ (n : Numbers). n .entries) e) (go (hiddenIn s i))
+with-most segs s W m i {q} e = rw (ap (λ (n : BandNumbers). n .entries) e) (go (hiddenIn s i))
   where
     go : (b : Bool) → cond b m (withOne segs W m i) .entries ≤ m .entries + 1
     go true = omega arith
     go false = omega arith
 
 module _ (segs : List Float) (count : ℕ) (s : Sight) (W e : ℕ) (l : List ℕ) (k : e ≤ length l) where
-  first-summed : (m : Numbers) (i : ℕ) (r : List ℕ) → summed segs W m (shown s (i ∷ r)) ≡ summed segs W (sumWith segs s W m i) (shown s r)
+  first-summed : (m : BandNumbers) (i : ℕ) (r : List ℕ) → summed segs W m (shown s (i ∷ r)) ≡ summed segs W (sumWith segs s W m i) (shown s r)
   first-summed m i r = go (hiddenIn s i)
     where
       go : (b : Bool) → summed segs W m (cond b (shown s r) (i ∷ shown s r)) ≡ summed segs W (cond b m (withOne segs W m i)) (shown s r)
       go true = refl
       go false = refl
 
-  pub over-not-below : (m : Numbers) (j : ℕ) → j < e → ltb (getD l j 0) count ≡ false → sumOver segs count s W m (slice j e l) ≡ Bad
+  pub over-not-below : (m : BandNumbers) (j : ℕ) → j < e → ltb (getD l j 0) count ≡ false → sumOver segs count s W m (slice j e l) ≡ Bad
   over-not-below m j h p = ap (λ (b : Bool). goodOr b (summed segs W m (shown s (slice j e l)))) (not-below count (s .owners) (s .splines) j e l h k p)
 
-  pub over-not-owned : (m : Numbers) (j : ℕ) → j < e → ltb (getD (s .owners) (getD l j 0) 0) (s .splines) ≡ false → sumOver segs count s W m (slice j e l) ≡ Bad
+  pub over-not-owned : (m : BandNumbers) (j : ℕ) → j < e → ltb (getD (s .owners) (getD l j 0) 0) (s .splines) ≡ false → sumOver segs count s W m (slice j e l) ≡ Bad
   over-not-owned m j h p = ap (λ (b : Bool). goodOr b (summed segs W m (shown s (slice j e l)))) (not-owned count (s .owners) (s .splines) j e l h k p)
 
-  pub over-next : (m q : Numbers) (j : ℕ) → j < e → ltb (getD l j 0) count ≡ true → ltb (getD (s .owners) (getD l j 0) 0) (s .splines) ≡ true → q ≡ sumWith segs s W m (getD l j 0) → sumOver segs count s W m (slice j e l) ≡ sumOver segs count s W q (slice (j + 1) e l)
+  pub over-next : (m q : BandNumbers) (j : ℕ) → j < e → ltb (getD l j 0) count ≡ true → ltb (getD (s .owners) (getD l j 0) 0) (s .splines) ≡ true → q ≡ sumWith segs s W m (getD l j 0) → sumOver segs count s W m (slice j e l) ≡ sumOver segs count s W q (slice (j + 1) e l)
   over-next m q j h p o v =
       ap (λ (b : Bool). goodOr b (summed segs W m (shown s (slice j e l)))) (owned-on count (s .owners) (s .splines) j e l h k p o)
-      ∙ ap (goodOr (allBelow count (slice (j + 1) e l) && allOwned (s .owners) (s .splines) (slice (j + 1) e l))) (ap (λ (r : List ℕ). summed segs W m (shown s r)) (slice-next j e l h k) ∙ first-summed m (getD l j 0) (slice (j + 1) e l) ∙ ap (λ (n : Numbers). summed segs W n (shown s (slice (j + 1) e l))) (sym v))
+      ∙ ap (goodOr (allBelow count (slice (j + 1) e l) && allOwned (s .owners) (s .splines) (slice (j + 1) e l))) (ap (λ (r : List ℕ). summed segs W m (shown s r)) (slice-next j e l h k) ∙ first-summed m (getD l j 0) (slice (j + 1) e l) ∙ ap (λ (n : BandNumbers). summed segs W n (shown s (slice (j + 1) e l))) (sym v))
 
-  pub over-none : (m : Numbers) (j : ℕ) → j ≤ e → e ≤ j → sumOver segs count s W m (slice j e l) ≡ Good m
+  pub over-none : (m : BandNumbers) (j : ℕ) → j ≤ e → e ≤ j → sumOver segs count s W m (slice j e l) ≡ Good m
   over-none m j h g = ap (λ (r : List ℕ). sumOver segs count s W m r) (slice-none j e l h g)
 
 -- ---- a row after another
@@ -148,51 +148,51 @@ abbrev is-good : Summed → Type 0
 is-good (Good m) = Unit
 is-good Bad = ⊥
 
-abbrev numbersIn : Numbers → Summed → Numbers
+abbrev numbersIn : BandNumbers → Summed → BandNumbers
 numbersIn d (Good m) = m
 numbersIn d Bad = d
 
-pub was-good : (b : Bool) (m : Numbers) {q : Numbers} → goodOr b m ≡ Good q → (b ≡ true) × (q ≡ m)
+pub was-good : (b : Bool) (m : BandNumbers) {q : BandNumbers} → goodOr b m ≡ Good q → (b ≡ true) × (q ≡ m)
 was-good true m {q} e = (refl, sym (ap (numbersIn m) e))
 was-good false m e = absurd (subst is-good (sym e) tt)
 
-pub was-bad : (b : Bool) (m : Numbers) → goodOr b m ≡ Bad → b ≡ false
+pub was-bad : (b : Bool) (m : BandNumbers) → goodOr b m ≡ Bad → b ≡ false
 was-bad true m e = absurd (subst is-good e tt)
 was-bad false m e = refl
 
 module _ (t : Table) (s : Sight) (W : ℕ) where
-  pub rows-none : (m : Numbers) (y : ℕ) → sumRows t s W m y 0 ≡ Good m
+  pub rows-none : (m : BandNumbers) (y : ℕ) → sumRows t s W m y 0 ≡ Good m
   unfolding rowsGoodFrom shownFrom
   rows-none m y = refl
 
-  pub rows-next : (m q : Numbers) (y n : ℕ) → sumRow t s W m y ≡ Good q → sumRows t s W m y (suc n) ≡ sumRows t s W q (suc y) n
+  pub rows-next : (m q : BandNumbers) (y n : ℕ) → sumRow t s W m y ≡ Good q → sumRows t s W m y (suc n) ≡ sumRows t s W q (suc y) n
   unfolding rowsGoodFrom shownFrom
   rows-next m q y n e =
       let g = was-good (rowGoodFor t s y) (summed (t .segments) W m (shownOf t s y)) e in
       rw (g .0)
       (ap
       (goodOr (rowsGoodFrom t s (suc y) n))
-      (summed-append (t .segments) W m (shownOf t s y) (shownFrom t s (suc y) n) ∙ ap (λ (k : Numbers). summed (t .segments) W k (shownFrom t s (suc y) n)) (sym (g .1))))
+      (summed-append (t .segments) W m (shownOf t s y) (shownFrom t s (suc y) n) ∙ ap (λ (k : BandNumbers). summed (t .segments) W k (shownFrom t s (suc y) n)) (sym (g .1))))
 
-  pub rows-bad : (m : Numbers) (y n : ℕ) → sumRow t s W m y ≡ Bad → sumRows t s W m y (suc n) ≡ Bad
+  pub rows-bad : (m : BandNumbers) (y n : ℕ) → sumRow t s W m y ≡ Bad → sumRows t s W m y (suc n) ≡ Bad
   unfolding rowsGoodFrom shownFrom
   rows-bad m y n e = rw (was-bad (rowGoodFor t s y) (summed (t .segments) W m (shownOf t s y)) e)
 
   -- up to a row e
-  pub rows-on : (m q : Numbers) (y e : ℕ) → y < e → sumRow t s W m y ≡ Good q → sumRows t s W m y (e - y) ≡ sumRows t s W q (y + 1) (e - (y + 1))
+  pub rows-on : (m q : BandNumbers) (y e : ℕ) → y < e → sumRow t s W m y ≡ Good q → sumRows t s W m y (e - y) ≡ sumRows t s W q (y + 1) (e - (y + 1))
   rows-on m q y e h g =
       let a : e - y ≡ suc (e - (y + 1)) = omega arith in
       let b : suc y ≡ y + 1 = omega arith in
       ap (sumRows t s W m y) a ∙ rows-next m q y (e - (y + 1)) g ∙ ap (λ (k : ℕ). sumRows t s W q k (e - (y + 1))) b
 
-  pub rows-off : (m : Numbers) (y e : ℕ) → y < e → sumRow t s W m y ≡ Bad → sumRows t s W m y (e - y) ≡ Bad
+  pub rows-off : (m : BandNumbers) (y e : ℕ) → y < e → sumRow t s W m y ≡ Bad → sumRows t s W m y (e - y) ≡ Bad
   rows-off m y e h g = let a : e - y ≡ suc (e - (y + 1)) = omega arith in ap (sumRows t s W m y) a ∙ rows-bad m y (e - (y + 1)) g
 
-  pub rows-end : (m : Numbers) (y e : ℕ) → e ≤ y → sumRows t s W m y (e - y) ≡ Good m
+  pub rows-end : (m : BandNumbers) (y e : ℕ) → e ≤ y → sumRows t s W m y (e - y) ≡ Good m
   rows-end m y e h = let a : e - y ≡ 0 = omega arith in ap (sumRows t s W m y) a ∙ rows-none m y
 
   -- the entries summed are no more than the row's end: each row begins where the one before it ends
-  pub row-most : (m q : Numbers) (y : ℕ) → Lent t s → m .entries ≤ getD (t .rowStarts) y 0 → sumRow t s W m y ≡ Good q → q .entries ≤ getD (t .rowStarts) (y + 1) 0
+  pub row-most : (m q : BandNumbers) (y : ℕ) → Lent t s → m .entries ≤ getD (t .rowStarts) y 0 → sumRow t s W m y ≡ Good q → q .entries ≤ getD (t .rowStarts) (y + 1) 0
   row-most m q y f h e =
       let g = was-good (rowGoodFor t s y) (summed (t .segments) W m (shownOf t s y)) e in
       let r = row-facts-for t s y (g .0) in
@@ -200,12 +200,12 @@ module _ (t : Table) (s : Sight) (W : ℕ) where
       let b = shown-most s (rowOf t y) in
       let fit : getD (t .rowStarts) (y + 1) 0 ≤ length (t .entries) = omega (arith, r .table .in-count, f .counts .table .entries-fit) in
       let d = length-slice (getD (t .rowStarts) y 0) (getD (t .rowStarts) (y + 1) 0) (t .entries) fit in
-      let p : q .entries ≡ summed (t .segments) W m (shownOf t s y) .entries = ap (λ (k : Numbers). k .entries) (g .1) in
+      let p : q .entries ≡ summed (t .segments) W m (shownOf t s y) .entries = ap (λ (k : BandNumbers). k .entries) (g .1) in
       omega (arith, a, b, d, p, h, r .table .ascending)
 
   -- a sum whose numbers are all 0 is that of no entry
-  pub rows-begin : (m : Numbers) (y n : ℕ) → m .entries ≡ 0 → m .least ≡ 0 → m .greatest ≡ 0 → m .first ≡ 0 → m .past ≡ 0 → sumRows t s W nothing y n ≡ sumRows t s W m y n
-  rows-begin m y n p q r u v = sym (ap (λ (k : Numbers). sumRows t s W k y n) (same-numbers m nothing p q r u v))
+  pub rows-begin : (m : BandNumbers) (y n : ℕ) → m .entries ≡ 0 → m .least ≡ 0 → m .greatest ≡ 0 → m .first ≡ 0 → m .past ≡ 0 → sumRows t s W nothing y n ≡ sumRows t s W m y n
+  rows-begin m y n p q r u v = sym (ap (λ (k : BandNumbers). sumRows t s W k y n) (same-numbers m nothing p q r u v))
 
   -- from nothing: the numbers of all that is shown
   pub rows-all : W ≤ 2 ^ 23 → (y n : ℕ) → sumRows t s W nothing y n ≡ goodOr (rowsGoodFrom t s y n) (numbersOver t W (shownFrom t s y n))

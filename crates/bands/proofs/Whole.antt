@@ -19,10 +19,10 @@ use Rattle.checks.specs.declared.Verdict.the-variants.{Fine, Fault}
 use Rattle.checks.proofs.Checks.{passed-check, counts-facts-for}
 use Rattle.bands.specs.declared.BandsAnswer.{BandsAnswer}
 use Rattle.bands.specs.declared.BandsAnswer.the-variants.{Done, Refused}
-use Rattle.bands.specs.declared.Numbers.{Numbers}
+use Rattle.bands.specs.declared.BandNumbers.{BandNumbers}
 use Rattle.bands.specs.declared.Summed.{Summed}
 use Rattle.bands.specs.declared.Summed.the-variants.{Good, Bad}
-use Rattle.bands.specs.Bands.{bandsIn, rowOfBand, rowsIn, shownFrom, rowsGoodFrom, bandGood, numbersOver, numbersOf, cellsOf, putBand, putBands}
+use Rattle.bands.specs.Bands.{bandsIn, rowOfBand, rowsIn, shownFrom, rowsGoodFrom, bandGood, numbersOver, bandNumbers, bandCells, putBand, putBands}
 use Rattle.bands.specs.Calls.{beforeRows, judgeBands, judgeBand, byVerdict, toldOf, leaves, freshCells, bandsOf, bandOf}
 use Rattle.bands.specs.Refusals.{SummaryFits}
 use Rattle.bands.specs.Steps.{goodOr}
@@ -37,7 +37,7 @@ band-begins H b h = omega arith
 
 module _ (t : Table) (s : Sight) (W : ℕ) where
   -- the sum of its rows, from its first up to the least of 64 more and the height
-  pub band-sum : (b y e : ℕ) {r : Summed} → y ≡ 64 * b → e ≡ min (y + 64) (t .height) → r ≡ goodOr (rowsGoodFrom t s y (e - y)) (numbersOver t W (shownFrom t s y (e - y))) → r ≡ goodOr (bandGood t s b) (numbersOf t s W b)
+  pub band-sum : (b y e : ℕ) {r : Summed} → y ≡ 64 * b → e ≡ min (y + 64) (t .height) → r ≡ goodOr (rowsGoodFrom t s y (e - y)) (numbersOver t W (shownFrom t s y (e - y))) → r ≡ goodOr (bandGood t s b) (bandNumbers t s W b)
   unfolding rowOfBand rowsIn
   band-sum b y e {r} p q k =
       let n : e - y ≡ min 64 (t .height - 64 * b) = omega (arith, p, q) in
@@ -116,27 +116,27 @@ not-so e = subst is-false e tt
 
 -- ---- the cells of the bands
 
-module _ (cells : List ℕ) (of : ℕ → Numbers) where
+module _ (cells : List ℕ) (of : ℕ → BandNumbers) where
   pub put-none : cells ≡ putBands cells of 0
   unfolding putBands
   put-none = refl
 
-  pub put-next : (now next : List ℕ) (b k : ℕ) (m : Numbers) → now ≡ putBands cells of b → k ≡ 5 * b → m ≡ of b → next ≡ sets now k (cellsOf m) → next ≡ putBands cells of (b + 1)
+  pub put-next : (now next : List ℕ) (b k : ℕ) (m : BandNumbers) → now ≡ putBands cells of b → k ≡ 5 * b → m ≡ of b → next ≡ sets now k (bandCells m) → next ≡ putBands cells of (b + 1)
   unfolding putBands putBand
   put-next now next b k m p q u v =
       let e : suc b ≡ b + 1 = omega arith in
       v
-      ∙ ap (λ (l : List ℕ). sets l k (cellsOf m)) p
-      ∙ ap (λ (j : ℕ). sets (putBands cells of b) j (cellsOf m)) q
-      ∙ ap (λ (n : Numbers). sets (putBands cells of b) (5 * b) (cellsOf n)) u
+      ∙ ap (λ (l : List ℕ). sets l k (bandCells m)) p
+      ∙ ap (λ (j : ℕ). sets (putBands cells of b) j (bandCells m)) q
+      ∙ ap (λ (n : BandNumbers). sets (putBands cells of b) (5 * b) (bandCells n)) u
       ∙ ap (putBands cells of) e
 
-pub put-one : (cells next : List ℕ) (b k : ℕ) (m : Numbers) {n : Numbers} → k ≡ 5 * b → m ≡ n → next ≡ sets cells k (cellsOf m) → next ≡ putBand cells b n
+pub put-one : (cells next : List ℕ) (b k : ℕ) (m : BandNumbers) {n : BandNumbers} → k ≡ 5 * b → m ≡ n → next ≡ sets cells k (bandCells m) → next ≡ putBand cells b n
 unfolding putBand
-put-one cells next b k m q u v = v ∙ ap (λ (j : ℕ). sets cells j (cellsOf m)) q ∙ ap (λ (x : Numbers). sets cells (5 * b) (cellsOf x)) u
+put-one cells next b k m q u v = v ∙ ap (λ (j : ℕ). sets cells j (bandCells m)) q ∙ ap (λ (x : BandNumbers). sets cells (5 * b) (bandCells x)) u
 
-pub put-length : (cells next : List ℕ) (k : ℕ) (m : Numbers) → next ≡ sets cells k (cellsOf m) → length next ≡ length cells
-put-length cells next k m v = ap length v ∙ length-sets cells k (cellsOf m)
+pub put-length : (cells next : List ℕ) (k : ℕ) (m : BandNumbers) → next ≡ sets cells k (bandCells m) → length next ≡ length cells
+put-length cells next k m v = ap length v ∙ length-sets cells k (bandCells m)
 
 -- the five cells of a band of the image are lent
 pub cells-fit : (H b room : ℕ) → b < bandsIn H → 5 * bandsIn H ≤ room → 5 * b + 5 ≤ room
@@ -207,9 +207,9 @@ told-done (Refused c p) n h e = absurd (omega (arith, h, e))
 -- ---- refreshing
 
 module _ (t : Table) (s : Sight) (W b : ℕ) (cells : List ℕ) where
-  by-band : {v : Verdict} → judgeBand t s W (length cells) b ≡ v → byVerdict v (bandsIn (t .height)) (putBand cells b (numbersOf t s W b)) cells ≡ bandOf t s W b cells
+  by-band : {v : Verdict} → judgeBand t s W (length cells) b ≡ v → byVerdict v (bandsIn (t .height)) (putBand cells b (bandNumbers t s W b)) cells ≡ bandOf t s W b cells
   unfolding bandOf
-  by-band e = sym (ap (λ (v : Verdict). byVerdict v (bandsIn (t .height)) (putBand cells b (numbersOf t s W b)) cells) e)
+  by-band e = sym (ap (λ (v : Verdict). byVerdict v (bandsIn (t .height)) (putBand cells b (bandNumbers t s W b)) cells) e)
 
   pub refresh-fault : {c : Code} → beforeRows t s W (length cells) Fine ≡ Fault c → leaves (Refused c 0) cells ≡ bandOf t s W b cells
   unfolding judgeBand
@@ -229,15 +229,15 @@ module _ (t : Table) (s : Sight) (W b : ℕ) (cells : List ℕ) where
         before-on t s W (length cells) (orFault (ltb b (bandsIn (t .height))) Code.Band (orFault (bandGood t s b) Code.Table Fine)) h
         ∙ ap (λ (q : Bool). orFault q Code.Band (orFault (bandGood t s b) Code.Table Fine)) (lt-ltb b (bandsIn (t .height)) k)
 
-    pub refresh-bad : b < bandsIn (t .height) → goodOr (bandGood t s b) (numbersOf t s W b) ≡ Bad → leaves (Refused Code.Table 0) cells ≡ bandOf t s W b cells
-    refresh-bad k g = by-band (looked-at k ∙ ap (λ (q : Bool). orFault q Code.Table Fine) (was-bad (bandGood t s b) (numbersOf t s W b) g))
+    pub refresh-bad : b < bandsIn (t .height) → goodOr (bandGood t s b) (bandNumbers t s W b) ≡ Bad → leaves (Refused Code.Table 0) cells ≡ bandOf t s W b cells
+    refresh-bad k g = by-band (looked-at k ∙ ap (λ (q : Bool). orFault q Code.Table Fine) (was-bad (bandGood t s b) (bandNumbers t s W b) g))
 
-    pub refresh-done : {r : BandsAnswer} {m : Numbers} (next : List ℕ) (k : ℕ) → b < bandsIn (t .height) → goodOr (bandGood t s b) (numbersOf t s W b) ≡ Good m → toldOf r .bands ≡ bandsIn (t .height) → k ≡ 5 * b → next ≡ sets cells k (cellsOf m) → leaves r next ≡ bandOf t s W b cells
+    pub refresh-done : {r : BandsAnswer} {m : BandNumbers} (next : List ℕ) (k : ℕ) → b < bandsIn (t .height) → goodOr (bandGood t s b) (bandNumbers t s W b) ≡ Good m → toldOf r .bands ≡ bandsIn (t .height) → k ≡ 5 * b → next ≡ sets cells k (bandCells m) → leaves r next ≡ bandOf t s W b cells
     refresh-done {r} {m} next k j g e q v =
-        let w = was-good (bandGood t s b) (numbersOf t s W b) g in
+        let w = was-good (bandGood t s b) (bandNumbers t s W b) g in
         let n : 0 < bandsIn (t .height) = omega arith in
         ap (λ (l : List ℕ). leaves r l) (put-one cells next b k m q (w .1) v)
-        ∙ ap (λ (x : BandsAnswer). leaves x (putBand cells b (numbersOf t s W b))) (told-done r (bandsIn (t .height)) n e)
+        ∙ ap (λ (x : BandsAnswer). leaves x (putBand cells b (bandNumbers t s W b))) (told-done r (bandsIn (t .height)) n e)
         ∙ by-band (looked-at j ∙ ap (λ (x : Bool). orFault x Code.Table Fine) (w .0))
 
 -- ---- making
@@ -259,9 +259,9 @@ module _ (t : Table) (s : Sight) (W room : ℕ) where
     pub make-bad : (cells : List ℕ) → rowsGoodFrom t s 0 (t .height) ≡ false → cells ≡ replicate room 0 → leaves (Refused Code.Table 0) cells ≡ bandsOf t s W room
     make-bad cells g z = ap (λ (l : List ℕ). leaves (Refused Code.Table 0) l) z ∙ by-bands (all-looked-at ∙ ap (λ (x : Bool). orFault x Code.Table Fine) g)
 
-    pub make-done : (before cells : List ℕ) (n : ℕ) → rowsGoodFrom t s 0 (t .height) ≡ true → before ≡ replicate room 0 → cells ≡ putBands before (numbersOf t s W) (bandsIn (t .height)) → n ≡ bandsIn (t .height) → leaves (Done n) cells ≡ bandsOf t s W room
+    pub make-done : (before cells : List ℕ) (n : ℕ) → rowsGoodFrom t s 0 (t .height) ≡ true → before ≡ replicate room 0 → cells ≡ putBands before (bandNumbers t s W) (bandsIn (t .height)) → n ≡ bandsIn (t .height) → leaves (Done n) cells ≡ bandsOf t s W room
     make-done before cells n g z v e =
-        ap (λ (l : List ℕ). leaves (Done n) l) (v ∙ ap (λ (l : List ℕ). putBands l (numbersOf t s W) (bandsIn (t .height))) z)
+        ap (λ (l : List ℕ). leaves (Done n) l) (v ∙ ap (λ (l : List ℕ). putBands l (bandNumbers t s W) (bandsIn (t .height))) z)
         ∙ ap (λ (x : ℕ). leaves (Done x) (freshCells t s W room)) e
         ∙ by-bands (all-looked-at ∙ ap (λ (x : Bool). orFault x Code.Table Fine) g)
 

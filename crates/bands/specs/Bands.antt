@@ -8,7 +8,7 @@ use Rattle.desks.specs.Desks.{Sight}
 use Rattle.checks.specs.Tables.{Table, shownOf}
 use Rattle.checks.specs.Checks.{rowGoodFor}
 use Rattle.hull.specs.Reach.{reachOver}
-use Rattle.bands.specs.declared.Numbers.{Numbers}
+use Rattle.bands.specs.declared.BandNumbers.{BandNumbers}
 
 -- ---- the rows of a band
 
@@ -53,7 +53,7 @@ greatestOf [] = 0
 greatestOf (i ∷ l) = foldl max i l
 
 -- of what is shown: how many entries, the least and the greatest segment number, and the hull of the columns below W that drawing it would touch
-unfoldable pub numbersOver : Table → ℕ → List ℕ → Numbers
+unfoldable pub numbersOver : Table → ℕ → List ℕ → BandNumbers
 numbersOver t W l = record {
   entries = length l;
   least = leastOf l;
@@ -62,19 +62,19 @@ numbersOver t W l = record {
   past = reachOver (t .segments) W l .past;
 }
 
-abbrev pub numbersOf : Table → Sight → ℕ → ℕ → Numbers
-numbersOf t s W b = numbersOver t W (shownIn t s b)
+abbrev pub bandNumbers : Table → Sight → ℕ → ℕ → BandNumbers
+bandNumbers t s W b = numbersOver t W (shownIn t s b)
 
 -- ---- the cells of a summary: five a band, one band after another
 
-abbrev pub cellsOf : Numbers → List ℕ
-cellsOf m = m .entries ∷ m .least ∷ m .greatest ∷ m .first ∷ m .past ∷ []
+abbrev pub bandCells : BandNumbers → List ℕ
+bandCells m = m .entries ∷ m .least ∷ m .greatest ∷ m .first ∷ m .past ∷ []
 
 -- the numbers of band b put into its five cells
-unfoldable pub putBand : List ℕ → ℕ → Numbers → List ℕ
-putBand cells b m = sets cells (5 * b) (cellsOf m)
+unfoldable pub putBand : List ℕ → ℕ → BandNumbers → List ℕ
+putBand cells b m = sets cells (5 * b) (bandCells m)
 
 -- those of the first n bands
-unfoldable pub putBands : List ℕ → (ℕ → Numbers) → ℕ → List ℕ
+unfoldable pub putBands : List ℕ → (ℕ → BandNumbers) → ℕ → List ℕ
 putBands cells of zero = cells
 putBands cells of (suc n) = putBand (putBands cells of n) n (of n)

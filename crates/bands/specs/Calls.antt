@@ -12,7 +12,7 @@ use Rattle.checks.specs.declared.Verdict.{Verdict}
 use Rattle.checks.specs.declared.Verdict.the-variants.{Fine, Fault}
 use Rattle.bands.specs.declared.BandsAnswer.{BandsAnswer}
 use Rattle.bands.specs.declared.BandsAnswer.the-variants.{Done, Refused}
-use Rattle.bands.specs.Bands.{bandsIn, rowsGoodFrom, bandGood, numbersOf, putBand, putBands}
+use Rattle.bands.specs.Bands.{bandsIn, rowsGoodFrom, bandGood, bandNumbers, putBand, putBands}
 
 -- ---- the checks
 
@@ -61,7 +61,7 @@ byVerdict (Fault c) n done refused = leaves (Refused c 0) refused
 
 -- the summary made afresh in so many cells, with zeros behind the last band
 abbrev pub freshCells : Table → Sight → ℕ → ℕ → List ℕ
-freshCells t s W room = putBands (replicate room 0) (numbersOf t s W) (bandsIn (t .height))
+freshCells t s W room = putBands (replicate room 0) (bandNumbers t s W) (bandsIn (t .height))
 
 -- what making answers and leaves in so many cells; a refused making leaves zeros
 unfoldable pub bandsOf : Table → Sight → ℕ → ℕ → BandsOutcome
@@ -69,4 +69,4 @@ bandsOf t s W room = byVerdict (judgeBands t s W room) (bandsIn (t .height)) (fr
 
 -- what refreshing band b answers and leaves of these cells; a refused refresh changes nothing
 unfoldable pub bandOf : Table → Sight → ℕ → ℕ → List ℕ → BandsOutcome
-bandOf t s W b cells = byVerdict (judgeBand t s W (length cells) b) (bandsIn (t .height)) (putBand cells b (numbersOf t s W b)) cells
+bandOf t s W b cells = byVerdict (judgeBand t s W (length cells) b) (bandsIn (t .height)) (putBand cells b (bandNumbers t s W b)) cells

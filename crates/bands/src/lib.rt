@@ -8,7 +8,7 @@ ghost use Rattle.desks.specs.Desks.{sightOf, hiddenIn};
 ghost use Rattle.checks.specs.Tables.{tableOf};
 ghost use Rattle.checks.specs.Refusals.{Lent};
 ghost use Rattle.checks.specs.declared.Verdict.the-variants.{Fine};
-ghost use Rattle.bands.specs.Bands.{bandsIn, rowsGoodFrom, bandGood, shownFrom, numbersOver, numbersOf, cellsOf, putBands};
+ghost use Rattle.bands.specs.Bands.{bandsIn, rowsGoodFrom, bandGood, shownFrom, numbersOver, bandNumbers, bandCells, putBands};
 ghost use Rattle.bands.specs.Calls.{beforeRows, leaves, bandsOf, bandOf};
 ghost use Rattle.bands.specs.Steps.{leastWith, withOne, goodOr, sumOver, sumRow};
 use checks::Verdict;
@@ -17,7 +17,7 @@ use segments::Range;
 use segments::Segment;
 
 // The numbers of a band: the entries shown, the least and the greatest segment number, the first column and one past the last.
-pub struct Numbers {
+pub struct BandNumbers {
     pub entries: u32,
     pub least: u32,
     pub greatest: u32,
@@ -33,12 +33,12 @@ pub enum BandsAnswer {
 
 // The numbers of what was summed, or that an entry, an owner or a start of it is bad.
 pub enum Summed {
-    Good(Numbers),
+    Good(BandNumbers),
     Bad,
 }
 
 // The least segment number of what was summed and of entry i; the first entry sets it.
-fn least_with(sum: Numbers, i: u32) -> u32
+fn least_with(sum: BandNumbers, i: u32) -> u32
     ensures { λ r. ⌜ r ≡ leastWith sum i ⌝ }
 {
     if sum.entries == 0 {
@@ -48,7 +48,7 @@ fn least_with(sum: Numbers, i: u32) -> u32
 }
 
 // The sum with entry i, which is shown.
-fn with_shown(sum: Numbers, segments: &[f32], i: u32, width: u32) -> Numbers
+fn with_shown(sum: BandNumbers, segments: &[f32], i: u32, width: u32) -> BandNumbers
     requires { ⌜ (8 * i + 8 ≤ length (now segments)) × (sum .entries < 2 ^ 30) ⌝ }
     ensures { λ r. ⌜ r ≡ withOne (now (segments .entry)) width sum i ⌝ }
 {
@@ -59,7 +59,7 @@ fn with_shown(sum: Numbers, segments: &[f32], i: u32, width: u32) -> Numbers
     let joined = hull::with_segment(found, Segment::at(segments, i as usize), width);
     let least = least_with(sum, i);
     let greatest = if sum.greatest < i { i } else { sum.greatest };
-    Numbers {
+    BandNumbers {
         entries: sum.entries + 1,
         least,
         greatest,
@@ -70,7 +70,7 @@ fn with_shown(sum: Numbers, segments: &[f32], i: u32, width: u32) -> Numbers
 
 // The sum with entry i, unless its segment is hidden for the desk.
 fn with_entry(
-    sum: Numbers,
+    sum: BandNumbers,
     segments: &[f32],
     owners: &[u64],
     splines: u64,
@@ -78,7 +78,7 @@ fn with_entry(
     desk: u32,
     i: u32,
     width: u32,
-) -> Numbers
+) -> BandNumbers
     requires { ⌜ (8 * i + 8 ≤ length (now segments)) × (sum .entries < 2 ^ 30) × (i < length (now owners)) × (getD (now owners) i 0 < length (now bits)) × (desk < 2) ⌝ }
     ensures { λ r. ⌜ r ≡ cond (hiddenIn (sightOf (now (owners .entry)) splines (now (bits .entry)) desk) i) sum (withOne (now (segments .entry)) width sum i) ⌝ }
 {
@@ -90,7 +90,7 @@ fn with_entry(
 
 // The sum with the entries from b up to e that are shown, or that one of them names no segment, or one whose owner is no spline.
 fn sum_entries(
-    sum: Numbers,
+    sum: BandNumbers,
     segments: &[f32],
     owners: &[u64],
     segment_count: u32,
@@ -123,7 +123,7 @@ fn sum_entries(
 
 // The sum with the shown entries of row y, or that the row is bad.
 fn sum_row(
-    sum: Numbers,
+    sum: BandNumbers,
     segments: &[f32],
     owners: &[u64],
     segment_count: u32,
@@ -184,7 +184,7 @@ fn sum_rows(
     requires { ⌜ (y ≤ end) × (end ≤ height) × (width ≤ 2 ^ 23) ⌝ }
     ensures { λ r. ⌜ r ≡ goodOr (rowsGoodFrom (tableOf (now (segments .entry)) «segment_count» (now (entries .entry)) «entry_count» (now («row_starts» .entry)) height) (sightOf (now (owners .entry)) splines (now (bits .entry)) desk) y (end - y)) (numbersOver (tableOf (now (segments .entry)) «segment_count» (now (entries .entry)) «entry_count» (now («row_starts» .entry)) height) width (shownFrom (tableOf (now (segments .entry)) «segment_count» (now (entries .entry)) «entry_count» (now («row_starts» .entry)) height) (sightOf (now (owners .entry)) splines (now (bits .entry)) desk) y (end - y))) ⌝ }
 {
-    let mut sum = Numbers {
+    let mut sum = BandNumbers {
         entries: 0,
         least: 0,
         greatest: 0,
@@ -233,7 +233,7 @@ fn sum_band(
 ) -> Summed
     requires { ⌜ Lent (tableOf (now segments) «segment_count» (now entries) «entry_count» (now «row_starts») height) (sightOf (now owners) splines (now bits) desk) ⌝ }
     requires { ⌜ (b < bandsIn height) × (width ≤ 2 ^ 23) ⌝ }
-    ensures { λ r. ⌜ r ≡ goodOr (bandGood (tableOf (now (segments .entry)) «segment_count» (now (entries .entry)) «entry_count» (now («row_starts» .entry)) height) (sightOf (now (owners .entry)) splines (now (bits .entry)) desk) b) (numbersOf (tableOf (now (segments .entry)) «segment_count» (now (entries .entry)) «entry_count» (now («row_starts» .entry)) height) (sightOf (now (owners .entry)) splines (now (bits .entry)) desk) width b) ⌝ }
+    ensures { λ r. ⌜ r ≡ goodOr (bandGood (tableOf (now (segments .entry)) «segment_count» (now (entries .entry)) «entry_count» (now («row_starts» .entry)) height) (sightOf (now (owners .entry)) splines (now (bits .entry)) desk) b) (bandNumbers (tableOf (now (segments .entry)) «segment_count» (now (entries .entry)) «entry_count» (now («row_starts» .entry)) height) (sightOf (now (owners .entry)) splines (now (bits .entry)) desk) width b) ⌝ }
 {
     let first = 64 * (b as usize);
     let rows = height as usize;
@@ -256,9 +256,9 @@ fn sum_band(
 }
 
 // The five numbers, written from cell k on.
-fn put(cells: &mut [u32], k: usize, numbers: Numbers)
+fn put(cells: &mut [u32], k: usize, numbers: BandNumbers)
     requires { ⌜ k + 5 ≤ length (now cells) ⌝ }
-    ensures { λ _. ⌜ now (cells .exit) ≡ sets (now (cells .entry)) k (cellsOf numbers) ⌝ }
+    ensures { λ _. ⌜ now (cells .exit) ≡ sets (now (cells .entry)) k (bandCells numbers) ⌝ }
 {
     cells[k] = numbers.entries;
     cells[k + 1] = numbers.least;
@@ -293,7 +293,7 @@ fn fill(
     requires { ⌜ Lent (tableOf (now segments) «segment_count» (now entries) «entry_count» (now «row_starts») height) (sightOf (now owners) splines (now bits) desk) ⌝ }
     requires { ⌜ (5 * bandsIn height ≤ length (now cells)) × (width ≤ 2 ^ 23) ⌝ }
     ensures { λ r. ⌜ r ≡ rowsGoodFrom (tableOf (now (segments .entry)) «segment_count» (now (entries .entry)) «entry_count» (now («row_starts» .entry)) height) (sightOf (now (owners .entry)) splines (now (bits .entry)) desk) 0 height ⌝ }
-    ensures { λ r. ⌜ (r ≡ true → now (cells .exit) ≡ putBands (now (cells .entry)) (numbersOf (tableOf (now (segments .entry)) «segment_count» (now (entries .entry)) «entry_count» (now («row_starts» .entry)) height) (sightOf (now (owners .entry)) splines (now (bits .entry)) desk) width) (bandsIn height)) ⌝ }
+    ensures { λ r. ⌜ (r ≡ true → now (cells .exit) ≡ putBands (now (cells .entry)) (bandNumbers (tableOf (now (segments .entry)) «segment_count» (now (entries .entry)) «entry_count» (now («row_starts» .entry)) height) (sightOf (now (owners .entry)) splines (now (bits .entry)) desk) width) (bandsIn height)) ⌝ }
 {
     let bands = bands_in(height);
     let mut b = 0;

@@ -26,9 +26,9 @@ use Rattle.checks.proofs.Refusals.{counts-fit-for, below-each}
 use Rattle.checks.proofs.Alike.{alike-row, alike-named, alike-shown, agree-alike}
 use Rattle.hull.specs.Reach.{touched, reachOver}
 use Rattle.hull.proofs.Hulls.{hull-cong}
-use Rattle.bands.specs.declared.Numbers.{Numbers}
+use Rattle.bands.specs.declared.BandNumbers.{BandNumbers}
 use Rattle.bands.specs.declared.BandsAnswer.the-variants.{Done}
-use Rattle.bands.specs.Bands.{bandsIn, rowOfBand, rowsIn, shownFrom, shownIn, rowsGoodFrom, bandGood, numbersOver, numbersOf, putBand, putBands}
+use Rattle.bands.specs.Bands.{bandsIn, rowOfBand, rowsIn, shownFrom, shownIn, rowsGoodFrom, bandGood, numbersOver, bandNumbers, putBand, putBands}
 use Rattle.bands.specs.Calls.{beforeRows, judgeBands, judgeBand, BandsOutcome, leaves, byVerdict, freshCells, bandsOf, bandOf}
 use Rattle.bands_laws.specs.Summaries.{AlikeWhole}
 use Rattle.bands_laws.proofs.Cells.{puts-same}
@@ -122,7 +122,7 @@ module _ {t u : Table} {s r : Sight} (k : AlikeWhole t s u r) where
     unfolding numbersOver
     over-alike = rw reach-alike
 
-    numbers-alike : numbersOf t s W b ≡ numbersOf u r W b
+    numbers-alike : bandNumbers t s W b ≡ bandNumbers u r W b
     numbers-alike = over-alike ∙ ap (numbersOver u W) shown-alike
 
   -- ---- the calls
@@ -140,8 +140,8 @@ module _ {t u : Table} {s r : Sight} (k : AlikeWhole t s u r) where
 
   fresh-alike : (W room : ℕ) → rowsGoodFrom t s 0 (t .height) ≡ true → freshCells t s W room ≡ freshCells u r W room
   fresh-alike W room g =
-      puts-same (replicate room 0) (numbersOf t s W) (numbersOf u r W) (bandsIn (t .height)) (λ b l. numbers-alike W b (band-good t s b g))
-      ∙ ap (λ (h : ℕ). putBands (replicate room 0) (numbersOf u r W) (bandsIn h)) (k .height)
+      puts-same (replicate room 0) (bandNumbers t s W) (bandNumbers u r W) (bandsIn (t .height)) (λ b l. numbers-alike W b (band-good t s b g))
+      ∙ ap (λ (h : ℕ). putBands (replicate room 0) (bandNumbers u r W) (bandsIn h)) (k .height)
 
   -- making answers and leaves the same
   pub bands-alike : (W room : ℕ) → bandsOf t s W room ≡ bandsOf u r W room
@@ -162,14 +162,14 @@ module _ {t u : Table} {s r : Sight} (k : AlikeWhole t s u r) where
   unfolding bandOf
   refreshed-alike W b cells =
       go (judgeBand t s W (length cells) b) refl
-      ∙ ap (λ (v : Verdict). byVerdict v (bandsIn (u .height)) (putBand cells b (numbersOf u r W b)) cells) (judged-band W (length cells) b)
+      ∙ ap (λ (v : Verdict). byVerdict v (bandsIn (u .height)) (putBand cells b (bandNumbers u r W b)) cells) (judged-band W (length cells) b)
     where
-      go : (v : Verdict) → judgeBand t s W (length cells) b ≡ v → byVerdict v (bandsIn (t .height)) (putBand cells b (numbersOf t s W b)) cells ≡ byVerdict v (bandsIn (u .height)) (putBand cells b (numbersOf u r W b)) cells
+      go : (v : Verdict) → judgeBand t s W (length cells) b ≡ v → byVerdict v (bandsIn (t .height)) (putBand cells b (bandNumbers t s W b)) cells ≡ byVerdict v (bandsIn (u .height)) (putBand cells b (bandNumbers u r W b)) cells
       go (Fault c) e = refl
       go Fine e =
-          ap (λ (h : ℕ). leaves (Done (bandsIn h)) (putBand cells b (numbersOf t s W b))) (k .height)
-          ∙ ap (λ (m : Numbers). leaves (Done (bandsIn (u .height))) (putBand cells b m))
-          (numbers-alike W b (refreshed-good t s W b cells (bandsIn (t .height)) (ap (λ (v : Verdict). byVerdict v (bandsIn (t .height)) (putBand cells b (numbersOf t s W b)) cells .answer) e)))
+          ap (λ (h : ℕ). leaves (Done (bandsIn h)) (putBand cells b (bandNumbers t s W b))) (k .height)
+          ∙ ap (λ (m : BandNumbers). leaves (Done (bandsIn (u .height))) (putBand cells b m))
+          (numbers-alike W b (refreshed-good t s W b cells (bandsIn (t .height)) (ap (λ (v : Verdict). byVerdict v (bandsIn (t .height)) (putBand cells b (bandNumbers t s W b)) cells .answer) e)))
 
 -- ---- one table, two sights of it
 

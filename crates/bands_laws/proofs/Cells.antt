@@ -7,8 +7,8 @@ use native.Mathlib.Omega.{arith}
 use lib.ListN.{length, getD, set, length-set}
 use lib.Seq.{sets, length-sets, getD-set-same, getD-set-other}
 use Rattle.shade.proofs.Edits.{lt-or-ge}
-use Rattle.bands.specs.declared.Numbers.{Numbers}
-use Rattle.bands.specs.Bands.{cellsOf, putBand, putBands}
+use Rattle.bands.specs.declared.BandNumbers.{BandNumbers}
+use Rattle.bands.specs.Bands.{bandCells, putBand, putBands}
 use Rattle.bands_laws.specs.Summaries.{OtherCell}
 
 -- ---- a run of stores
@@ -37,22 +37,22 @@ sets-own (a ∷ vs) l i (suc j) h k =
 
 -- ---- a band
 
-module _ (cells : List ℕ) (b : ℕ) (m : Numbers) where
+module _ (cells : List ℕ) (b : ℕ) (m : BandNumbers) where
   pub put-length : length (putBand cells b m) ≡ length cells
   unfolding putBand
-  put-length = length-sets cells (5 * b) (cellsOf m)
+  put-length = length-sets cells (5 * b) (bandCells m)
 
   pub put-other : (k : ℕ) → OtherCell b k → getD (putBand cells b m) k 0 ≡ getD cells k 0
   unfolding putBand
-  put-other k h = sets-other (cellsOf m) cells (5 * b) k (⊎-elim (λ u. inl u) (λ u. inr (omega (arith, u))) h)
+  put-other k h = sets-other (bandCells m) cells (5 * b) k (⊎-elim (λ u. inl u) (λ u. inr (omega (arith, u))) h)
 
-  pub put-own : 5 * b + 5 ≤ length cells → (j : ℕ) → j < 5 → getD (putBand cells b m) (5 * b + j) 0 ≡ getD (cellsOf m) j 0
+  pub put-own : 5 * b + 5 ≤ length cells → (j : ℕ) → j < 5 → getD (putBand cells b m) (5 * b + j) 0 ≡ getD (bandCells m) j 0
   unfolding putBand
-  put-own h j l = sets-own (cellsOf m) cells (5 * b) j l h
+  put-own h j l = sets-own (bandCells m) cells (5 * b) j l h
 
 -- ---- the first n bands
 
-module _ (cells : List ℕ) (of : ℕ → Numbers) where
+module _ (cells : List ℕ) (of : ℕ → BandNumbers) where
   pub puts-length : (n : ℕ) → length (putBands cells of n) ≡ length cells
   unfolding putBands
   puts-length zero = refl
@@ -64,7 +64,7 @@ module _ (cells : List ℕ) (of : ℕ → Numbers) where
   puts-behind zero k h = refl
   puts-behind (suc n) k h = put-other (putBands cells of n) n (of n) k (inr (omega (arith, h))) ∙ puts-behind n k (omega (arith, h))
 
-  pub puts-own : (n b j : ℕ) → b < n → 5 * n ≤ length cells → j < 5 → getD (putBands cells of n) (5 * b + j) 0 ≡ getD (cellsOf (of b)) j 0
+  pub puts-own : (n b j : ℕ) → b < n → 5 * n ≤ length cells → j < 5 → getD (putBands cells of n) (5 * b + j) 0 ≡ getD (bandCells (of b)) j 0
   unfolding putBands
   puts-own zero b j h k l = absurd (omega (arith, h))
   puts-own (suc n) b j h k l =
@@ -72,11 +72,11 @@ module _ (cells : List ℕ) (of : ℕ → Numbers) where
       (λ u. put-other (putBands cells of n) n (of n) (5 * b + j) (inl (omega (arith, u, l))) ∙ puts-own n b j u (omega (arith, k)) l)
       (λ u.
       let e : b ≡ n = omega (arith, u, h) in
-      subst (λ (c : ℕ). getD (putBands cells of (suc n)) (5 * c + j) 0 ≡ getD (cellsOf (of c)) j 0) (sym e) (put-own (putBands cells of n) n (of n) (omega (arith, k, puts-length n)) j l))
+      subst (λ (c : ℕ). getD (putBands cells of (suc n)) (5 * c + j) 0 ≡ getD (bandCells (of c)) j 0) (sym e) (put-own (putBands cells of n) n (of n) (omega (arith, k, puts-length n)) j l))
       (lt-or-ge b n)
 
 -- the numbers of the first n bands alone are asked
-pub puts-same : (cells : List ℕ) (of by : ℕ → Numbers) (n : ℕ) → ((b : ℕ) → b < n → of b ≡ by b) → putBands cells of n ≡ putBands cells by n
+pub puts-same : (cells : List ℕ) (of by : ℕ → BandNumbers) (n : ℕ) → ((b : ℕ) → b < n → of b ≡ by b) → putBands cells of n ≡ putBands cells by n
 unfolding putBands
 puts-same cells of by zero h = refl
 puts-same cells of by (suc n) h = rw (puts-same cells of by n (λ b l. h b (omega (arith, l))), h n (omega arith))

@@ -12,7 +12,7 @@ use Rattle.checks.specs.Tables.{Table, shownOf}
 use Rattle.hull.specs.Reach.{reachOf}
 use Rattle.hull.specs.declared.ReachAnswer.the-variants as Reaching
 use Rattle.bands.specs.declared.BandsAnswer.the-variants.{Done, Refused}
-use Rattle.bands.specs.Bands.{bandsIn, rowOfBand, rowsIn, shownIn, rowsGoodFrom, bandGood, numbersOver, numbersOf, cellsOf, putBand}
+use Rattle.bands.specs.Bands.{bandsIn, rowOfBand, rowsIn, shownIn, rowsGoodFrom, bandGood, numbersOver, bandNumbers, bandCells, putBand}
 use Rattle.bands.specs.Calls.{BandsOutcome, freshCells, bandsOf, bandOf}
 use Rattle.bands.specs.Refusals.{RowsBadFor, SummaryFits}
 use Rattle.bands_laws.specs.Done.{BandsDone, BandDone}
@@ -30,16 +30,16 @@ zeros room k =
 
 module _ (t : Table) (s : Sight) (W room : ℕ) where
   pub made-length : length (freshCells t s W room) ≡ room
-  made-length = puts-length (replicate room 0) (numbersOf t s W) (bandsIn (t .height)) ∙ length-replicate {A = ℕ} room 0
+  made-length = puts-length (replicate room 0) (bandNumbers t s W) (bandsIn (t .height)) ∙ length-replicate {A = ℕ} room 0
 
-  pub made-own : 5 * bandsIn (t .height) ≤ room → (b j : ℕ) → b < bandsIn (t .height) → j < 5 → getD (freshCells t s W room) (5 * b + j) 0 ≡ getD (cellsOf (numbersOf t s W b)) j 0
-  made-own h b j k l = puts-own (replicate room 0) (numbersOf t s W) (bandsIn (t .height)) b j k (omega (arith, h, length-replicate {A = ℕ} room 0)) l
+  pub made-own : 5 * bandsIn (t .height) ≤ room → (b j : ℕ) → b < bandsIn (t .height) → j < 5 → getD (freshCells t s W room) (5 * b + j) 0 ≡ getD (bandCells (bandNumbers t s W b)) j 0
+  made-own h b j k l = puts-own (replicate room 0) (bandNumbers t s W) (bandsIn (t .height)) b j k (omega (arith, h, length-replicate {A = ℕ} room 0)) l
 
   pub made-behind : (k : ℕ) → 5 * bandsIn (t .height) ≤ k → getD (freshCells t s W room) k 0 ≡ 0
-  made-behind k h = puts-behind (replicate room 0) (numbersOf t s W) (bandsIn (t .height)) k h ∙ zeros room k
+  made-behind k h = puts-behind (replicate room 0) (bandNumbers t s W) (bandsIn (t .height)) k h ∙ zeros room k
 
 -- the first three cells of a band, by its numbers
-by-numbers : (t : Table) (s : Sight) (W b : ℕ) (cells : List ℕ) → ((j : ℕ) → j < 5 → getD cells (5 * b + j) 0 ≡ getD (cellsOf (numbersOf t s W b)) j 0) → SegmentNumbers t s b cells
+by-numbers : (t : Table) (s : Sight) (W b : ℕ) (cells : List ℕ) → ((j : ℕ) → j < 5 → getD cells (5 * b + j) 0 ≡ getD (bandCells (bandNumbers t s W b)) j 0) → SegmentNumbers t s b cells
 by-numbers t s W b cells own = record {
   entries = ap (λ (k : ℕ). getD cells k 0) (plus-none (5 * b)) ∙ own 0 (omega arith) ∙ numbers-shown t s b W;
   least = λ h. subst (Bounds (λ i j. i ≤ j) t s b) (sym (own 1 (omega arith))) (least-is t s b W h);
@@ -61,7 +61,7 @@ module _ (t : Table) (s : Sight) (W room n : ℕ) (e : bandsOf t s W room .answe
   pub made-cells : bandsOf t s W room .cells ≡ freshCells t s W room
   made-cells = ap (λ (o : BandsOutcome). o .cells) (bands-done t s W room made)
 
-  pub fresh-own : (b j : ℕ) → b < bandsIn (t .height) → j < 5 → getD (bandsOf t s W room .cells) (5 * b + j) 0 ≡ getD (cellsOf (numbersOf t s W b)) j 0
+  pub fresh-own : (b j : ℕ) → b < bandsIn (t .height) → j < 5 → getD (bandsOf t s W room .cells) (5 * b + j) 0 ≡ getD (bandCells (bandNumbers t s W b)) j 0
   fresh-own b j k l = ap (λ (c : List ℕ). getD c (5 * b + j) 0) made-cells ∙ made-own t s W room (made .fits .roomy) b j k l
 
   pub fresh-segments : (b : ℕ) → b < bandsIn (t .height) → SegmentNumbers t s b (bandsOf t s W room .cells)
@@ -76,7 +76,7 @@ module _ (t : Table) (s : Sight) (W room n : ℕ) (e : bandsOf t s W room .answe
 
   -- a band of which nothing is shown has zeros
   pub no-entry-zeros : (b : ℕ) → b < bandsIn (t .height) → shownIn t s b ≡ [] → (j : ℕ) → j < 5 → getD (bandsOf t s W room .cells) (5 * b + j) 0 ≡ 0
-  no-entry-zeros b k h j l = fresh-own b j k l ∙ ap (λ (m : List ℕ). getD (cellsOf (numbersOver t W m)) j 0) h ∙ none-zero t W j l
+  no-entry-zeros b k h j l = fresh-own b j k l ∙ ap (λ (m : List ℕ). getD (bandCells (numbersOver t W m)) j 0) h ∙ none-zero t W j l
 
   -- and its columns are the hull of its rows' reaches
   pub fresh-hull : (b : ℕ) → b < bandsIn (t .height)
@@ -93,29 +93,29 @@ module _ (t : Table) (s : Sight) (W b : ℕ) (cells : List ℕ) (n : ℕ) (e : b
   pub refreshed-good : bandGood t s b ≡ true
   refreshed-good = ⊎-elim (λ g. g) (λ o. absurd (refreshed .rows o)) (good-or-bad t s (rowOfBand b) (rowsIn (t .height) b))
 
-  pub refreshed-cells : bandOf t s W b cells .cells ≡ putBand cells b (numbersOf t s W b)
+  pub refreshed-cells : bandOf t s W b cells .cells ≡ putBand cells b (bandNumbers t s W b)
   refreshed-cells = ap (λ (o : BandsOutcome). o .cells) (band-done t s W b cells refreshed)
 
-  pub refreshed-own : (j : ℕ) → j < 5 → getD (bandOf t s W b cells .cells) (5 * b + j) 0 ≡ getD (cellsOf (numbersOf t s W b)) j 0
+  pub refreshed-own : (j : ℕ) → j < 5 → getD (bandOf t s W b cells .cells) (5 * b + j) 0 ≡ getD (bandCells (bandNumbers t s W b)) j 0
   refreshed-own j l =
-      ap (λ (c : List ℕ). getD c (5 * b + j) 0) refreshed-cells ∙ put-own cells b (numbersOf t s W b) (omega (arith, refreshed .in-image, refreshed .fits .roomy)) j l
+      ap (λ (c : List ℕ). getD c (5 * b + j) 0) refreshed-cells ∙ put-own cells b (bandNumbers t s W b) (omega (arith, refreshed .in-image, refreshed .fits .roomy)) j l
 
   pub refreshed-segments : SegmentNumbers t s b (bandOf t s W b cells .cells)
   refreshed-segments = by-numbers t s W b (bandOf t s W b cells .cells) refreshed-own
 
   -- the other bands keep their numbers, and so do the cells behind the last
   pub other-bands-stay : (k : ℕ) → OtherCell b k → getD (bandOf t s W b cells .cells) k 0 ≡ getD cells k 0
-  other-bands-stay k h = ap (λ (c : List ℕ). getD c k 0) refreshed-cells ∙ put-other cells b (numbersOf t s W b) k h
+  other-bands-stay k h = ap (λ (c : List ℕ). getD c k 0) refreshed-cells ∙ put-other cells b (bandNumbers t s W b) k h
 
   pub refreshed-length : length (bandOf t s W b cells .cells) ≡ length cells
-  refreshed-length = ap length refreshed-cells ∙ put-length cells b (numbersOf t s W b)
+  refreshed-length = ap length refreshed-cells ∙ put-length cells b (bandNumbers t s W b)
 
   -- a refreshed band equals one made afresh, in any room
   pub refreshed-is-fresh : (room m : ℕ) → bandsOf t s W room .answer ≡ Done m → (j : ℕ) → j < 5 → getD (bandOf t s W b cells .cells) (5 * b + j) 0 ≡ getD (bandsOf t s W room .cells) (5 * b + j) 0
   refreshed-is-fresh room m d j l = refreshed-own j l ∙ sym (fresh-own t s W room m d b j (refreshed .in-image) l)
 
   pub refreshed-zeros : shownIn t s b ≡ [] → (j : ℕ) → j < 5 → getD (bandOf t s W b cells .cells) (5 * b + j) 0 ≡ 0
-  refreshed-zeros h j l = refreshed-own j l ∙ ap (λ (m : List ℕ). getD (cellsOf (numbersOver t W m)) j 0) h ∙ none-zero t W j l
+  refreshed-zeros h j l = refreshed-own j l ∙ ap (λ (m : List ℕ). getD (bandCells (numbersOver t W m)) j 0) h ∙ none-zero t W j l
 
   pub refreshed-hull : HullOf (λ y a q. reachOf t s y W .answer ≡ Reaching.Done a q) (λ y a q. reachOf t s y W .answer ≡ Reaching.Done a q) (t .height) b (getD (bandOf t s W b cells .cells) (5 * b + 3) 0) (getD (bandOf t s W b cells .cells) (5 * b + 4) 0)
   refreshed-hull = rw (refreshed-own 3 (omega arith), refreshed-own 4 (omega arith)) (band-hull t s W b (refreshed .fits .narrow) (refreshed .fits .lent) refreshed-good)

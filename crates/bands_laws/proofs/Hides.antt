@@ -18,7 +18,7 @@ use Rattle.checks.specs.Refusals.{RowBadFor}
 use Rattle.checks.specs.Refusals as codes
 use Rattle.picture.specs.Picture.{Found}
 use Rattle.bands.specs.declared.BandsAnswer.the-variants.{Done}
-use Rattle.bands.specs.Bands.{bandsIn, rowOfBand, rowsIn, shownIn, numbersOver, numbersOf, cellsOf}
+use Rattle.bands.specs.Bands.{bandsIn, rowOfBand, rowsIn, shownIn, numbersOver, bandNumbers, bandCells}
 use Rattle.bands.specs.Calls.{BandsOutcome, leaves, freshCells, bandsOf, bandOf}
 use Rattle.bands.specs.Refusals.{RowsBadFor}
 use Rattle.bands_laws.specs.Done.{BandsDone, BandDone}
@@ -87,7 +87,7 @@ module _ (t : Table) (r : Sight) (W room : ℕ) (roomy : 5 * bandsIn (t .height)
 
 -- a summary made for one sight, and refreshed for another in every band whose numbers are not the same for both, is a fresh one for the other
 module _ (t : Table) (s r : Sight) (W room n m : ℕ) (e : bandsOf t s W room .answer ≡ Done n) (d : BandsDone t r W room m) {bs z : List ℕ} (run : Refreshes t r W bs (bandsOf t s W room .cells) z)
-    (settled : (b : ℕ) → b < bandsIn (t .height) → Found bs b ⊎ (numbersOf t s W b ≡ numbersOf t r W b)) where
+    (settled : (b : ℕ) → b < bandsIn (t .height) → Found bs b ⊎ (bandNumbers t s W b ≡ bandNumbers t r W b)) where
   cell-right : (k : ℕ) → getD z k 0 ≡ getD (freshCells t r W room) k 0
   cell-right k =
       ⊎-elim (λ h. let c = cell-in (bandsIn (t .height)) k h in subst (λ (q : ℕ). getD z q 0 ≡ getD (freshCells t r W room) q 0) (sym (c .is-it)) (in-bands (c .band) (c .cell) (c .in-image) (c .one-of-five)))
@@ -99,7 +99,7 @@ module _ (t : Table) (s r : Sight) (W room n m : ℕ) (e : bandsOf t s W room .a
           ⊎-elim
           (λ f. subst (λ (a : ℕ). getD z (5 * a + j) 0 ≡ getD (freshCells t r W room) (5 * a + j) 0) (f .is) (run-makes t r W room (d .fits .roomy) run (f .index) (f .in-row) j l))
           (λ q. run-keeps t r W room (d .fits .roomy) run (5 * b + j)
-          (fresh-own t s W room n e b j h l ∙ ap (λ m. getD (cellsOf m) j 0) q ∙ sym (made-own t r W room (d .fits .roomy) b j h l)))
+          (fresh-own t s W room n e b j h l ∙ ap (λ m. getD (bandCells m) j 0) q ∙ sym (made-own t r W room (d .fits .roomy) b j h l)))
           (settled b h)
 
   pub refreshed-whole : leaves (Done m) z ≡ bandsOf t r W room
@@ -134,7 +134,7 @@ module _ (t : Table) (s : Sight) (k : ℕ) (hidden : Bool) where
       ∙ ap (λ (m : List ℕ). cond (hiddenIn after i) m (i ∷ m)) (shown-kept l (λ j a. h (suc j) (omega (arith, a))))
 
   -- and so a band that lists none keeps its numbers
-  numbers-kept : (W b : ℕ) → (ListsSpline t s b k → ⊥) → numbersOf t s W b ≡ numbersOf t after W b
+  numbers-kept : (W b : ℕ) → (ListsSpline t s b k → ⊥) → bandNumbers t s W b ≡ bandNumbers t after W b
   numbers-kept W b h =
       ap (numbersOver t W)
       (shown-same t t s after (rowOfBand b) (rowsIn (t .height) b)

@@ -23,7 +23,7 @@ use Rattle.hull.specs.declared.ReachAnswer.the-variants as Reaching
 use Rattle.hull.proofs.Hulls.{Least, one-less, one-least, least-none, Passing, least-hull, touched-by, touched-if}
 use Rattle.hull.proofs.Reaches.{reach-done, reached}
 use Rattle.picture.specs.Picture.{Found}
-use Rattle.bands.specs.Bands.{rowOfBand, rowsIn, shownFrom, shownIn, bandGood, leastOf, greatestOf, numbersOver, numbersOf, cellsOf}
+use Rattle.bands.specs.Bands.{rowOfBand, rowsIn, shownFrom, shownIn, bandGood, leastOf, greatestOf, numbersOver, bandNumbers, bandCells}
 use Rattle.bands_laws.specs.Summaries.{InBand, ShownInBand, Bounds, RowReach, HullOf}
 use Rattle.bands_laws.proofs.Rows.{rows-each, band-row, ShownOfRow, shown-of, shown-in}
 
@@ -32,7 +32,7 @@ use Rattle.bands_laws.proofs.Rows.{rows-each, band-row, ShownOfRow, sho
 none-reached : (segs : List Float) (W : ℕ) → reachOver segs W [] ≡ none
 none-reached segs W = one-least (least-hull (touched segs []) W) (least-none (λ x i. let q = i .1 in let z : _≡_ {A = ℕ} 0 1 = cc in omega (arith, z)))
 
-pub none-zero : (t : Table) (W j : ℕ) → j < 5 → getD (cellsOf (numbersOver t W [])) j 0 ≡ 0
+pub none-zero : (t : Table) (W j : ℕ) → j < 5 → getD (bandCells (numbersOver t W [])) j 0 ≡ 0
 unfolding numbersOver
 none-zero t W zero h = refl
 none-zero t W (suc zero) h = refl
@@ -108,18 +108,18 @@ module _ (t : Table) (s : Sight) (b : ℕ) where
   shown-band : {i : ℕ} → ShownInBand t s b i → Found (shownIn t s b) i
   shown-band o = shown-in t s (rowOfBand b) (rowsIn (t .height) b) (record { row = o .row; from = o .in-band .from; before = o .in-band .before; listed = o .listed })
 
-  pub numbers-shown : (W : ℕ) → numbersOf t s W b .entries ≡ length (shownIn t s b)
+  pub numbers-shown : (W : ℕ) → bandNumbers t s W b .entries ≡ length (shownIn t s b)
   unfolding numbersOver
   numbers-shown W = refl
 
-  pub least-is : (W : ℕ) → 0 < length (shownIn t s b) → Bounds (λ i j. i ≤ j) t s b (numbersOf t s W b .least)
+  pub least-is : (W : ℕ) → 0 < length (shownIn t s b) → Bounds (λ i j. i ≤ j) t s b (bandNumbers t s W b .least)
   unfolding numbersOver
   least-is W h = record {
     is-shown = band-shown (least-found (shownIn t s b) h);
     bounds = λ j o. let a = shown-band o in omega (arith, least-each (shownIn t s b) (a .index) (a .in-row), a .is);
   }
 
-  pub greatest-is : (W : ℕ) → 0 < length (shownIn t s b) → Bounds (λ i j. j ≤ i) t s b (numbersOf t s W b .greatest)
+  pub greatest-is : (W : ℕ) → 0 < length (shownIn t s b) → Bounds (λ i j. j ≤ i) t s b (bandNumbers t s W b .greatest)
   unfolding numbersOver
   greatest-is W h = record {
     is-shown = band-shown (greatest-found (shownIn t s b) h);
@@ -222,7 +222,7 @@ module _ (t : Table) (s : Sight) (W b : ℕ) (narrow : W ≤ 2 ^ 23) (lent : Len
         holds = omega (arith, w .1, m .1, inside (o .row) (o .in-band) _ _ d k .1);
       }
 
-  pub band-hull : HullOf (λ y a e. reachOf t s y W .answer ≡ Reaching.Done a e) (λ y a e. reachOf t s y W .answer ≡ Reaching.Done a e) (t .height) b (numbersOf t s W b .first) (numbersOf t s W b .past)
+  pub band-hull : HullOf (λ y a e. reachOf t s y W .answer ≡ Reaching.Done a e) (λ y a e. reachOf t s y W .answer ≡ Reaching.Done a e) (t .height) b (bandNumbers t s W b .first) (bandNumbers t s W b .past)
   unfolding numbersOver
   band-hull = record {
     each = λ y i. (reachIn y .first, reachIn y .past, row-done y i);

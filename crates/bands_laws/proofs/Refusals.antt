@@ -19,7 +19,7 @@ use Rattle.checks.specs.declared.Verdict.the-variants.{Fine, Fault}
 use Rattle.checks.proofs.Refusals.{counts-fit-for, counts-overrun-for, fit-or-overrun-for}
 use Rattle.bands.specs.declared.BandsAnswer.{BandsAnswer}
 use Rattle.bands.specs.declared.BandsAnswer.the-variants.{Done, Refused}
-use Rattle.bands.specs.Bands.{bandsIn, rowOfBand, rowsIn, rowsGoodFrom, bandGood, numbersOf, putBand}
+use Rattle.bands.specs.Bands.{bandsIn, rowOfBand, rowsIn, rowsGoodFrom, bandGood, bandNumbers, putBand}
 use Rattle.bands.specs.Calls.{beforeRows, judgeBands, judgeBand, BandsOutcome, leaves, byVerdict, freshCells, bandsOf, bandOf}
 use Rattle.bands.specs.Refusals.{RowsBadFor, EarlyRefusal, SummaryFits, BandsRefusal, BandRefusal}
 use Rattle.bands.specs.Refusals as codes
@@ -173,11 +173,11 @@ module _ (t : Table) (s : Sight) (W room : ℕ) where
 module _ (t : Table) (s : Sight) (W b : ℕ) (cells : List ℕ) where
   band-fault : {c : Code} → judgeBand t s W (length cells) b ≡ Fault c → bandOf t s W b cells ≡ leaves (Refused c 0) cells
   unfolding bandOf
-  band-fault e = ap (λ (v : Verdict). byVerdict v (bandsIn (t .height)) (putBand cells b (numbersOf t s W b)) cells) e
+  band-fault e = ap (λ (v : Verdict). byVerdict v (bandsIn (t .height)) (putBand cells b (bandNumbers t s W b)) cells) e
 
-  band-fine : judgeBand t s W (length cells) b ≡ Fine → bandOf t s W b cells ≡ leaves (Done (bandsIn (t .height))) (putBand cells b (numbersOf t s W b))
+  band-fine : judgeBand t s W (length cells) b ≡ Fine → bandOf t s W b cells ≡ leaves (Done (bandsIn (t .height))) (putBand cells b (bandNumbers t s W b))
   unfolding bandOf
-  band-fine e = ap (λ (v : Verdict). byVerdict v (bandsIn (t .height)) (putBand cells b (numbersOf t s W b)) cells) e
+  band-fine e = ap (λ (v : Verdict). byVerdict v (bandsIn (t .height)) (putBand cells b (bandNumbers t s W b)) cells) e
 
   band-judged : {c : Code} {p : ℕ} → BandRefusal t s W (length cells) b c p → judgeBand t s W (length cells) b ≡ Fault c
   unfolding judgeBand
@@ -194,11 +194,11 @@ module _ (t : Table) (s : Sight) (W b : ℕ) (cells : List ℕ) where
   pub band-refused : {c : Code} {p : ℕ} → BandRefusal t s W (length cells) b c p → bandOf t s W b cells ≡ leaves (Refused c p) cells
   band-refused {c} {p} l = band-fault (band-judged l) ∙ ap (λ (q : ℕ). leaves (Refused c q) cells) (sym (band-place l))
 
-  pub band-done : {n : ℕ} → BandDone t s W (length cells) b n → bandOf t s W b cells ≡ leaves (Done n) (putBand cells b (numbersOf t s W b))
+  pub band-done : {n : ℕ} → BandDone t s W (length cells) b n → bandOf t s W b cells ≡ leaves (Done n) (putBand cells b (bandNumbers t s W b))
   unfolding judgeBand
   band-done {n} d =
       band-fine (early-passed t s W (length cells) (d .fits) _ ∙ ⊎-elim (λ (e : bandGood t s b ≡ true). rw (lt-ltb b (bandsIn (t .height)) (d .in-image)) (ap (λ (g : Bool). orFault g Code.Table Fine) e)) (λ o. absurd (d .rows o)) (good-or-bad t s (rowOfBand b) (rowsIn (t .height) b)))
-      ∙ ap (λ (m : ℕ). leaves (Done m) (putBand cells b (numbersOf t s W b))) (sym (d .told))
+      ∙ ap (λ (m : ℕ). leaves (Done m) (putBand cells b (bandNumbers t s W b))) (sym (d .told))
 
   band-either : BandDone t s W (length cells) b (bandsIn (t .height)) ⊎ Given (BandRefusal t s W (length cells) b)
   band-either =

@@ -9,7 +9,7 @@ use lib.Ieee.{Float}
 use Rattle.codes.specs.declared.Code.{Code}
 use Rattle.codes.specs.declared.Code.the-variants.{Done, Position}
 use Rattle.dequantize.specs.ControlPoints.{startingPoint, traceOf}
-use Rattle.dequantize.specs.Asked.{Accepted}
+use Rattle.dequantize.specs.Asked.{SplineAccepted}
 use Rattle.dequantize.specs.Dequantize.{refusedOf, finishedOf, dequantizeOf}
 use Rattle.dequantize.specs.declared.Given.{Given}
 use Rattle.dequantize.specs.declared.Spline.{Spline}
@@ -36,7 +36,7 @@ module _ (x y : Float) (ds c : List ℤ) (g : Given) where
     unfolding dequantizeOf
     trace-refused code t = rw (e, t)
 
-    pub trace-accepted : (run : Run) → traceOf (g .limit) start ds ≡ On run → Accepted x y ds c g
+    pub trace-accepted : (run : Run) → traceOf (g .limit) start ds ≡ On run → SplineAccepted x y ds c g
     unfolding dequantizeOf finishedOf
     trace-accepted run t = record {
       start = start;
@@ -55,18 +55,18 @@ module _ (x y : Float) (ds c : List ℤ) (g : Given) where
   not-done code (inr (inl d)) e = let z : _≡_ {A = ℕ} 0 1 = cc in omega arith
   not-done code (inr (inr d)) e = let z : _≡_ {A = ℕ} 0 1 = cc in omega arith
 
-  by-trace : (start : Pair) → startingPoint x y ≡ At start → (t : Traced) → traceOf (g .limit) start ds ≡ t → dequantizeOf x y ds c g .code ≡ Done → Accepted x y ds c g
+  by-trace : (start : Pair) → startingPoint x y ≡ At start → (t : Traced) → traceOf (g .limit) start ds ≡ t → dequantizeOf x y ds c g .code ≡ Done → SplineAccepted x y ds c g
   unfolding refusedOf
   by-trace start e (On run) t h = trace-accepted start e run t
   by-trace start e (Stop code) t h =
       absurd (not-done code (trace-code (g .limit) start ds code t) (sym (ap (λ (s : Spline). s .code) (trace-refused start e code t)) ∙ h))
 
-  by-start : (b : Start) → startingPoint x y ≡ b → dequantizeOf x y ds c g .code ≡ Done → Accepted x y ds c g
+  by-start : (b : Start) → startingPoint x y ≡ b → dequantizeOf x y ds c g .code ≡ Done → SplineAccepted x y ds c g
   unfolding refusedOf
   by-start (At start) e h = by-trace start e (traceOf (g .limit) start ds) refl h
   by-start Out e h = absurd (not-done Position (inr (inl refl)) (sym (ap (λ (s : Spline). s .code) (start-refused e)) ∙ h))
 
-  pub accepted-exactly : (dequantizeOf x y ds c g .code ≡ Done) ↔ Accepted x y ds c g
+  pub accepted-exactly : (dequantizeOf x y ds c g .code ≡ Done) ↔ SplineAccepted x y ds c g
   unfolding finishedOf
   accepted-exactly = (by-start (startingPoint x y) refl, λ a. ap (λ (s : Spline). s .code) (a .is))
 

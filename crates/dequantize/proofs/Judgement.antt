@@ -21,7 +21,7 @@ use Rattle.dequantize.specs.declared.judge.Settled.{Settled}
 use Rattle.dequantize.specs.declared.judge.Settled.the-variants.{Total, Stop}
 use Rattle.dequantize.specs.declared.judge.Judged.{Judged}
 use Rattle.dequantize.specs.declared.judge.Judged.the-variants.{Fine, Refused}
-use Rattle.dequantize.specs.Asked.{Accepted}
+use Rattle.dequantize.specs.Asked.{SplineAccepted}
 use Rattle.dequantize.proofs.Accepted.{accepted-exactly}
 
 -- ---- one spline that was dequantized
@@ -194,7 +194,7 @@ module _ (d : Description) (g : Given) where
   -- ---- what the build may rest on
 
   -- every spline of an accepted description was accepted
-  pub fine-accepted : (t : ℕ) → judgeOf d g ≡ Fine t → (k : ℕ) → k < length (d .counts) → Accepted (startX d k) (startY d k) (deltasOf d k) (coefficientsOf d k) g
+  pub fine-accepted : (t : ℕ) → judgeOf d g ≡ Fine t → (k : ℕ) → k < length (d .counts) → SplineAccepted (startX d k) (startY d k) (deltasOf d k) (coefficientsOf d k) g
   unfolding splineOf
   fine-accepted t h k b =
       let p = fine-exactly t .0 h .0 k b in

@@ -11,7 +11,7 @@ use lib.Ieee.{Float, isNan}
 use borrow.Author.Tests.{leb-true, leb-false, le-leb, lt-leb, ltb-true, ltb-false, lt-ltb, le-ltb}
 use Rattle.codes.proofs.Decides.{Decides, both, both-decide}
 use Rattle.dequantize.specs.ControlPoints.{inRange, belowDeltaLimit, validPointPos, validDoubleDelta, roundedOf, joined, startingPoint}
-use Rattle.dequantize.specs.Refusals.{InRange, Beyond, Inside, Outside, Small, Large, wholeOf, RoundsTo, Strays}
+use Rattle.dequantize.specs.Refusals.{InRange, Beyond, Inside, Outside, Small, Large, roundedStart, RoundsTo, Strays}
 use Rattle.dequantize.specs.declared.control_points.Pair.{Pair}
 use Rattle.dequantize.specs.declared.control_points.Whole.{Whole}
 use Rattle.dequantize.specs.declared.control_points.Whole.the-variants as W
@@ -90,37 +90,37 @@ double-delta-decides p = both-decide (magnitude-decides (p .x)) (magnitude-decid
 -- ---- starts
 
 module _ (c : Float) where
-  by-tests : (n t : Bool) → isNan c ≡ n → inRange (wholeOf c) ≡ t → (v : ℤ) → cond n W.Out (cond t (W.At (wholeOf c)) W.Out) ≡ W.At v → RoundsTo c v
+  by-tests : (n t : Bool) → isNan c ≡ n → inRange (roundedStart c) ≡ t → (v : ℤ) → cond n W.Out (cond t (W.At (roundedStart c)) W.Out) ≡ W.At v → RoundsTo c v
   by-tests true t e r v h = absurd (let z : _≡_ {A = ℕ} 0 1 = cc in omega arith)
   by-tests false false e r v h = absurd (let z : _≡_ {A = ℕ} 0 1 = cc in omega arith)
   by-tests false true e r v h =
-      let q : wholeOf c ≡ v = cc in
-      record { number = e; is = sym q; inside = subst InRange q (range-decides (wholeOf c) .passed r) }
+      let q : roundedStart c ≡ v = cc in
+      record { number = e; is = sym q; inside = subst InRange q (range-decides (roundedStart c) .passed r) }
 
   pub rounds-to : (v : ℤ) → roundedOf c ≡ W.At v → RoundsTo c v
-  rounds-to v h = by-tests (isNan c) (inRange (wholeOf c)) refl refl v (sym (start-by-kind c) ∙ h)
+  rounds-to v h = by-tests (isNan c) (inRange (roundedStart c)) refl refl v (sym (start-by-kind c) ∙ h)
 
   pub rounded-to : (v : ℤ) → RoundsTo c v → roundedOf c ≡ W.At v
   rounded-to v r =
-      let e : inRange (wholeOf c) ≡ true = range-decides (wholeOf c) .passes (subst InRange (r .is) (r .inside)) in
-      start-by-kind c ∙ by (isNan c) (inRange (wholeOf c)) (r .number) e
+      let e : inRange (roundedStart c) ≡ true = range-decides (roundedStart c) .passes (subst InRange (r .is) (r .inside)) in
+      start-by-kind c ∙ by (isNan c) (inRange (roundedStart c)) (r .number) e
     where
-      by : (n t : Bool) → n ≡ false → t ≡ true → cond n W.Out (cond t (W.At (wholeOf c)) W.Out) ≡ W.At v
+      by : (n t : Bool) → n ≡ false → t ≡ true → cond n W.Out (cond t (W.At (roundedStart c)) W.Out) ≡ W.At v
       by n t p q = rw (p, q, r .is)
 
-  out-by-tests : (n t : Bool) → isNan c ≡ n → inRange (wholeOf c) ≡ t → cond n W.Out (cond t (W.At (wholeOf c)) W.Out) ≡ W.Out → Strays c
+  out-by-tests : (n t : Bool) → isNan c ≡ n → inRange (roundedStart c) ≡ t → cond n W.Out (cond t (W.At (roundedStart c)) W.Out) ≡ W.Out → Strays c
   out-by-tests true t e r h = inl e
-  out-by-tests false false e r h = inr (range-decides (wholeOf c) .failed r)
+  out-by-tests false false e r h = inr (range-decides (roundedStart c) .failed r)
   out-by-tests false true e r h = absurd (let z : _≡_ {A = ℕ} 0 1 = cc in omega arith)
 
   pub strays : roundedOf c ≡ W.Out → Strays c
-  strays h = out-by-tests (isNan c) (inRange (wholeOf c)) refl refl (sym (start-by-kind c) ∙ h)
+  strays h = out-by-tests (isNan c) (inRange (roundedStart c)) refl refl (sym (start-by-kind c) ∙ h)
 
   pub strayed : Strays c → roundedOf c ≡ W.Out
-  strayed (inl e) = start-by-kind c ∙ ap (λ (n : Bool). cond n W.Out (cond (inRange (wholeOf c)) (W.At (wholeOf c)) W.Out)) e
-  strayed (inr b) = start-by-kind c ∙ go (isNan c) (range-decides (wholeOf c) .fails b)
+  strayed (inl e) = start-by-kind c ∙ ap (λ (n : Bool). cond n W.Out (cond (inRange (roundedStart c)) (W.At (roundedStart c)) W.Out)) e
+  strayed (inr b) = start-by-kind c ∙ go (isNan c) (range-decides (roundedStart c) .fails b)
     where
-      go : (n : Bool) → inRange (wholeOf c) ≡ false → cond n W.Out (cond (inRange (wholeOf c)) (W.At (wholeOf c)) W.Out) ≡ W.Out
+      go : (n : Bool) → inRange (roundedStart c) ≡ false → cond n W.Out (cond (inRange (roundedStart c)) (W.At (roundedStart c)) W.Out) ≡ W.Out
       go true e = refl
       go false e = rw e
 

@@ -14,7 +14,7 @@ use borrow.Author.Tests.{leb-true, leb-false}
 use Rattle.codes.specs.declared.Code.{Code}
 use Rattle.codes.specs.declared.Code.the-variants.{Delta, Position, Distance}
 use Rattle.dequantize.specs.ControlPoints.{orStop, onward, stepOf, traceFrom, traceOf, runAt, pairAt, plusOf, manhattanOf, placeAt, movedOf, laterPoints, controlPoints, validDoubleDelta, validPointPos}
-use Rattle.dequantize.specs.Refusals.{Inside, Outside, Small, Large, nowhere, plusUpTo, sumUpTo, deltaAt, pointAt, farAt, farOf, PointsAre, PairPasses, PairRefusal, delta-large, delta-outside, too-far, point-outside}
+use Rattle.dequantize.specs.Refusals.{Inside, Outside, Small, Large, nowhere, plusUpTo, sumUpTo, deltaAt, controlPointAt, farAt, farOf, PointsAre, PairPasses, PairRefusal, delta-large, delta-outside, too-far, point-outside}
 use Rattle.dequantize.specs.declared.control_points.Pair.{Pair}
 use Rattle.dequantize.specs.declared.control_points.Place.{Place}
 use Rattle.dequantize.specs.declared.control_points.Run.{Run}
@@ -43,8 +43,8 @@ module _ (limit : ℕ) (start : Pair) (ds : List ℤ) where
     unfolding deltaAt plusUpTo
     delta-is = rw (ran .delta)
 
-    point-is : plusOf (r .point) (plusOf (r .delta) (pairAt ds j)) ≡ pointAt start ds j
-    unfolding pointAt plusUpTo
+    point-is : plusOf (r .point) (plusOf (r .delta) (pairAt ds j)) ≡ controlPointAt start ds j
+    unfolding controlPointAt plusUpTo
     point-is = rw (delta-is, ran .point)
 
     far-is : r .manhattan + manhattanOf (plusOf (r .delta) (pairAt ds j)) ≡ farAt ds j
@@ -52,7 +52,7 @@ module _ (limit : ℕ) (start : Pair) (ds : List ℤ) where
     far-is = rw (delta-is, ran .far)
 
     ran-more : Ran (j + 1) (onto r (pairAt ds j))
-    unfolding deltaAt pointAt farAt plusUpTo sumUpTo
+    unfolding deltaAt controlPointAt farAt plusUpTo sumUpTo
     ran-more = rw (add-one j) (record { delta = delta-is; point = point-is; far = far-is })
 
     -- ---- one step
@@ -66,8 +66,8 @@ module _ (limit : ℕ) (start : Pair) (ds : List ℤ) where
     near : Decides (leb (r .manhattan + manhattanOf (plusOf (r .delta) (pairAt ds j))) limit) (farAt ds j ≤ limit) (limit < farAt ds j)
     near = rw far-is (at-most (farAt ds j) limit)
 
-    point : Decides (validPointPos (plusOf (r .point) (plusOf (r .delta) (pairAt ds j)))) (Inside (pointAt start ds j)) (Outside (pointAt start ds j))
-    point = rw point-is (point-decides (pointAt start ds j))
+    point : Decides (validPointPos (plusOf (r .point) (plusOf (r .delta) (pairAt ds j)))) (Inside (controlPointAt start ds j)) (Outside (controlPointAt start ds j))
+    point = rw point-is (point-decides (controlPointAt start ds j))
 
     step-passes : PairPasses limit start ds j → stepOf limit r (pairAt ds j) ≡ On (onto r (pairAt ds j))
     unfolding stepOf
@@ -95,7 +95,7 @@ module _ (limit : ℕ) (start : Pair) (ds : List ℤ) where
         (validPointPos (plusOf (r .point) (plusOf (r .delta) (pairAt ds j)))) small delta near point (onto r (pairAt ds j)) h
       where
         go : (a b m p : Bool) → Decides a (Small (pairAt ds j)) (Large (pairAt ds j)) → Decides b (Inside (deltaAt ds j)) (Outside (deltaAt ds j))
-            → Decides m (farAt ds j ≤ limit) (limit < farAt ds j) → Decides p (Inside (pointAt start ds j)) (Outside (pointAt start ds j))
+            → Decides m (farAt ds j ≤ limit) (limit < farAt ds j) → Decides p (Inside (controlPointAt start ds j)) (Outside (controlPointAt start ds j))
             → (s : Run) → orStop a Delta (orStop b Position (orStop m Distance (orStop p Position (On s)))) ≡ Stop c → PairRefusal limit start ds j c
         go false b m p da db dm dp s h = let e : Delta ≡ c = cc in subst (PairRefusal limit start ds j) e (delta-large (da .failed refl))
         go true false m p da db dm dp s h = let e : Position ≡ c = cc in subst (PairRefusal limit start ds j) e (delta-outside (da .passed refl) (db .failed refl))
@@ -225,8 +225,8 @@ module _ (limit : ℕ) (start : Pair) (ds : List ℤ) where
 
 module _ (start : Pair) (ds : List ℤ) where
   later-at : (m k : ℕ) (p : Place) → p .delta ≡ plusUpTo nowhere (pairAt ds) k → p .point ≡ plusUpTo start (deltaAt ds) k → 2 * (k + m) + 2 ≤ length ds
-      → getD (laterPoints p (drop (2 * k) ds)) m nowhere ≡ pointAt start ds (k + m)
-  unfolding movedOf deltaAt pointAt plusUpTo
+      → getD (laterPoints p (drop (2 * k) ds)) m nowhere ≡ controlPointAt start ds (k + m)
+  unfolding movedOf deltaAt controlPointAt plusUpTo
   later-at zero k p a b h = let e : k + 0 ≡ k = omega arith in rw (e, points-more p ds k (omega arith), a, b)
   later-at (suc m) k p a b h =
       let e : k + suc m ≡ k + 1 + m = omega arith in
@@ -235,6 +235,6 @@ module _ (start : Pair) (ds : List ℤ) where
 
 pub points-are : PointsAre
 unfolding controlPoints placeAt plusUpTo
-points-are start ds j h = later-at start ds j 0 (placeAt start) refl refl (omega arith) ∙ (let e : 0 + j ≡ j = omega arith in ap (pointAt start ds) e)
+points-are start ds j h = later-at start ds j 0 (placeAt start) refl refl (omega arith) ∙ (let e : 0 + j ≡ j = omega arith in ap (controlPointAt start ds) e)
 
 -- Assumes nothing.

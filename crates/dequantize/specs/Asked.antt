@@ -48,7 +48,7 @@ pub record Passable (p : Place) (ds : List ℤ) : Type 0 where
   pub rest : passes p ds ≡ true
 
 -- its start is a place and its trace ends well, so it is dequantized whole, and its control points may be gone through again
-pub record Accepted (x y : Float) (ds c : List ℤ) (g : Given) : Type 0 where
+pub record SplineAccepted (x y : Float) (ds c : List ℤ) (g : Given) : Type 0 where
   pub start : Pair
   pub run : Run
   pub begins : startingPoint x y ≡ At start

@@ -49,8 +49,8 @@ invDctFactor i = cond (eqb i 0) «FRAC_1_SQRT_2» 1·0
 unfoldable pub coefficientAt : List ℤ → ℕ → Float → Float → ℕ → Float
 coefficientAt c from weight quant i = ofInt binary32 (getD c (from + i) (pos 0)) ⊗ invDctFactor i ⊗ weight ⊗ quant
 
-unfoldable pub rowOf : List ℤ → ℕ → Float → Float → List Float
-rowOf c from weight quant = table (coefficientAt c from weight quant) 32
+unfoldable pub coefficientRow : List ℤ → ℕ → Float → Float → List Float
+coefficientRow c from weight quant = table (coefficientAt c from weight quant) 32
 
 -- x + k * y, cell by cell
 abbrev pub gainedAt : List Float → Float → List Float → ℕ → Float
@@ -62,10 +62,10 @@ gainedOf x k y = table (gainedAt x k y) 32
 -- X and B gain from Y
 unfoldable pub rowsOf : List ℤ → Float → Float → Float → Rows
 rowsOf c quant ytox ytob =
-    let y = rowOf c 32 0·075 quant in
+    let y = coefficientRow c 32 0·075 quant in
     record {
-      x = gainedOf (rowOf c 0 0·0042 quant) ytox y;
+      x = gainedOf (coefficientRow c 0 0·0042 quant) ytox y;
       y = y;
-      b = gainedOf (rowOf c 64 0·07 quant) ytob y;
-      sigma = rowOf c 96 0·3333 quant;
+      b = gainedOf (coefficientRow c 64 0·07 quant) ytob y;
+      sigma = coefficientRow c 96 0·3333 quant;
     }

@@ -43,8 +43,8 @@ colorAt whole c from quant i = whole (shareAt c quant (from + i))
 unfoldable pub colorBy : (Float → ℕ) → List ℤ → ℕ → Float → ℕ
 colorBy whole c from quant = satSum (colorAt whole c from quant) 32
 
-abbrev pub colorOf : List ℤ → ℕ → Float → ℕ
-colorOf c from quant = colorBy (λ x. toU64 x) c from quant
+abbrev pub rowColor : List ℤ → ℕ → Float → ℕ
+rowColor c from quant = colorBy (λ x. toU64 x) c from quant
 
 -- a color that gains |k|.ceil() times the color of Y
 unfoldable pub tintedBy : (Float → ℕ) → ℕ → Float → ℕ → ℕ

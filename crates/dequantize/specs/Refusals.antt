@@ -45,18 +45,18 @@ Large p = (2 ^ 30 ≤ natAbs (p .x)) ⊎ (2 ^ 30 ≤ natAbs (p .y))
 -- ---- the start
 
 -- a coordinate of a start, half away from zero
-abbrev pub wholeOf : Float → ℤ
-wholeOf c = toSigned 31 (roundOf binary32 c)
+abbrev pub roundedStart : Float → ℤ
+roundedStart c = toSigned 31 (roundOf binary32 c)
 
 -- it is a number whose rounding is v, in the range
 pub record RoundsTo (c : Float) (v : ℤ) : Type 0 where
   pub number : isNan c ≡ false
-  pub is : v ≡ wholeOf c
+  pub is : v ≡ roundedStart c
   pub inside : InRange v
 
 -- it is NaN, or its rounding is beyond the range
 abbrev pub Strays : Float → Type 0
-Strays c = (isNan c ≡ true) ⊎ Beyond (wholeOf c)
+Strays c = (isNan c ≡ true) ⊎ Beyond (roundedStart c)
 
 -- ---- the pairs of double deltas
 
@@ -79,8 +79,8 @@ unfoldable pub deltaAt : List ℤ → ℕ → Pair
 deltaAt ds j = plusUpTo nowhere (pairAt ds) (suc j)
 
 -- the point at pair j: the start and the deltas up to it, summed
-unfoldable pub pointAt : Pair → List ℤ → ℕ → Pair
-pointAt start ds j = plusUpTo start (deltaAt ds) (suc j)
+unfoldable pub controlPointAt : Pair → List ℤ → ℕ → Pair
+controlPointAt start ds j = plusUpTo start (deltaAt ds) (suc j)
 
 -- the Manhattan sum at pair j: both magnitudes of the deltas up to it, summed
 unfoldable pub farAt : List ℤ → ℕ → ℕ
@@ -96,7 +96,7 @@ module _ (limit : ℕ) (start : Pair) (ds : List ℤ) (j : ℕ) where
     pub small : Small (pairAt ds j)
     pub delta : Inside (deltaAt ds j)
     pub near : farAt ds j ≤ limit
-    pub point : Inside (pointAt start ds j)
+    pub point : Inside (controlPointAt start ds j)
 
   -- the first of its checks that fails
   pub data PairRefusal : Code → Type 0 where
@@ -107,7 +107,7 @@ module _ (limit : ℕ) (start : Pair) (ds : List ℤ) (j : ℕ) where
     -- 11: the Manhattan sum above the area limit
     too-far : Small (pairAt ds j) → Inside (deltaAt ds j) → limit < farAt ds j → PairRefusal Distance
     -- 10: the point
-    point-outside : Small (pairAt ds j) → Inside (deltaAt ds j) → farAt ds j ≤ limit → Outside (pointAt start ds j) → PairRefusal Position
+    point-outside : Small (pairAt ds j) → Inside (deltaAt ds j) → farAt ds j ≤ limit → Outside (controlPointAt start ds j) → PairRefusal Position
 
 -- two adjacent points of a list are equal
 pub record Adjacent (points : List Pair) : Type 0 where
@@ -158,7 +158,7 @@ module _ (d : Description) (g : Given) where
 
 -- the control point after pair j is the point at pair j
 abbrev pub PointsAre : Type 0
-PointsAre = (start : Pair) (ds : List ℤ) (j : ℕ) → 2 * j + 2 ≤ length ds → getD (controlPoints start ds) (suc j) nowhere ≡ pointAt start ds j
+PointsAre = (start : Pair) (ds : List ℤ) (j : ℕ) → 2 * j + 2 ≤ length ds → getD (controlPoints start ds) (suc j) nowhere ≡ controlPointAt start ds j
 
 -- the estimate of a spline whose pairs pass is made of its coefficients and its Manhattan sum
 abbrev pub EstimateIs : Type 0

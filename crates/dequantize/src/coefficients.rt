@@ -2,7 +2,7 @@
 ghost use mathlib.Core.Path.{_≡_};
 ghost use Prim.Native.Nat.{_+_, _≤_, _<_};
 ghost use lib.ListN.{length};
-ghost use Rattle.dequantize.specs.Coefficients.{invAdjustedQuant, coefficientAt, rowOf, gainedOf, rowsOf};
+ghost use Rattle.dequantize.specs.Coefficients.{invAdjustedQuant, coefficientAt, coefficientRow, gainedOf, rowsOf};
 
 pub struct Rows {
     pub x: [f32; 32],
@@ -37,7 +37,7 @@ fn coefficient(c: &[i32], from: usize, i: usize, weight: f32, quant: f32) -> f32
 
 fn row(c: &[i32], from: usize, weight: f32, quant: f32) -> [f32; 32]
     requires { ⌜ from + 32 ≤ length (now c) ⌝ }
-    ensures { λ r. ⌜ r ≡ rowOf (now (c .entry)) from weight quant ⌝ }
+    ensures { λ r. ⌜ r ≡ coefficientRow (now (c .entry)) from weight quant ⌝ }
 {
     let mut out = [0.0; 32];
     let mut i = 0;

@@ -2,7 +2,7 @@
 ghost use mathlib.Core.Path.{_≡_};
 ghost use Prim.Native.Nat.{_+_, _≤_, _<_};
 ghost use lib.ListN.{length};
-ghost use Rattle.dequantize.specs.Estimate.{toU64, greater, shareAt, colorOf, tintedOf, logColor, weightLimit, weightAt, widthEstimate, estimateOf};
+ghost use Rattle.dequantize.specs.Estimate.{toU64, greater, shareAt, rowColor, tintedOf, logColor, weightLimit, weightAt, widthEstimate, estimateOf};
 use crate::control_points::unsigned_abs;
 use numbers::KindU64;
 
@@ -34,7 +34,7 @@ fn share(c: &[i32], k: usize, quant: f32) -> f32
 
 fn color(c: &[i32], from: usize, quant: f32) -> u64
     requires { ⌜ from + 32 ≤ length (now c) ⌝ }
-    ensures { λ r. ⌜ r ≡ colorOf (now (c .entry)) from quant ⌝ }
+    ensures { λ r. ⌜ r ≡ rowColor (now (c .entry)) from quant ⌝ }
 {
     let mut sum = 0;
     let mut i = 0;

@@ -8,7 +8,7 @@ use Rattle.desks.specs.Desks.{Sight}
 use Rattle.checks.specs.Tables.{Table}
 use Rattle.checks.specs.declared.Verdict.{Verdict}
 use Rattle.checks.specs.declared.Verdict.the-variants.{Fine, Fault}
-use Rattle.bands.specs.Bands.{bandsIn, numbersOf, putBand}
+use Rattle.bands.specs.Bands.{bandsIn, bandNumbers, putBand}
 use Rattle.bands.specs.Calls.{BandsOutcome, leaves, byVerdict, judgeBands, judgeBand, freshCells, bandsOf, bandOf}
 use Rattle.aktyrbuz.specs.BandsExported.{BandsExport, bandsExport}
 use Rattle.aktyrbuz.specs.BandsCalls as calls
@@ -28,7 +28,7 @@ bands-whole t s W room = whole-by (judgeBands t s W room) (bandsIn (t .height)) 
 
 band-whole : (t : Table) (s : Sight) (W b : ℕ) (cells : List ℕ) → Whole (bandOf t s W b cells)
 unfolding bandOf
-band-whole t s W b cells = whole-by (judgeBand t s W (length cells) b) (bandsIn (t .height)) (putBand cells b (numbersOf t s W b)) cells
+band-whole t s W b cells = whole-by (judgeBand t s W (length cells) b) (bandsIn (t .height)) (putBand cells b (bandNumbers t s W b)) cells
 
 made : (t : Table) (s : Sight) (W room : ℕ) (x : BandsExport) → BandsExportCall t s W room x → Tells (calls.BandsCall t s W room) bandsExport x
 made t s W room x (makes κs segments owners segmentCount entries entryCount rowStarts height splines bits desk width cells answer r

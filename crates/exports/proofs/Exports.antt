@@ -10,7 +10,7 @@ use denote.Ref.{now}
 use Rattle.codes.specs.declared.Code.the-variants.{Room}
 use Rattle.numbers.specs.Ln.{lnOf}
 use Rattle.list.specs.List.{ListRooms, Got, got, stop, Described, described, limitOf, readOf}
-use Rattle.reader.specs.Read.{Outcome, outcome, readOutcome, roomsOf}
+use Rattle.reader.specs.Read.{ReadOutcome, outcome, readOutcome, roomsOf}
 use Rattle.reader.specs.Read as reading
 use Rattle.writer.specs.Write.{WriteOutcome, check, firstFault, contentChecks, valuesOf, writeOf}
 use Rattle.writer.specs.Write as writing
@@ -40,7 +40,7 @@ use Rattle.exports.specs.Exports.{ReadExportCall, reads, WriteExportCall
 
 -- ---- an outcome is its answer, what that tells, and its cells
 
-abbrev pub ReadWhole : Outcome → Type 0
+abbrev pub ReadWhole : ReadOutcome → Type 0
 ReadWhole o = reading.leaves (o .answer) (o .counts) (o .starts) (o .deltas) (o .coefficients) ≡ o
 
 pub read-whole : (rooms : ListRooms) (g : Got Described) → ReadWhole (outcome rooms g)
@@ -63,7 +63,7 @@ write-whole ns ss ds cs a configured pixels room =
 abbrev BuildWhole : BuildOutcome → Type 0
 BuildWhole o = building.leaves (o .answer) (o .path) (o .walk) (o .segments) (o .owners) (o .starts) (o .entries) ≡ o
 
-rows-whole : (r : BuildRooms) (estimate count : ℕ) (numbers : List Float) (owners : List ℕ) (o : rows.Outcome) → BuildWhole (afterRows r estimate count numbers owners o)
+rows-whole : (r : BuildRooms) (estimate count : ℕ) (numbers : List Float) (owners : List ℕ) (o : rows.RowsOutcome) → BuildWhole (afterRows r estimate count numbers owners o)
 unfolding refusedWith
 rows-whole r estimate count numbers owners o = go (o .answer) refl
   where

@@ -10,7 +10,7 @@ use denote.Ref.{now}
 use Rattle.codes.specs.declared.Code.the-variants.{Room}
 use Rattle.shape.specs.Shape.{pointsOf}
 use Rattle.list.specs.List.{ListRooms, Got, got, stop, described}
-use Rattle.reader.specs.Read.{Outcome, outcome}
+use Rattle.reader.specs.Read.{ReadOutcome, outcome}
 use Rattle.writer.specs.Write.{check, firstFault, wholeOf, WriteOutcome}
 use Rattle.writer.specs.Write as writing
 use Rattle.little.specs.Little.{numbersIn}

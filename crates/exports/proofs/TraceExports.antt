@@ -10,7 +10,7 @@ use denote.Ref.{now}
 use Rattle.codes.specs.declared.Code.the-variants.{Room}
 use Rattle.shape.specs.Shape.{pointsOf}
 use Rattle.list.specs.List.{ListRooms, described}
-use Rattle.reader.specs.Read.{Outcome}
+use Rattle.reader.specs.Read.{ReadOutcome}
 use Rattle.reader.specs.Read as reading
 use Rattle.writer.specs.Write.{check, firstFault, wholeOf, WriteOutcome}
 use Rattle.writer.specs.Write as writing

@@ -16,7 +16,7 @@ use Rattle.segments.specs.declared.Segment.{Segment}
 use Rattle.segments.specs.declared.Range.{Range}
 use Rattle.segments.specs.Ranges.{hasRow, rowsOf}
 use Rattle.segments.proofs.Ranges.{has-row}
-use Rattle.rows.specs.Rows.{only, listed, rowOf}
+use Rattle.rows.specs.Rows.{only, listed, entriesBetween}
 use Rattle.rows.specs.Steps.{cnt}
 use Rattle.rows.proofs.Counts.{three}
 use Rattle.makers.specs.Check.{sameList, startsGood, rowRight, RowRight, wrongFrom}
@@ -274,7 +274,7 @@ module _ (has : ℕ → ℕ → Bool) where
     pub record RowFits (y : ℕ) : Type 0 where
       pub rises : getD starts y 0 ≤ getD starts (suc y) 0
       pub ends : getD starts (suc y) 0 ≤ n
-      pub ascends : rising (λ i. has i y) S 0 (rowOf starts entries y) ≡ true
+      pub ascends : rising (λ i. has i y) S 0 (entriesBetween starts entries y) ≡ true
 
     pub fit-facts : (y : ℕ) → rowFits has S starts entries n y ≡ true → RowFits y
     unfolding rowFits

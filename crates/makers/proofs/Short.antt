@@ -8,7 +8,7 @@ use native.Mathlib.Nat.{eq-or-lt-of-le}
 use native.Mathlib.Omega.{arith}
 use lib.ListN.{length, getD}
 use lib.Seq.{length-slice}
-use Rattle.rows.specs.Rows.{listed, rows, startOf, rowOf}
+use Rattle.rows.specs.Rows.{listed, rows, startOf, entriesBetween}
 use Rattle.rows.specs.Steps.{cnt}
 use Rattle.rows.proofs.Counts.{start-suc, split}
 use Rattle.makers.specs.Check.{rowRight, RowRight, wrongFrom}
@@ -19,19 +19,19 @@ module _ (has : ℕ → ℕ → Bool) (S : ℕ) (starts entries : List ℕ) (n :
   module _ (bad : ℕ) (f : Fitting has S starts entries n bad) where
     -- one row: how much it lists, at most what is due
     record Row (y : ℕ) : Type 0 where
-      wide : getD starts (suc y) 0 ≡ getD starts y 0 + length (rowOf starts entries y)
-      few : length (rowOf starts entries y) ≤ cnt has y S
+      wide : getD starts (suc y) 0 ≡ getD starts y 0 + length (entriesBetween starts entries y)
+      few : length (entriesBetween starts entries y) ≤ cnt has y S
       due : startOf has S (suc y) ≡ startOf has S y + cnt has y S
-      full : cnt has y S ≤ length (rowOf starts entries y) → rowRight has S starts entries n y ≡ true
+      full : cnt has y S ≤ length (entriesBetween starts entries y) → rowRight has S starts entries n y ≡ true
 
     row : (y : ℕ) → y < bad → Row y
     row y h =
         let g = fit-facts has S starts entries n y (f .fits y h) in
         record {
           wide = omega (arith, g .rises, g .ends, f .stored, length-slice (getD starts y 0) (getD starts (suc y) 0) entries (omega (arith, g .ends, f .stored)));
-          few = no-longer has y S (rowOf starts entries y) (g .ascends);
+          few = no-longer has y S (entriesBetween starts entries y) (g .ascends);
           due = start-suc has S y;
-          full = λ k. right-made has S starts entries n y (record { rises = g .rises; ends = g .ends; lists = as-long has y S (rowOf starts entries y) (g .ascends) k });
+          full = λ k. right-made has S starts entries n y (record { rises = g .rises; ends = g .ends; lists = as-long has y S (entriesBetween starts entries y) (g .ascends) k });
         }
 
     at-most : (y : ℕ) → y ≤ bad → getD starts y 0 ≤ startOf has S y

@@ -9,7 +9,7 @@ use lib.Ieee.{Float}
 use lib.ListN.{length, getD}
 use Rattle.codes.specs.Codes.{numberOf}
 use Rattle.codes.specs.declared.Code.{Code}
-use Rattle.rows.specs.Rows.{listed, rowOf, inRow}
+use Rattle.rows.specs.Rows.{listed, entriesBetween, inRow}
 use Rattle.makers.specs.declared.CheckAnswer.{CheckAnswer}
 use Rattle.makers.specs.declared.CheckAnswer.the-variants.{Done, Refused}
 
@@ -28,13 +28,13 @@ startsGood starts n y = leb (getD starts y 0) (getD starts (suc y) 0) && leb (ge
 module _ (has : ℕ → ℕ → Bool) (S : ℕ) (starts entries : List ℕ) (n : ℕ) where
   -- row y is right: its starts are good, and it lists precisely the segments that have it, once each, ascending
   unfoldable pub rowRight : ℕ → Bool
-  rowRight y = startsGood starts n y && sameList (rowOf starts entries y) (listed has y S)
+  rowRight y = startsGood starts n y && sameList (entriesBetween starts entries y) (listed has y S)
 
   -- the same as a statement
   pub record RowRight (y : ℕ) : Type 0 where
     pub rises : getD starts y 0 ≤ getD starts (suc y) 0
     pub ends : getD starts (suc y) 0 ≤ n
-    pub lists : rowOf starts entries y ≡ listed has y S
+    pub lists : entriesBetween starts entries y ≡ listed has y S
 
 -- the first of m rows from y on that is wrong, or the one after them
 unfoldable pub wrongFrom : (ℕ → Bool) → ℕ → ℕ → ℕ
@@ -49,8 +49,8 @@ orRefuse true c after = after
 orRefuse false c after = Refused c 0
 
 -- the counts are in the buffers and not above 2^24 segments and 2^30 entries
-unfoldable pub countsGood : List Float → ℕ → List ℕ → ℕ → Bool
-countsGood segs S entries n = leb S (2 ^ 24) && leb (8 * S) (length segs) && leb n (2 ^ 30) && leb n (length entries)
+unfoldable pub offeredCountsGood : List Float → ℕ → List ℕ → ℕ → Bool
+offeredCountsGood segs S entries n = leb S (2 ^ 24) && leb (8 * S) (length segs) && leb n (2 ^ 30) && leb n (length entries)
 
 -- by the first wrong row w of H: TABLE there, or at H where entries are left over after the last row
 abbrev pub byRows : ℕ → ℕ → ℕ → ℕ → CheckAnswer
@@ -60,7 +60,7 @@ unfoldable pub checkOf : List Float → ℕ → ℕ → List ℕ → List ℕ �
 checkOf segs S H starts entries n =
     orRefuse (leb H (2 ^ 23)) Code.Size
     (orRefuse (eqb (length starts) (suc H)) Code.Shape
-    (orRefuse (countsGood segs S entries n) Code.Table
+    (orRefuse (offeredCountsGood segs S entries n) Code.Table
     (orRefuse (eqb (getD starts 0 0) 0) Code.Table
     (byRows H (getD starts H 0) n (wrongFrom (rowRight (inRow segs) S starts entries n) 0 H)))))
 

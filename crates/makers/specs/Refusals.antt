@@ -12,25 +12,25 @@ use Rattle.makers.specs.Check.{RowRight}
 -- ---- the counts
 
 -- every count is within its limit and its buffer
-pub record CountsFit (segs : List Float) (S : ℕ) (entries : List ℕ) (n : ℕ) : Type 0 where
+pub record OfferedCountsFit (segs : List Float) (S : ℕ) (entries : List ℕ) (n : ℕ) : Type 0 where
   pub few-segments : S ≤ 2 ^ 24
   pub segments-fit : 8 * S ≤ length segs
   pub few-entries : n ≤ 2 ^ 30
   pub entries-fit : n ≤ length entries
 
 -- a count that exceeds its limit or overruns its buffer
-pub data Overrun (segs : List Float) (S : ℕ) (entries : List ℕ) (n : ℕ) : Type 0 where
-  many-segments : 2 ^ 24 < S → Overrun segs S entries n
-  segments-short : length segs < 8 * S → Overrun segs S entries n
-  many-entries : 2 ^ 30 < n → Overrun segs S entries n
-  entries-short : length entries < n → Overrun segs S entries n
+pub data OfferedOverrun (segs : List Float) (S : ℕ) (entries : List ℕ) (n : ℕ) : Type 0 where
+  many-segments : 2 ^ 24 < S → OfferedOverrun segs S entries n
+  segments-short : length segs < 8 * S → OfferedOverrun segs S entries n
+  many-entries : 2 ^ 30 < n → OfferedOverrun segs S entries n
+  entries-short : length entries < n → OfferedOverrun segs S entries n
 
 module _ (segs : List Float) (S H : ℕ) (starts entries : List ℕ) (n : ℕ) where
   -- the image is not too high, the row starts are one more than the rows, and the counts fit
   pub record Fits : Type 0 where
     pub low : H ≤ 2 ^ 23
     pub tall : length starts ≡ suc H
-    pub counts : CountsFit segs S entries n
+    pub counts : OfferedCountsFit segs S entries n
 
   -- ---- the rows
 
@@ -53,7 +53,7 @@ module _ (segs : List Float) (S H : ℕ) (starts entries : List ℕ) (n : ℕ) w
 
   -- ---- the answers
 
-  pub record Accepted (m : ℕ) : Type 0 where
+  pub record CheckAccepted (m : ℕ) : Type 0 where
     pub fits : Fits
     pub right : TableRight
     pub told : m ≡ n
@@ -61,5 +61,5 @@ module _ (segs : List Float) (S H : ℕ) (starts entries : List ℕ) (n : ℕ) w
   pub data CheckRefusal : Code → ℕ → Type 0 where
     size : 2 ^ 23 < H → CheckRefusal Code.Size 0
     shape : H ≤ 2 ^ 23 → (length starts ≡ suc H → ⊥) → CheckRefusal Code.Shape 0
-    counts : H ≤ 2 ^ 23 → length starts ≡ suc H → Overrun segs S entries n → CheckRefusal Code.Table 0
+    counts : H ≤ 2 ^ 23 → length starts ≡ suc H → OfferedOverrun segs S entries n → CheckRefusal Code.Table 0
     row : {w : ℕ} → Fits → FirstWrong w → CheckRefusal Code.Table w

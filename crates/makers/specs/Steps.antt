@@ -5,7 +5,7 @@ use mathlib.Core.List.{List, [], _∷_}
 use Prim.Native.Nat.{ℕ, suc, _≤_, _<_}
 use lib.Dec.{leb, ltb}
 use lib.ListN.{getD, length}
-use Rattle.rows.specs.Rows.{rowOf}
+use Rattle.rows.specs.Rows.{entriesBetween}
 use Rattle.makers.specs.Check.{startsGood}
 
 -- the numbers are at least `least`, ascend, and each names a segment below S that passes the test
@@ -16,7 +16,7 @@ rising here S least (i ∷ is) = leb least i && (ltb i S && (here i && rising he
 module _ (has : ℕ → ℕ → Bool) (S : ℕ) (starts entries : List ℕ) (n : ℕ) where
   -- row y lists no segment that it should not, each once, ascending: some may be missing
   unfoldable pub rowFits : ℕ → Bool
-  rowFits y = startsGood starts n y && rising (λ i. has i y) S 0 (rowOf starts entries y)
+  rowFits y = startsGood starts n y && rising (λ i. has i y) S 0 (entriesBetween starts entries y)
 
   -- the first row starts at 0, and so fit all rows below `bad`
   pub record Fitting (bad : ℕ) : Type 0 where

@@ -14,8 +14,8 @@ use Rattle.rows.specs.Rows.{inRow}
 use Rattle.rows.proofs.Counts.{split}
 use Rattle.makers.specs.declared.CheckAnswer.{CheckAnswer}
 use Rattle.makers.specs.declared.CheckAnswer.the-variants.{Done, Refused}
-use Rattle.makers.specs.Check.{rowRight, RowRight, wrongFrom, countsGood, checkOf}
-use Rattle.makers.specs.Refusals.{CountsFit, Overrun, many-segments, segments-short, many-entries, entries-short, Fits, RowGood, TableRight, FirstWrong, wrong-row, first-start, left-over, Accepted, CheckRefusal, size, shape, counts, row}
+use Rattle.makers.specs.Check.{rowRight, RowRight, wrongFrom, offeredCountsGood, checkOf}
+use Rattle.makers.specs.Refusals.{OfferedCountsFit, OfferedOverrun, many-segments, segments-short, many-entries, entries-short, Fits, RowGood, TableRight, FirstWrong, wrong-row, first-start, left-over, CheckAccepted, CheckRefusal, size, shape, counts, row}
 use Rattle.makers.proofs.Rows.{First, first-is, first-one, is-false, true-or-false, false-not-true, right-facts, right-made}
 use Rattle.makers_search.proofs.Answers.{counts-facts, at-size, at-shape, at-counts, at-first, at-row, at-end, at-done}
 
@@ -25,8 +25,8 @@ same-or-not a b = ⊎-elim (λ h. inl (eqb-true a b h)) (λ h. inr (eqb-false a 
 -- ---- the counts
 
 module _ (segs : List Float) (S : ℕ) (entries : List ℕ) (n : ℕ) where
-  pub counts-fit : CountsFit segs S entries n → countsGood segs S entries n ≡ true
-  unfolding countsGood
+  pub counts-fit : OfferedCountsFit segs S entries n → offeredCountsGood segs S entries n ≡ true
+  unfolding offeredCountsGood
   counts-fit f =
       rw (
         le-leb S (2 ^ 24) (f .few-segments),
@@ -35,16 +35,16 @@ module _ (segs : List Float) (S : ℕ) (entries : List ℕ) (n : ℕ) where
         le-leb n (length entries) (f .entries-fit),
       )
 
-  unfit : Overrun segs S entries n → CountsFit segs S entries n → ⊥
+  unfit : OfferedOverrun segs S entries n → OfferedCountsFit segs S entries n → ⊥
   unfit (many-segments h) f = omega (arith, h, f .few-segments)
   unfit (segments-short h) f = omega (arith, h, f .segments-fit)
   unfit (many-entries h) f = omega (arith, h, f .few-entries)
   unfit (entries-short h) f = omega (arith, h, f .entries-fit)
 
-  overrun : Overrun segs S entries n → countsGood segs S entries n ≡ false
-  overrun o = is-false (countsGood segs S entries n) (λ e. unfit o (counts-facts segs S entries n e))
+  overrun : OfferedOverrun segs S entries n → offeredCountsGood segs S entries n ≡ false
+  overrun o = is-false (offeredCountsGood segs S entries n) (λ e. unfit o (counts-facts segs S entries n e))
 
-  fit-or-overrun : CountsFit segs S entries n ⊎ Overrun segs S entries n
+  fit-or-overrun : OfferedCountsFit segs S entries n ⊎ OfferedOverrun segs S entries n
   fit-or-overrun =
       ⊎-elim (λ h. inr (many-segments h)) (λ a.
       ⊎-elim (λ h. inr (segments-short h)) (λ b.
@@ -65,7 +65,7 @@ module _ (segs : List Float) (S H : ℕ) (starts entries : List ℕ) (n : ℕ) w
     refusal : CheckRefusal segs S H starts entries n code place
 
   module _ (f : Fits segs S H starts entries n) where
-    good : countsGood segs S entries n ≡ true
+    good : offeredCountsGood segs S entries n ≡ true
     good = counts-fit segs S entries n (f .counts)
 
     module _ (begins : getD starts 0 0 ≡ 0) where
@@ -109,7 +109,7 @@ module _ (segs : List Float) (S H : ℕ) (starts entries : List ℕ) (n : ℕ) w
     last-in b zero e before = rw e (omega (arith, b))
     last-in b (suc h) e before = let r = before h (omega arith) in rw e (r .ends)
 
-    decided : Accepted segs S H starts entries n n ⊎ Given
+    decided : CheckAccepted segs S H starts entries n n ⊎ Given
     decided =
         ⊎-elim
         (λ b.
@@ -149,10 +149,10 @@ module _ (segs : List Float) (S H : ℕ) (starts entries : List ℕ) (n : ℕ) w
   refusal-told (counts l t o) = sym (at-counts segs S H starts entries n l t (overrun segs S entries n o))
   refusal-told (row f w) = row-told f w
 
-  pub accepted-told : {m : ℕ} → Accepted segs S H starts entries n m → checkOf segs S H starts entries n ≡ Done m
+  pub accepted-told : {m : ℕ} → CheckAccepted segs S H starts entries n m → checkOf segs S H starts entries n ≡ Done m
   accepted-told a = done-told (a .fits) (a .right .begins) (a .right .rows) (a .right .closes) ∙ ap Done (sym (a .told))
 
-  either : Accepted segs S H starts entries n n ⊎ Given
+  either : CheckAccepted segs S H starts entries n n ⊎ Given
   either =
       ⊎-elim (λ h. inr (record { code = Code.Size; place = 0; refusal = size h }))
       (λ l.
@@ -185,7 +185,7 @@ module _ (segs : List Float) (S H : ℕ) (starts entries : List ℕ) (n : ℕ) w
           subst (λ (b : ℕ). CheckRefusal segs S H starts entries n c b) (ap placeOf e)
           (subst (λ (a : Code). CheckRefusal segs S H starts entries n a (g .place)) (ap codeOf e) (g .refusal))
 
-  pub accepted-exactly : (m : ℕ) → checkOf segs S H starts entries n ≡ Done m ↔ Accepted segs S H starts entries n m
+  pub accepted-exactly : (m : ℕ) → checkOf segs S H starts entries n ≡ Done m ↔ CheckAccepted segs S H starts entries n m
   accepted-exactly m = (λ e. ⊎-elim (λ a. record { fits = a .fits; right = a .right; told = ap countOf (sym e ∙ accepted-told a) }) (λ g. absurd (apart g (sym (refusal-told (g .refusal)) ∙ e))) either, accepted-told)
     where
       isRefused : CheckAnswer → Type 0

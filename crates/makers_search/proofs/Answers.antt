@@ -12,13 +12,13 @@ use Rattle.codes.specs.declared.Code.{Code}
 use Rattle.rows.specs.Rows.{inRow}
 use Rattle.makers.specs.declared.CheckAnswer.{CheckAnswer}
 use Rattle.makers.specs.declared.CheckAnswer.the-variants.{Done, Refused}
-use Rattle.makers.specs.Check.{rowRight, wrongFrom, countsGood, byRows, checkOf}
-use Rattle.makers.specs.Refusals.{CountsFit}
+use Rattle.makers.specs.Check.{rowRight, wrongFrom, offeredCountsGood, byRows, checkOf}
+use Rattle.makers.specs.Refusals.{OfferedCountsFit}
 use Rattle.makers.proofs.Rows.{and-left, and-right}
 
 module _ (segs : List Float) (S : ℕ) (entries : List ℕ) (n : ℕ) where
-  pub counts-facts : countsGood segs S entries n ≡ true → CountsFit segs S entries n
-  unfolding countsGood
+  pub counts-facts : offeredCountsGood segs S entries n ≡ true → OfferedCountsFit segs S entries n
+  unfolding offeredCountsGood
   counts-facts h =
       record {
         few-segments = leb-true _ _ (search (and-left, and-right, h));
@@ -38,11 +38,11 @@ module _ (segs : List Float) (S H : ℕ) (starts entries : List ℕ) (n : ℕ) w
     at-shape h = rw (le-leb H (2 ^ 23) low, ne-eqb (length starts) (suc H) h)
 
     module _ (tall : length starts ≡ suc H) where
-      pub at-counts : countsGood segs S entries n ≡ false → Refused Code.Table 0 ≡ checkOf segs S H starts entries n
+      pub at-counts : offeredCountsGood segs S entries n ≡ false → Refused Code.Table 0 ≡ checkOf segs S H starts entries n
       unfolding checkOf
       at-counts h = rw (le-leb H (2 ^ 23) low, eq-eqb (length starts) (suc H) tall, h)
 
-      module _ (good : countsGood segs S entries n ≡ true) where
+      module _ (good : offeredCountsGood segs S entries n ≡ true) where
         pub at-first : (getD starts 0 0 ≡ 0 → ⊥) → Refused Code.Table 0 ≡ checkOf segs S H starts entries n
         unfolding checkOf
         at-first h = rw (le-leb H (2 ^ 23) low, eq-eqb (length starts) (suc H) tall, good, ne-eqb (getD starts 0 0) 0 h)

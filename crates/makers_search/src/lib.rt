@@ -6,7 +6,7 @@ ghost use lib.Dec.{ltb};
 ghost use lib.ListN.{length, getD};
 ghost use Rattle.rows.specs.Rows.{startOf, inRow};
 ghost use Rattle.rows.specs.Steps.{firstOf, pastOf};
-ghost use Rattle.makers.specs.Check.{rowRight, wrongFrom, countsGood, checkOf};
+ghost use Rattle.makers.specs.Check.{rowRight, wrongFrom, offeredCountsGood, checkOf};
 ghost use Rattle.makers.specs.Steps.{Fitting};
 use codes::Code;
 use makers::CheckAnswer;
@@ -86,7 +86,7 @@ fn first_short(
 
 // Whether the counts are within their limits and their buffers.
 fn counts_good(segments: &[f32], segment_count: u32, entries: &[u32], entry_count: u32) -> bool
-    ensures { λ r. ⌜ r ≡ countsGood (now (segments .entry)) «segment_count» (now (entries .entry)) «entry_count» ⌝ }
+    ensures { λ r. ⌜ r ≡ offeredCountsGood (now (segments .entry)) «segment_count» (now (entries .entry)) «entry_count» ⌝ }
 {
     if 16777216 < segment_count {
         return false;

@@ -8,9 +8,9 @@ use Rattle.dequantize.specs.declared.control_points.Pair.{Pair}
 use Rattle.dequantize.specs.declared.control_points.Start.{Start}
 use Rattle.dequantize.specs.declared.control_points.Start.the-variants.{At}
 use Rattle.dequantize.specs.ControlPoints.{startingPoint, placeAt}
-use Rattle.dequantize.specs.Asked.{Passable, Accepted}
+use Rattle.dequantize.specs.Asked.{Passable, SplineAccepted}
 
-pub start-walk : (x y : Float) (ds c : List ℤ) (g : Given) → Accepted x y ds c g → {r : Start} (start : Pair) → r ≡ startingPoint x y → r ≡ At start → Passable (placeAt start) ds
+pub start-walk : (x y : Float) (ds c : List ℤ) (g : Given) → SplineAccepted x y ds c g → {r : Start} (start : Pair) → r ≡ startingPoint x y → r ≡ At start → Passable (placeAt start) ds
 start-walk x y ds c g a {r} start p q =
     let e : At (a .start) ≡ At start = sym (a .begins) ∙ sym p ∙ q in
     let s : a .start ≡ start = cc in

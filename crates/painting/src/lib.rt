@@ -5,7 +5,7 @@ ghost use lib.ListN.{length, getD, take, drop};
 ghost use lib.Ieee.{nan};
 ghost use Rattle.points.specs.Points.{segmentRoom};
 ghost use Rattle.owners.specs.Owners.{ownedRoom};
-ghost use Rattle.dequantize.specs.Asked.{Accepted};
+ghost use Rattle.dequantize.specs.Asked.{SplineAccepted};
 ghost use Rattle.curve.specs.Curve.{pathRoom};
 ghost use Rattle.walk.specs.Walk.{walkRoom};
 ghost use Rattle.dequantize.specs.Judge.{descriptionOf, Shaped};
@@ -34,7 +34,7 @@ fn draw_one(
     from: usize,
 ) -> Filled
     requires { ⌜ (2 * k + 2 ≤ length (now starts)) × (128 * k + 128 ≤ length (now coefficients)) × (from ≤ segmentRoom (length (now out)))
-        × Accepted (getD (now starts) (2 * k) nan) (getD (now starts) (2 * k + 1) nan) (now deltas) (take 128 (drop (128 * k) (now coefficients))) given ⌝ }
+        × SplineAccepted (getD (now starts) (2 * k) nan) (getD (now starts) (2 * k + 1) nan) (now deltas) (take 128 (drop (128 * k) (now coefficients))) given ⌝ }
     ensures { λ r. ⌜ Fills from (strandHere (now (starts .entry)) (now (deltas .entry)) (now (coefficients .entry)) k given «high_precision» (length (now (path .entry))) (length (now (walk .entry)))) r (now (out .entry)) (now (out .exit)) ⌝ }
 {
     let spline = dequantize::judge::spline_at(starts, deltas, coefficients, k, given);

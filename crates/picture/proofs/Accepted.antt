@@ -23,7 +23,7 @@ use Rattle.points.proofs.Adding.{count-got}
 use Rattle.strand.specs.Strand.{Strand, NoRoom, Segments, strandFilled, segmentsOf}
 use Rattle.rows.specs.declared.Listed.{Listed}
 use Rattle.rows.specs.declared.Listed.the-variants as Listed
-use Rattle.rows.specs.Rows.{inRow, Outcome, outcome, built}
+use Rattle.rows.specs.Rows.{inRow, RowsOutcome, outcome, built}
 use Rattle.owners.specs.Owners.{ownedRoom, ownersOf}
 use Rattle.painting.specs.Painting.{strandOfSpline, Painted, All, NoRoomAt, afterStrand, paintFrom, paintOf}
 use Rattle.faint.specs.Faint.{faintIn}
@@ -67,7 +67,7 @@ module _ (r : BuildRooms) (t : BuildOutcome) (s e est faint : ℕ) (done : t .an
   refused-not c k q = let z : _≡_ {A = ℕ} 0 1 = cc (sym (ap (λ (b : BuildOutcome). b .answer) q) ∙ done) in omega arith
 
   -- the rows were listed
-  record Listing (estimate : ℕ) (segs : List Segment) (o : Outcome) : Type 0 where
+  record Listing (estimate : ℕ) (segs : List Segment) (o : RowsOutcome) : Type 0 where
     same : estimate ≡ est
     size : length segs ≡ s
     listed : o .answer ≡ Listed.Entries e
@@ -111,7 +111,7 @@ module _ (r : BuildRooms) (t : BuildOutcome) (s e est faint : ℕ) (done : t .an
       record { segs = segs; owners = owners; estimate = estimate; judged = refl; drawn = refl; listing = rows-listed estimate segs owners (o .answer) (o .starts) (o .entries) q }
 
 -- what an accepted build is
-pub record Accepted (d : Description) (i : Setting) (r : BuildRooms) (t : BuildOutcome) (s e est : ℕ) : Type 0 where
+pub record BuildAccepted (d : Description) (i : Setting) (r : BuildRooms) (t : BuildOutcome) (s e est : ℕ) : Type 0 where
   pub segs : List Segment
   pub owners : List ℕ
   pub low : i .height ≤ 2 ^ 23
@@ -127,7 +127,7 @@ pub record Accepted (d : Description) (i : Setting) (r : BuildRooms) (t : BuildO
   pub starts : t .starts ≡ built (inRow (eights segs)) (length segs) (i .height) (r .starts) (r .entries) .starts
   pub entries : t .entries ≡ built (inRow (eights segs)) (length segs) (i .height) (r .starts) (r .entries) .entries
 
-pub accepted : (d : Description) (i : Setting) (r : BuildRooms) (t : BuildOutcome) (s e est faint : ℕ) → t ≡ buildOf d i r → t .answer ≡ Done s e est faint → Accepted d i r t s e est
+pub accepted : (d : Description) (i : Setting) (r : BuildRooms) (t : BuildOutcome) (s e est faint : ℕ) → t ≡ buildOf d i r → t .answer ≡ Done s e est faint → BuildAccepted d i r t s e est
 unfolding buildOf
 accepted d i r t s e est faint q done =
     let g = ended r t s e est faint done (i .height) (verdictOf d (givenOf i) (i .width) (i .height) (r .starts)) (painted d i r) q in

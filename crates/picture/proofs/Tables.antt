@@ -22,7 +22,7 @@ use Rattle.points.proofs.Adding.{length-eights}
 use Rattle.rows.specs.declared.Listed.{Listed}
 use Rattle.rows.specs.declared.Listed.the-variants as Listed
 use Rattle.rows.specs.Rows as rows
-use Rattle.rows.specs.Rows.{inRow, listed, upTo, startOf, Outcome}
+use Rattle.rows.specs.Rows.{inRow, listed, upTo, startOf, RowsOutcome}
 use Rattle.rows.proofs.Counts.{listed-in, by-row}
 use Rattle.rows.proofs.Table.{rest-same}
 use Rattle.rows.proofs.Users as users
@@ -37,7 +37,7 @@ use Rattle.picture.specs.Sights.{hides, notHidden}
 use Rattle.picture.proofs.Flat.{segment-at}
 use Rattle.picture.proofs.Shown.{seen, shown-listed}
 use Rattle.picture.proofs.Pixels.{pixel-is, pairs-are}
-use Rattle.picture.proofs.Accepted.{Accepted, accepted}
+use Rattle.picture.proofs.Accepted.{BuildAccepted, accepted}
 
 -- ---- a listing that was accepted
 
@@ -46,7 +46,7 @@ entriesIn (Listed.Entries n) = n
 entriesIn Listed.Room = 0
 
 -- the table, also where there is no row
-record Fits (has : ℕ → ℕ → Bool) (S H ns ne e : ℕ) (o : Outcome) : Type 0 where
+record Fits (has : ℕ → ℕ → Bool) (S H ns ne e : ℕ) (o : RowsOutcome) : Type 0 where
   count : e ≡ startOf has S H
   starts : o .starts ≡ padded ns 0 (upTo (startOf has S) (suc H))
   entries : o .entries ≡ padded ne 0 (rows.rows has S H)
@@ -60,16 +60,16 @@ fits-listing has S H ns ne e w q =
     ⊎-elim
     (λ f.
     let t = users.table-when has S H ns ne f in
-    let n : startOf has S H ≡ e = ap entriesIn (sym (ap (λ (o : Outcome). o .answer) t) ∙ q) in
+    let n : startOf has S H ≡ e = ap entriesIn (sym (ap (λ (o : RowsOutcome). o .answer) t) ∙ q) in
     record {
       count = sym n;
-      starts = ap (λ (o : Outcome). o .starts) t;
-      entries = ap (λ (o : Outcome). o .entries) t;
+      starts = ap (λ (o : RowsOutcome). o .starts) t;
+      entries = ap (λ (o : RowsOutcome). o .entries) t;
       few = omega (arith, n, f .1);
-      room = omega (arith, n, f .0, ap (λ (o : Outcome). length (o .entries)) t, users.length-padded ne (rows.rows has S H) (f .0));
-      tall = omega (arith, ap (λ (o : Outcome). length (o .starts)) t, users.length-padded ns (upTo (startOf has S) (suc H)) (omega (arith, users.length-up-to (startOf has S) (suc H))));
+      room = omega (arith, n, f .0, ap (λ (o : RowsOutcome). length (o .entries)) t, users.length-padded ne (rows.rows has S H) (f .0));
+      tall = omega (arith, ap (λ (o : RowsOutcome). length (o .starts)) t, users.length-padded ns (upTo (startOf has S) (suc H)) (omega (arith, users.length-up-to (startOf has S) (suc H))));
     })
-    (λ f. let z : _≡_ {A = ℕ} 0 1 = cc (ap (λ (o : Outcome). o .answer) (users.room-when has S H ns ne f), q) in absurd (omega arith))
+    (λ f. let z : _≡_ {A = ℕ} 0 1 = cc (ap (λ (o : RowsOutcome). o .answer) (users.room-when has S H ns ne f), q) in absurd (omega arith))
     (users.either has S H ns ne)
 
 checks-of : (has : ℕ → ℕ → Bool) (S H ns ne e : ℕ) → H < ns → rows.built has S H ns ne .answer ≡ Listed.Entries e
@@ -97,7 +97,7 @@ abbrev none : Segment
 none = segmentAt [] 0
 
 module _ {d : Description} {i : Setting} {r : BuildRooms} {o : BuildOutcome} {s e estimate : ℕ} (b : Built d i r o s e estimate) where
-  pub facts : Accepted d i r o s e estimate
+  pub facts : BuildAccepted d i r o s e estimate
   facts = accepted d i r o s e estimate (b .faint) (b .outcome) (b .done)
 
   -- the segments that were drawn are those of the table, in their order
@@ -120,13 +120,13 @@ module _ {d : Description} {i : Setting} {r : BuildRooms} {o : BuildOutcome} {s 
       ∙ ap (λ (n : ℕ). rows.built (inRow (o .segments)) n (i .height) (r .starts) (r .entries)) (facts .size)
 
   listing : Fits (inRow (o .segments)) s (i .height) (r .starts) (r .entries) e (rows.built (inRow (o .segments)) s (i .height) (r .starts) (r .entries))
-  listing = fits-listing (inRow (o .segments)) s (i .height) (r .starts) (r .entries) e (facts .fits-starts) (sym (ap (λ (l : Outcome). l .answer) same-listing) ∙ facts .listed)
+  listing = fits-listing (inRow (o .segments)) s (i .height) (r .starts) (r .entries) e (facts .fits-starts) (sym (ap (λ (l : RowsOutcome). l .answer) same-listing) ∙ facts .listed)
 
   starts-are : o .starts ≡ rows.built (inRow (o .segments)) s (i .height) (r .starts) (r .entries) .starts
-  starts-are = facts .starts ∙ ap (λ (l : Outcome). l .starts) same-listing
+  starts-are = facts .starts ∙ ap (λ (l : RowsOutcome). l .starts) same-listing
 
   entries-are : o .entries ≡ rows.built (inRow (o .segments)) s (i .height) (r .starts) (r .entries) .entries
-  entries-are = facts .entries ∙ ap (λ (l : Outcome). l .entries) same-listing
+  entries-are = facts .entries ∙ ap (λ (l : RowsOutcome). l .entries) same-listing
 
   pub counts-good : countsGood (built i o s e) ≡ true
   unfolding countsGood
@@ -145,7 +145,7 @@ module _ {d : Description} {i : Setting} {r : BuildRooms} {o : BuildOutcome} {s 
     checks : users.Checks (inRow (o .segments)) s (i .height) e y (o .starts) (o .entries)
     checks =
         checks-of (inRow (o .segments)) s (i .height) (r .starts) (r .entries) e (facts .fits-starts)
-        (sym (ap (λ (l : Outcome). l .answer) same-listing) ∙ facts .listed) y h starts-are entries-are
+        (sym (ap (λ (l : RowsOutcome). l .answer) same-listing) ∙ facts .listed) y h starts-are entries-are
 
     -- the row lists, ascending, the segments of the table that have it
     pub row-listed : rowOf (built i o s e) y ≡ listed (inRow (o .segments)) y s

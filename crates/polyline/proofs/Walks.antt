@@ -21,7 +21,7 @@ use Rattle.polyline.specs.declared.Judged.the-variants.{On, Stop}
 use Rattle.polyline.specs.declared.Walked.{Walked}
 use Rattle.polyline.specs.declared.Walked.the-variants.{Came, Halt}
 use Rattle.polyline.specs.Spots.{figureAt, grownBy, spotOf, spotsFrom}
-use Rattle.polyline.specs.Read.{minusOf, placeable, meets, trackTo, stepDeltas, judgedOf, afterPair, walkFrom, deltasFrom, firstOf, laterOf}
+use Rattle.polyline.specs.Read.{minusOf, placeable, meets, trackTo, stepDeltas, judgedOf, afterPair, walkFrom, deltasFrom, firstPoint, laterOf}
 
 -- ---- one pair
 
@@ -96,8 +96,8 @@ walk-keeps [] p start v e = record { place = p; is = cc }
 walk-keeps (s ∷ ss) p start v e = walk-keeps ss _ start v (walk-came (At p start) s ss v e .rest)
 
 pub record First (ss : List Spot) (v : Track) : Type 0 where
-  pub valid : validPointPos (firstOf ss) ≡ true
-  pub keeps : Keeps (firstOf ss) v
+  pub valid : validPointPos (firstPoint ss) ≡ true
+  pub keeps : Keeps (firstPoint ss) v
 
 pub walk-first : (ss : List Spot) (v : Track) → 0 < length ss → walkFrom Empty ss ≡ Came v → First ss v
 unfolding trackTo

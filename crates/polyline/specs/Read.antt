@@ -83,12 +83,12 @@ abbrev pub origin : Pair
 origin = record { x = pos 0; y = pos 0 }
 
 -- the first pair
-abbrev pub firstOf : List Spot → Pair
-firstOf [] = origin
-firstOf (s ∷ ss) = s .point
+abbrev pub firstPoint : List Spot → Pair
+firstPoint [] = origin
+firstPoint (s ∷ ss) = s .point
 
 abbrev pub startOf : List Spot → List Float
-startOf ss = f32Of (firstOf ss .x) ∷ f32Of (firstOf ss .y) ∷ []
+startOf ss = f32Of (firstPoint ss .x) ∷ f32Of (firstPoint ss .y) ∷ []
 
 -- the pairs behind the first
 abbrev pub laterOf : List Spot → ℕ

@@ -30,11 +30,11 @@ use Rattle.polyline.specs.declared.Track.the-variants.{Empty, At}
 use Rattle.polyline.specs.Form.{PointsForm}
 use Rattle.polyline.specs.Stages.{textOf}
 use Rattle.polyline.specs.Spots.{spotsOf}
-use Rattle.polyline.specs.Read.{minusOf, doubleDelta, stepDeltas, trackTo, deltasFrom, firstOf, startOf, laterOf, walkFrom, walkVerdict, andThen, pairsVerdict, pointsVerdict, PointsOutcome, leaves, outcome, readPointsOf}
+use Rattle.polyline.specs.Read.{minusOf, doubleDelta, stepDeltas, trackTo, deltasFrom, firstPoint, startOf, laterOf, walkFrom, walkVerdict, andThen, pairsVerdict, pointsVerdict, PointsOutcome, leaves, outcome, readPointsOf}
 use Rattle.polyline.proofs.Walks.{deltas-length}
 use Rattle.polyline.specs.Write.{pairText, pointsText, goneBy, goneFrom, goneOf}
 use Rattle.polyline_laws.specs.Says.{Says}
-use Rattle.polyline_laws.specs.Refusals.{Passes, Before, Lacks, Legal, PointsAccepted, PointsReadRefusal}
+use Rattle.polyline_laws.specs.Refusals.{Passes, Before, PointsLack, Legal, PointsAccepted, PointsReadRefusal}
 use Rattle.polyline_laws.proofs.Places.{form-judged}
 use Rattle.polyline_laws.proofs.Says.{form-says, spotsBy, spots-said, spots-length}
 use Rattle.polyline_laws.proofs.Legal.{moved-double, double-moved, delta-moved, double-small, gone-legal}

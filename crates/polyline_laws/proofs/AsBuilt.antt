@@ -16,7 +16,7 @@ use Rattle.writer.specs.declared.Verdict.the-variants.{Fine, Fault}
 use Rattle.writer.specs.declared.WriteAnswer.the-variants.{Refused}
 use Rattle.dequantize.specs.ControlPoints.{startingPoint, controlPoints, pairAt}
 use Rattle.dequantize.specs.Judge.{Description, descriptionOf, startX, startY, deltasOf}
-use Rattle.dequantize.specs.Refusals.{RoundsTo, Adjacent, deltaAt, pointAt, PairRefusal, delta-large, delta-outside, too-far, point-outside, SplinePasses, SplineRefusal, start-strays, pair-refused, area-above, points-meet}
+use Rattle.dequantize.specs.Refusals.{RoundsTo, Adjacent, deltaAt, controlPointAt, PairRefusal, delta-large, delta-outside, too-far, point-outside, SplinePasses, SplineRefusal, start-strays, pair-refused, area-above, points-meet}
 use Rattle.dequantize.specs.declared.Given.{Given}
 use Rattle.dequantize.specs.declared.control_points.Pair.{Pair}
 use Rattle.dequantize.specs.declared.control_points.Start.the-variants as S
@@ -39,7 +39,7 @@ module _ (d : Description) (k : ℕ) (g : Goes d k) (apart : Adjacent (pointsBy 
   pair-code s c j h (delta-large a) = not-both (double-delta-decides (pairAt (deltasOf d k) j)) (g .pairs j h .small) a
   pair-code s c j h (delta-outside a b) = not-both (point-decides (deltaAt (deltasOf d k) j)) (g .pairs j h .delta) b
   pair-code s c j h (too-far a b m) = inl refl
-  pair-code s c j h (point-outside a b m p) = not-both (point-decides (pointAt (g .start) (deltasOf d k) j)) (g .pairs j h .point) p
+  pair-code s c j h (point-outside a b m p) = not-both (point-decides (controlPointAt (g .start) (deltasOf d k) j)) (g .pairs j h .point) p
 
   -- building's table gives such a spline no code but these two
   pub built-code : (s : Given) (c : Code) → SplineRefusal d s k c → (c ≡ Distance) ⊎ (c ≡ Area)

@@ -33,7 +33,7 @@ use Rattle.polyline.specs.Write.{pairText}
 use Rattle.polyline.proofs.Walks.{walk-on, walk-stop, judged-passes, unplaceable}
 use Rattle.polyline_laws.specs.Begins.{FirstBad}
 use Rattle.polyline_laws.specs.Says.{Says, firstByte, Said}
-use Rattle.polyline_laws.specs.Refusals.{Placed, Misplaced, Again, Passes, Before, Lacks, PointsReadRefusal, bad, position, coincide, room}
+use Rattle.polyline_laws.specs.Refusals.{Placed, Misplaced, Again, Passes, Before, PointsLack, PointsReadRefusal, bad, position, coincide, room}
 use Rattle.polyline_laws.proofs.Places.{form-judged}
 use Rattle.polyline_laws.proofs.Answers.{said, bad-said, bad-there, text-exactly}
 use Rattle.polyline_laws.proofs.Says.{form-says, spotsBy, spots-said, spots-length}
@@ -237,7 +237,7 @@ module _ (p : Pair) (ps : List Pair) where
 
 -- ---- the room
 
-pub lacks-decides : (start deltas : ℕ) (ps : List Pair) → Decides (ltb start 2 || ltb deltas (2 * (length ps - 1))) (Lacks start deltas ps) ((2 ≤ start) × (2 * (length ps - 1) ≤ deltas))
+pub lacks-decides : (start deltas : ℕ) (ps : List Pair) → Decides (ltb start 2 || ltb deltas (2 * (length ps - 1))) (PointsLack start deltas ps) ((2 ≤ start) × (2 * (length ps - 1) ≤ deltas))
 lacks-decides start deltas ps = either-decides (less-than start 2) (less-than deltas (2 * (length ps - 1)))
 
 -- ---- the answer
@@ -257,7 +257,7 @@ module _ (text : List ℕ) (start deltas : ℕ) where
       by c j l b (misplaced o) = position (q ∷ ps) s j l b o
       by c j l b (again h a) = coincide (q ∷ ps) s j l b h a
 
-      lacks : Before (q ∷ ps) (length (q ∷ ps)) → (t : Bool) → Decides t (Lacks start deltas (q ∷ ps)) ((2 ≤ start) × (2 * (length (q ∷ ps) - 1) ≤ deltas)) → cond t (Fault Room 0) Fine ≡ Fault c p
+      lacks : Before (q ∷ ps) (length (q ∷ ps)) → (t : Bool) → Decides t (PointsLack start deltas (q ∷ ps)) ((2 ≤ start) × (2 * (length (q ∷ ps) - 1) ≤ deltas)) → cond t (Fault Room 0) Fine ≡ Fault c p
           → PointsReadRefusal text start deltas c p
       lacks b true d e =
           let x : Room ≡ c = cc in

@@ -22,7 +22,7 @@ use Rattle.writer.specs.declared.Verdict.the-variants.{Fine, Fault}
 use Rattle.writer.specs.declared.WriteAnswer.the-variants.{Done, Refused}
 use Rattle.dequantize.specs.ControlPoints.{startingPoint, placeAt, controlPoints, validPointPos, samePoint, coincideFrom, adjacentCoincide, traceOf, pairAt}
 use Rattle.dequantize.specs.Judge.{Description, descriptionOf, startX, startY, deltasOf}
-use Rattle.dequantize.specs.Refusals.{Inside, Outside, Small, Large, RoundsTo, Strays, nowhere, deltaAt, pointAt, Adjacent, PairPasses, PairRefusal}
+use Rattle.dequantize.specs.Refusals.{Inside, Outside, Small, Large, RoundsTo, Strays, nowhere, deltaAt, controlPointAt, Adjacent, PairPasses, PairRefusal}
 use Rattle.dequantize.specs.Refusals as building
 use Rattle.dequantize.specs.declared.control_points.Pair.{Pair}
 use Rattle.dequantize.specs.declared.control_points.Run.{Run}

@@ -14,7 +14,7 @@ use Rattle.shape.specs.Shape.{Shaped}
 use Rattle.list.specs.Steps.{f32Of}
 use Rattle.dequantize.specs.ControlPoints.{pairAt, startingPoint, controlPoints, adjacentCoincide, traceOf}
 use Rattle.dequantize.specs.Judge.{Description, descriptionOf, startX, startY, deltasOf}
-use Rattle.dequantize.specs.Refusals.{Inside, Outside, Small, Large, RoundsTo, Strays, nowhere, deltaAt, pointAt, Adjacent}
+use Rattle.dequantize.specs.Refusals.{Inside, Outside, Small, Large, RoundsTo, Strays, nowhere, deltaAt, controlPointAt, Adjacent}
 use Rattle.dequantize.specs.declared.control_points.Pair.{Pair}
 use Rattle.dequantize.specs.declared.control_points.Run.{Run}
 use Rattle.dequantize.specs.declared.control_points.Start.the-variants.{At}
@@ -58,8 +58,8 @@ abbrev pub Before : List Pair → ℕ → Type 0
 Before ps j = (i : ℕ) → i < j → Passes ps i
 
 -- a buffer is too short: 2 cells of start, and 2 for each pair behind the first
-abbrev pub Lacks : ℕ → ℕ → List Pair → Type 0
-Lacks start deltas ps = (start < 2) ⊎ (deltas < 2 * (length ps - 1))
+abbrev pub PointsLack : ℕ → ℕ → List Pair → Type 0
+PointsLack start deltas ps = (start < 2) ⊎ (deltas < 2 * (length ps - 1))
 
 -- the table of reading, with so many cells of start and of double deltas lent: the code and the place, when
 pub data PointsReadRefusal (text : List ℕ) (start deltas : ℕ) : Code → ℕ → Type 0 where
@@ -70,7 +70,7 @@ pub data PointsReadRefusal (text : List ℕ) (start deltas : ℕ) : Code → ℕ
   -- 13: pair j is the first that does not pass, is in range, and is the pair before it again
   coincide : (ps : List Pair) → Says text ps → (j : ℕ) → j < length ps → Before ps j → Placed ps j → Again ps j → PointsReadRefusal text start deltas Coincide (firstByte ps j)
   -- 7: all pairs pass, and a buffer is too short
-  room : (ps : List Pair) → Says text ps → Before ps (length ps) → Lacks start deltas ps → PointsReadRefusal text start deltas Room 0
+  room : (ps : List Pair) → Says text ps → Before ps (length ps) → PointsLack start deltas ps → PointsReadRefusal text start deltas Room 0
 
 -- ---- reading: what is accepted
 
@@ -101,7 +101,7 @@ module _ (start : Pair) (ds : List ℤ) (j : ℕ) where
   pub record StepPasses : Type 0 where
     pub small : Small (pairAt ds j)
     pub delta : Inside (deltaAt ds j)
-    pub point : Inside (pointAt start ds j)
+    pub point : Inside (controlPointAt start ds j)
 
   -- the first of its checks that fails
   pub data StepRefusal : Code → Type 0 where
@@ -109,7 +109,7 @@ module _ (start : Pair) (ds : List ℤ) (j : ℕ) where
     delta-large : Large (pairAt ds j) → StepRefusal Delta
     -- 10: the delta, then the point
     delta-outside : Small (pairAt ds j) → Outside (deltaAt ds j) → StepRefusal Position
-    point-outside : Small (pairAt ds j) → Inside (deltaAt ds j) → Outside (pointAt start ds j) → StepRefusal Position
+    point-outside : Small (pairAt ds j) → Inside (deltaAt ds j) → Outside (controlPointAt start ds j) → StepRefusal Position
 
 -- lengths agree, and there is a spline k
 pub record There (ns : List ℕ) (ss : List Float) (ds cs : List ℤ) (k : ℕ) : Type 0 where

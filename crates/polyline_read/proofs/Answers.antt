@@ -28,7 +28,7 @@ use Rattle.polyline.specs.declared.Walked.{Walked}
 use Rattle.polyline.specs.declared.Walked.the-variants.{Came, Halt}
 use Rattle.polyline.specs.Stages.{textOf}
 use Rattle.polyline.specs.Spots.{figureAt, whole, spotsOf, cappedSpots}
-use Rattle.polyline.specs.Read.{walkFrom, deltasFrom, firstOf, startOf, laterOf, andThen, walkVerdict, roomFor, pairsVerdict, pointsVerdict, leaves, outcome, readPointsOf}
+use Rattle.polyline.specs.Read.{walkFrom, deltasFrom, firstPoint, startOf, laterOf, andThen, walkVerdict, roomFor, pairsVerdict, pointsVerdict, leaves, outcome, readPointsOf}
 use Rattle.polyline.proofs.Walks.{First, walk-first, deltas-length, spots-some}
 use Rattle.polyline.proofs.Capped.{capped-is, walk-capped, came-same, capSpot}
 use Rattle.polyline_read.specs.declared.Run.{Run}
@@ -66,7 +66,7 @@ module _ (text : List ℕ) (run : Run) (d d′ : List ℤ) (g : Scanned text run
   pub never-empty : run .track ≡ Empty → ⊥
   never-empty e = let k = g .first .keeps .is in let z : _≡_ {A = ℕ} 0 1 = cc in omega arith
 
-  pub first-is : (p : Place) (q : Pair) → run .track ≡ At p q → q ≡ firstOf (spotsOf text)
+  pub first-is : (p : Place) (q : Pair) → run .track ≡ At p q → q ≡ firstPoint (spotsOf text)
   first-is p q e = let k = g .first .keeps .is in cc
 
   pub first-valid : (p : Place) (q : Pair) → run .track ≡ At p q → validPointPos q ≡ true

@@ -10,7 +10,7 @@ use lib.Seq.{drop-cons}
 use Rattle.profile.specs.declared.Limits.{Limits}
 use Rattle.profile.specs.declared.Finding.{Finding}
 use Rattle.profile.specs.declared.Finding.the-variants as Finding
-use Rattle.profile.specs.Profile.{firstOf, within, zeroFrom, splineFinding, splinesFinding}
+use Rattle.profile.specs.Profile.{firstFinding, within, zeroFrom, splineFinding, splinesFinding}
 
 -- ---- coefficients, of which n are left
 
@@ -30,22 +30,22 @@ zero-end cs from n e = rw e
 
 -- ---- splines
 
-pub first-assoc : (a b c : Finding) → firstOf a (firstOf b c) ≡ firstOf (firstOf a b) c
+pub first-assoc : (a b c : Finding) → firstFinding a (firstFinding b c) ≡ firstFinding (firstFinding a b) c
 first-assoc Finding.Kept b c = refl
 first-assoc (Finding.Broken r k) b c = refl
 
-pub first-end : (a : Finding) → firstOf a Finding.Kept ≡ a
+pub first-end : (a : Finding) → firstFinding a Finding.Kept ≡ a
 first-end Finding.Kept = refl
 first-end (Finding.Broken r k) = refl
 
 module _ (l : Limits) (ns : List ℕ) (cs : List ℤ) where
   -- the spline k is next: what it and those before it say, and the rest
   pub spline-turn : (found : Finding) (k : ℕ) → k < length ns
-      → firstOf found (splinesFinding l (drop k ns) cs k) ≡ firstOf (firstOf found (splineFinding l (getD ns k 0) cs k)) (splinesFinding l (drop (suc k) ns) cs (suc k))
+      → firstFinding found (splinesFinding l (drop k ns) cs k) ≡ firstFinding (firstFinding found (splineFinding l (getD ns k 0) cs k)) (splinesFinding l (drop (suc k) ns) cs (suc k))
   unfolding splinesFinding
   spline-turn found k h = rw (drop-cons ns k 0 h) (first-assoc found (splineFinding l (getD ns k 0) cs k) (splinesFinding l (drop (suc k) ns) cs (suc k)))
 
-  pub splines-end : (found : Finding) (k : ℕ) → length ns ≤ k → firstOf found (splinesFinding l (drop k ns) cs k) ≡ found
+  pub splines-end : (found : Finding) (k : ℕ) → length ns ≤ k → firstFinding found (splinesFinding l (drop k ns) cs k) ≡ found
   unfolding splinesFinding
   splines-end found k h = rw (drop-of-length-le ns h) (first-end found)
 

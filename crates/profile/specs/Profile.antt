@@ -42,9 +42,9 @@ kept true rule spline = Finding.Kept
 kept false rule spline = Finding.Broken rule spline
 
 -- the first broken rule of two findings
-abbrev pub firstOf : Finding → Finding → Finding
-firstOf Finding.Kept b = b
-firstOf (Finding.Broken rule spline) b = Finding.Broken rule spline
+abbrev pub firstFinding : Finding → Finding → Finding
+firstFinding Finding.Kept b = b
+firstFinding (Finding.Broken rule spline) b = Finding.Broken rule spline
 
 -- ---- tests
 
@@ -69,27 +69,27 @@ deltasFinding l n k = kept (counted (l .deltas) n) 2 k
 -- 4: sigma coefficients zero after the first; 5: the first sigma coefficient from 1 to the most
 unfoldable pub sigmaFinding : Limits → List ℤ → ℕ → Finding
 sigmaFinding l cs k =
-    firstOf (kept (zeroFrom cs (128 * k + 97) 31) 4 k) (kept (within (pos 1) (l .sigma) (getD cs (128 * k + 96) (pos 0))) 5 k)
+    firstFinding (kept (zeroFrom cs (128 * k + 97) 31) 4 k) (kept (within (pos 1) (l .sigma) (getD cs (128 * k + 96) (pos 0))) 5 k)
 
 -- 6: X coefficients all zero, and B coefficients
 unfoldable pub colourFinding : List ℤ → ℕ → Finding
-colourFinding cs k = firstOf (kept (zeroFrom cs (128 * k) 32) 6 k) (kept (zeroFrom cs (128 * k + 64) 32) 6 k)
+colourFinding cs k = firstFinding (kept (zeroFrom cs (128 * k) 32) 6 k) (kept (zeroFrom cs (128 * k + 64) 32) 6 k)
 
 unfoldable pub splineFinding : Limits → ℕ → List ℤ → ℕ → Finding
-splineFinding l n cs k = firstOf (deltasFinding l n k) (firstOf (sigmaFinding l cs k) (colourFinding cs k))
+splineFinding l n cs k = firstFinding (deltasFinding l n k) (firstFinding (sigmaFinding l cs k) (colourFinding cs k))
 
 -- ---- a description
 
 -- splines with these counts, of which the first is the spline k
 unfoldable pub splinesFinding : Limits → List ℕ → List ℤ → ℕ → Finding
 splinesFinding l [] cs k = Finding.Kept
-splinesFinding l (n ∷ ns) cs k = firstOf (splineFinding l n cs k) (splinesFinding l ns cs (suc k))
+splinesFinding l (n ∷ ns) cs k = firstFinding (splineFinding l n cs k) (splinesFinding l ns cs (suc k))
 
 -- 1: 1 to 4096 splines; 3: the adjustment; then spline by spline
 unfoldable pub rulesFinding : Limits → List ℕ → List ℤ → ℤ → Finding
 rulesFinding l ns cs adjustment =
-    firstOf (kept (counted 4096 (length ns)) 1 0)
-    (firstOf (kept (within (l .least) (l .greatest) adjustment) 3 0)
+    firstFinding (kept (counted 4096 (length ns)) 1 0)
+    (firstFinding (kept (within (l .least) (l .greatest) adjustment) 3 0)
     (splinesFinding l ns cs 0))
 
 abbrev pub answered : Finding → ProfileAnswer

@@ -5,7 +5,7 @@ ghost use Prim.Native.Nat.{_+_, _*_, _≤_, _<_};
 ghost use lib.IntN.{pos};
 ghost use lib.ListN.{length, getD};
 ghost use Rattle.dequantize.specs.Judge.{descriptionOf};
-ghost use Rattle.profile.specs.Profile.{limitsOf, kept, firstOf, counted, within, zeroFrom, toldOf, deltasFinding, sigmaFinding, colourFinding, splineFinding, splinesFinding, rulesFinding, answered, tells, profileOf};
+ghost use Rattle.profile.specs.Profile.{limitsOf, kept, firstFinding, counted, within, zeroFrom, toldOf, deltasFinding, sigmaFinding, colourFinding, splineFinding, splinesFinding, rulesFinding, answered, tells, profileOf};
 
 // What an edition allows: the most double deltas, the least and the greatest adjustment, the most of the first sigma coefficient.
 pub struct Limits {
@@ -76,7 +76,7 @@ fn kept(test: bool, rule: u32, spline: usize) -> Finding
 }
 
 fn first_of(a: Finding, b: Finding) -> Finding
-    ensures { λ r. ⌜ r ≡ firstOf a b ⌝ }
+    ensures { λ r. ⌜ r ≡ firstFinding a b ⌝ }
 {
     match a {
         Finding::Kept => b,

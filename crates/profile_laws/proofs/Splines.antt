@@ -15,7 +15,7 @@ use Rattle.dequantize.specs.Judge.{Description}
 use Rattle.profile.specs.declared.Limits.{Limits}
 use Rattle.profile.specs.declared.Finding.{Finding}
 use Rattle.profile.specs.declared.Finding.the-variants as Finding
-use Rattle.profile.specs.Profile.{kept, firstOf, counted, within, zeroFrom, deltasFinding, sigmaFinding, colourFinding, splineFinding, splinesFinding, rulesFinding}
+use Rattle.profile.specs.Profile.{kept, firstFinding, counted, within, zeroFrom, deltasFinding, sigmaFinding, colourFinding, splineFinding, splinesFinding, rulesFinding}
 use Rattle.profile_laws.specs.Rules.{Rule1, Rule3, Rule6, SplineMeets, MeetsRules, SplineBreaks, second, fourth, fifth, sixth, FirstBroken, first, third, spline}
 use Rattle.profile_laws.proofs.Tests.{Settles, failed, fails, rule1, rule2, rule3, rule4, rule5, colours-hold, x-zero, b-zero}
 
@@ -51,7 +51,7 @@ module _ (l : Limits) (d : Description) (a : ℤ) where
       go : (t : Bool) → counted (l .deltas) (getD (d .counts) k 0) ≡ t → (u : Bool) → zeroFrom cs (128 * k + 97) 31 ≡ u
           → (v : Bool) → within (pos 1) (l .sigma) (getD cs (128 * k + 96) (pos 0)) ≡ v
           → (x : Bool) → zeroFrom cs (128 * k) 32 ≡ x → (b : Bool) → zeroFrom cs (128 * k + 64) 32 ≡ b
-          → SplineFinds k (firstOf (kept t 2 k) (firstOf (firstOf (kept u 4 k) (kept v 5 k)) (firstOf (kept x 6 k) (kept b 6 k))))
+          → SplineFinds k (firstFinding (kept t 2 k) (firstFinding (firstFinding (kept u 4 k) (kept v 5 k)) (firstFinding (kept x 6 k) (kept b 6 k))))
       go false p u q v r x s b w = breaks (second (failed (rule2 l d a k) p))
       go true p false q v r x s b w = breaks (fourth (rule2 l d a k .passed p) (failed (rule4 l d a k) q))
       go true p true q false r x s b w = breaks (fifth (rule2 l d a k .passed p) (rule4 l d a k .passed q) (failed (rule5 l d a k) r))
@@ -81,7 +81,7 @@ module _ (l : Limits) (d : Description) (a : ℤ) where
       (go (zeroFrom (d .coefficients) (128 * k) 32) refl (zeroFrom (d .coefficients) (128 * k + 64) 32) refl)
     where
       go : (x : Bool) → zeroFrom (d .coefficients) (128 * k) 32 ≡ x → (b : Bool) → zeroFrom (d .coefficients) (128 * k + 64) 32 ≡ b
-          → firstOf (kept x 6 k) (kept b 6 k) ≡ Finding.Broken 6 k
+          → firstFinding (kept x 6 k) (kept b 6 k) ≡ Finding.Broken 6 k
       go false s b w = refl
       go true s false w = refl
       go true s true w = absurd (n (colours-hold l d a k s w))
@@ -95,7 +95,7 @@ module _ (l : Limits) (d : Description) (a : ℤ) where
     keep : ((j : ℕ) → k ≤ j → j < count → SplineMeets l d a j) → FindsFrom k Finding.Kept
     break : {rule j : ℕ} → k ≤ j → j < count → ((m : ℕ) → k ≤ m → m < j → SplineMeets l d a m) → SplineBreaks l d a j rule → FindsFrom k (Finding.Broken rule j)
 
-  from-turn : (k : ℕ) → k < count → from k ≡ firstOf (at k) (from (suc k))
+  from-turn : (k : ℕ) → k < count → from k ≡ firstFinding (at k) (from (suc k))
   unfolding splinesFinding
   from-turn k h = rw (drop-cons (d .counts) k 0 h)
 
@@ -111,7 +111,7 @@ module _ (l : Limits) (d : Description) (a : ℤ) where
       go (inl e) = rw e m
       go (inr q) = f q
 
-  join : (k : ℕ) → k < count → {x y : Finding} → SplineFinds k x → FindsFrom (suc k) y → FindsFrom k (firstOf x y)
+  join : (k : ℕ) → k < count → {x y : Finding} → SplineFinds k x → FindsFrom (suc k) y → FindsFrom k (firstFinding x y)
   join k h (keeps m) (keep f) = keep (λ j p q. begins k m j p (λ s. f j s q))
   join k h (keeps m) (break {rule = rule} {j = j} p q f b) = break {j = j} (omega arith) q (λ n s t. begins k m n s (λ u. f n u t)) b
   join k h (breaks b) y = break {j = k} (omega arith) h (λ m p q. absurd (omega arith)) b
@@ -126,7 +126,7 @@ module _ (l : Limits) (d : Description) (a : ℤ) where
   skips (suc n) k h f =
       let e : k + suc n ≡ suc k + n = omega arith in
       rw e
-      (from-turn k (omega arith) ∙ ap (λ (x : Finding). firstOf x (from (suc k))) (spline-kept k (f k (omega arith) (omega arith)))
+      (from-turn k (omega arith) ∙ ap (λ (x : Finding). firstFinding x (from (suc k))) (spline-kept k (f k (omega arith) (omega arith)))
       ∙ skips n (suc k) (omega arith) (λ j p q. f j (omega arith) (omega arith)))
 
   -- ---- a description
@@ -139,7 +139,7 @@ module _ (l : Limits) (d : Description) (a : ℤ) where
   unfolding rulesFinding
   rules-find = go (counted 4096 count) refl (within (l .least) (l .greatest) a) refl (finds-from count 0 (omega arith))
     where
-      go : (t : Bool) → counted 4096 count ≡ t → (u : Bool) → within (l .least) (l .greatest) a ≡ u → {x : Finding} → FindsFrom 0 x → RulesFind (firstOf (kept t 1 0) (firstOf (kept u 3 0) x))
+      go : (t : Bool) → counted 4096 count ≡ t → (u : Bool) → within (l .least) (l .greatest) a ≡ u → {x : Finding} → FindsFrom 0 x → RulesFind (firstFinding (kept t 1 0) (firstFinding (kept u 3 0) x))
       go false p u q x = one-broken (first (failed (rule1 l d a) p))
       go true p false q x = one-broken (third (rule1 l d a .passed p) (failed (rule3 l d a) q))
       go true p true q (keep f) = all-kept (record { splines = rule1 l d a .passed p; adjusted = rule3 l d a .passed q; each = λ k h. f k (omega arith) h })
@@ -160,6 +160,6 @@ module _ (l : Limits) (d : Description) (a : ℤ) where
   breaks-finding _ _ (third p n) = rw (rule1 l d a .passes p, fails (rule3 l d a) n)
   breaks-finding rule k (spline p q h f b) =
       whole-kept p q ∙ skips k 0 (omega arith) (λ j y z. f j (omega arith)) ∙ ap (λ (m : ℕ). from m) (zero-add k) ∙ from-turn k h
-      ∙ ap (λ (x : Finding). firstOf x (from (suc k))) (spline-broken k rule b)
+      ∙ ap (λ (x : Finding). firstFinding x (from (suc k))) (spline-broken k rule b)
 
 -- Assumes nothing.

@@ -8,21 +8,21 @@ use Rattle.codes.specs.declared.Code.{Code}
 use Rattle.list.specs.List.{ListRooms, Got, got, stop, Described, described, limitOf, readOf, listOf, Valid}
 use Rattle.list.proofs.RoundTrip.{Holds, written-is-read}
 use Rattle.reader.specs.declared.ReadAnswer.{ReadAnswer}
-use Rattle.reader.specs.Read.{Outcome, outcome, readOutcome}
+use Rattle.reader.specs.Read.{ReadOutcome, outcome, readOutcome}
 use Rattle.reader.specs.Refusals.{ReadRefusal, ReadRefused}
 use Rattle.reader.proofs.Refusals as table
 
 module _ (configured pixels : ℕ) (rooms : ListRooms) (list : List ℕ) where
   -- any two outcomes that the contract allows are equal
-  pub one-outcome : (a b : Outcome) → a ≡ readOutcome configured pixels rooms list → b ≡ readOutcome configured pixels rooms list → a ≡ b
+  pub one-outcome : (a b : ReadOutcome) → a ≡ readOutcome configured pixels rooms list → b ≡ readOutcome configured pixels rooms list → a ≡ b
   one-outcome a b p q = p ∙ sym q
 
-  module _ (o : Outcome) (is : o ≡ readOutcome configured pixels rooms list) where
+  module _ (o : ReadOutcome) (is : o ≡ readOutcome configured pixels rooms list) where
     -- what is refused is in the table
     pub refused-exactly : (c : Code) (p : ℕ) → o .answer ≡ ReadAnswer.Refused c p → ReadRefusal (limitOf configured pixels) rooms list c p
     refused-exactly c p e =
         table.refused-exactly (limitOf configured pixels) rooms list c p
-        (stopped (readOf (limitOf configured pixels) rooms list) (sym (ap Outcome.answer is) ∙ e))
+        (stopped (readOf (limitOf configured pixels) rooms list) (sym (ap ReadOutcome.answer is) ∙ e))
       where
         stopped : (g : Got Described) → outcome rooms g .answer ≡ ReadAnswer.Refused c p → g ≡ stop c p
         stopped (got (described a zs ns ds cs) l) e = cc

@@ -25,7 +25,7 @@ toldOf (ReadAnswer.Done s n a) = record { number = 0; place = 0; splines = s; po
 toldOf (ReadAnswer.Refused c p) = record { number = numberOf c; place = p; splines = 0; points = 0; adjustment = pos 0 }
 
 -- the answer, what it tells, and the four lent buffers
-pub record Outcome : Type 0 where
+pub record ReadOutcome : Type 0 where
   pub answer : ReadAnswer
   pub told : ReadTold
   pub counts : List ℕ
@@ -33,14 +33,14 @@ pub record Outcome : Type 0 where
   pub deltas : List ℤ
   pub coefficients : List ℤ
 
-abbrev pub leaves : ReadAnswer → List ℕ → List Float → List ℤ → List ℤ → Outcome
+abbrev pub leaves : ReadAnswer → List ℕ → List Float → List ℤ → List ℤ → ReadOutcome
 leaves r ns zs ds cs = record { answer = r; told = toldOf r; counts = ns; starts = zs; deltas = ds; coefficients = cs }
 
 abbrev pub roomsOf : List ℕ → List Float → List ℤ → List ℤ → ListRooms
 roomsOf ns zs ds cs = record { counts = length ns; starts = length zs; deltas = length ds; coefficients = length cs }
 
 -- what was read, or a refusal with every cell zero
-abbrev pub outcome : ListRooms → Got Described → Outcome
+abbrev pub outcome : ListRooms → Got Described → ReadOutcome
 outcome rooms (got (described a zs ns ds cs) l) = record {
   answer = ReadAnswer.Done (length ns) (pointsOf ns) a;
   told = record { number = 0; place = 0; splines = length ns; points = pointsOf ns; adjustment = a };
@@ -59,5 +59,5 @@ outcome rooms (stop c p) = record {
 }
 
 -- the outcome of reading a list
-abbrev pub readOutcome : ℕ → ℕ → ListRooms → List ℕ → Outcome
+abbrev pub readOutcome : ℕ → ℕ → ListRooms → List ℕ → ReadOutcome
 readOutcome configured pixels rooms list = outcome rooms (readOf (limitOf configured pixels) rooms list)

@@ -13,7 +13,7 @@ use Rattle.codes.specs.Codes.{numberOf}
 use Rattle.codes.specs.declared.Code.{Code}
 use Rattle.list.specs.List.{unpackSigned, posLimit, deltaLimit, ListRooms, coordinate}
 use Rattle.list.specs.Steps.{zeroF32}
-use Rattle.reader.specs.Read.{ReadTold, Outcome}
+use Rattle.reader.specs.Read.{ReadTold, ReadOutcome}
 use Rattle.reader.specs.declared.ReadAnswer.{ReadAnswer}
 
 -- what the list holds next
@@ -112,7 +112,7 @@ pub record ReadRefusal (limit : ℕ) (rooms : ListRooms) (l : List ℕ) (c : Cod
   pub place : p ≡ placeOf c (length l) rest
 
 -- an outcome of a refusal: the code's number, its place, and nothing but zeros
-pub record ReadRefused (rooms : ListRooms) (c : Code) (p : ℕ) (o : Outcome) : Type 0 where
+pub record ReadRefused (rooms : ListRooms) (c : Code) (p : ℕ) (o : ReadOutcome) : Type 0 where
   pub answer : o .answer ≡ ReadAnswer.Refused c p
   pub told : _≡_ {A = ReadTold} (o .told) (record { number = numberOf c; place = p; splines = 0; points = 0; adjustment = pos 0 })
   pub counts : o .counts ≡ replicate (rooms .counts) 0

@@ -27,7 +27,7 @@ use Rattle.checks.proofs.Checks.{passed-check}
 use Rattle.draw.specs.Draw.{between, count, spanGood, three, Channels, leaves, DrawOutcome}
 use Rattle.checks.proofs.Entries.{and-left, and-right}
 use Rattle.draw.proofs.Columns.{ranged, count-columns, draw-columns}
-use Rattle.records.specs.Records.{segmentOf, joinedOf, zeroRecord, recordOf, recordsOf, drawnChannelAlone, judgeRecord, drawAlone, drawRecordOf, isKnown, drawNumberOf, judgeFor, outcomeFor, drawFor}
+use Rattle.records.specs.Records.{withoutOwner, joinedOf, zeroRecord, recordOf, recordsOf, drawnChannelAlone, judgeRecord, drawAlone, drawRecordOf, isKnown, drawNumberOf, judgeFor, outcomeFor, drawFor}
 use Rattle.records.proofs.Fills.{length-listFrom, listFrom-at}
 
 module _ (s : Segment) (x0 n : ℕ) (r : Range) (q : r ≡ columnsOf s) (h : x0 + n ≤ 2 ^ 23) where
@@ -80,18 +80,18 @@ module _ (known : Bool) (r : SegmentRecord) (splines : ℕ) (bits : List ℕ) (d
   abbrev sight : Sight
   sight = sightOf (r .owner ∷ []) splines bits desk
 
-  judged-as : {v : Verdict} → judgeFor known sight y spanned ≡ v → drawFor known r splines bits desk y x0 n a ≡ outcomeFor v (hiddenIn sight 0) (drawAlone known (segmentOf r) y x0 n a) a
+  judged-as : {v : Verdict} → judgeFor known sight y spanned ≡ v → drawFor known r splines bits desk y x0 n a ≡ outcomeFor v (hiddenIn sight 0) (drawAlone known (withoutOwner r) y x0 n a) a
   unfolding drawFor
-  judged-as e = ap (λ (v : Verdict). outcomeFor v (hiddenIn sight 0) (drawAlone known (segmentOf r) y x0 n a) a) (sym (ap (judgeFor known sight y) w) ∙ e)
+  judged-as e = ap (λ (v : Verdict). outcomeFor v (hiddenIn sight 0) (drawAlone known (withoutOwner r) y x0 n a) a) (sym (ap (judgeFor known sight y) w) ∙ e)
 
   pub for-fault : {c : Code} → judgeFor known sight y spanned ≡ Fault c → leaves (Refused c 0) a ≡ drawFor known r splines bits desk y x0 n a
   for-fault e = sym (judged-as e)
 
   pub for-hidden : judgeFor known sight y spanned ≡ Fine → hiddenIn sight 0 ≡ true → leaves (Done 0) a ≡ drawFor known r splines bits desk y x0 n a
-  for-hidden e h = sym (judged-as e ∙ ap (λ (b : Bool). cond b (leaves (Done 0) a) (drawAlone known (segmentOf r) y x0 n a)) h)
+  for-hidden e h = sym (judged-as e ∙ ap (λ (b : Bool). cond b (leaves (Done 0) a) (drawAlone known (withoutOwner r) y x0 n a)) h)
 
-  pub for-drawn : {o : DrawOutcome} → judgeFor known sight y spanned ≡ Fine → hiddenIn sight 0 ≡ false → o ≡ drawAlone known (segmentOf r) y x0 n a → o ≡ drawFor known r splines bits desk y x0 n a
-  for-drawn e h d = d ∙ sym (judged-as e ∙ ap (λ (b : Bool). cond b (leaves (Done 0) a) (drawAlone known (segmentOf r) y x0 n a)) h)
+  pub for-drawn : {o : DrawOutcome} → judgeFor known sight y spanned ≡ Fine → hiddenIn sight 0 ≡ false → o ≡ drawAlone known (withoutOwner r) y x0 n a → o ≡ drawFor known r splines bits desk y x0 n a
+  for-drawn e h d = d ∙ sym (judged-as e ∙ ap (λ (b : Bool). cond b (leaves (Done 0) a) (drawAlone known (withoutOwner r) y x0 n a)) h)
 
 -- ---- a record that was filled
 
@@ -106,9 +106,9 @@ module _ (xs : List Float) (us : List ℕ) (c m i : ℕ) (in-count : i < c) (in-
   -- and drawing it is drawing that segment
   pub filled-drawn : (y x0 n : ℕ) (a : Channels) → drawRecordOf (recordsOf xs us c m) i y x0 n a ≡ drawAlone true (segmentAt xs i) y x0 n a
   filled-drawn y x0 n a =
-      ap (λ (k : ℕ). drawAlone (ltb i k) (segmentOf (getD (recordsOf xs us c m) i zeroRecord)) y x0 n a) (length-listFrom (recordOf xs us c) 0 m)
-      ∙ ap (λ (known : Bool). drawAlone known (segmentOf (getD (recordsOf xs us c m) i zeroRecord)) y x0 n a) (lt-ltb i m in-records)
-      ∙ ap (λ (r : SegmentRecord). drawAlone true (segmentOf r) y x0 n a) filled
+      ap (λ (k : ℕ). drawAlone (ltb i k) (withoutOwner (getD (recordsOf xs us c m) i zeroRecord)) y x0 n a) (length-listFrom (recordOf xs us c) 0 m)
+      ∙ ap (λ (known : Bool). drawAlone known (withoutOwner (getD (recordsOf xs us c m) i zeroRecord)) y x0 n a) (lt-ltb i m in-records)
+      ∙ ap (λ (r : SegmentRecord). drawAlone true (withoutOwner r) y x0 n a) filled
 
 -- ---- a segment by its number
 

@@ -20,8 +20,8 @@ use Rattle.desks.specs.Desks.{Sight, sightOf, ownerIn, hiddenIn, deskGood, byte
 use Rattle.draw.specs.Draw.{count, spanGood, orFault, three, Channels, leaves, DrawOutcome}
 
 -- the segment of a record, and a segment and its owner as a record
-abbrev pub segmentOf : SegmentRecord → Segment
-segmentOf r = record {
+abbrev pub withoutOwner : SegmentRecord → Segment
+withoutOwner r = record {
   «center_x» = r .«center_x»;
   «center_y» = r .«center_y»;
   «maximum_distance» = r .«maximum_distance»;
@@ -94,7 +94,7 @@ drawAlone known s y x0 n a = outcomeAlone (judgeRecord known y x0 n (length (a .
 
 -- what drawing the record i of a list answers and leaves
 abbrev pub drawRecordOf : List SegmentRecord → ℕ → ℕ → ℕ → ℕ → Channels → DrawOutcome
-drawRecordOf records i y x0 n a = drawAlone (ltb i (length records)) (segmentOf (getD records i zeroRecord)) y x0 n a
+drawRecordOf records i y x0 n a = drawAlone (ltb i (length records)) (withoutOwner (getD records i zeroRecord)) y x0 n a
 
 -- ---- a segment of a flat list, by its number
 
@@ -125,4 +125,4 @@ outcomeFor (Fault c) hidden drawn a = leaves (Refused c 0) a
 unfoldable pub drawFor : Bool → SegmentRecord → ℕ → List ℕ → ℕ → ℕ → ℕ → ℕ → Channels → DrawOutcome
 drawFor known r splines bits desk y x0 n a =
     let s = sightOf (r .owner ∷ []) splines bits desk in
-    outcomeFor (judgeFor known s y (spanGood x0 n (length (a .r0)) (length (a .r1)) (length (a .r2)))) (hiddenIn s 0) (drawAlone known (segmentOf r) y x0 n a) a
+    outcomeFor (judgeFor known s y (spanGood x0 n (length (a .r0)) (length (a .r1)) (length (a .r2)))) (hiddenIn s 0) (drawAlone known (withoutOwner r) y x0 n a) a

@@ -4,7 +4,7 @@ ghost use mathlib.Core.List.{[], _∷_};
 ghost use lib.ListN.{length, getD};
 ghost use Rattle.desks.specs.Desks.{sightOf};
 ghost use Rattle.draw.specs.Draw.{three, leaves};
-ghost use Rattle.records.specs.Records.{segmentOf, joinedOf, zeroRecord, recordOf, recordsOf, drawAlone, drawRecordOf, isKnown, drawNumberOf, judgeFor, drawFor};
+ghost use Rattle.records.specs.Records.{withoutOwner, joinedOf, zeroRecord, recordOf, recordsOf, drawAlone, drawRecordOf, isKnown, drawNumberOf, judgeFor, drawFor};
 use checks::Verdict;
 use codes::Code;
 use draw::DrawAnswer;
@@ -25,7 +25,7 @@ pub struct SegmentRecord {
 
 // The segment of a record.
 fn segment_of(whole: SegmentRecord) -> Segment
-    ensures { λ r. ⌜ r ≡ segmentOf whole ⌝ }
+    ensures { λ r. ⌜ r ≡ withoutOwner whole ⌝ }
 {
     Segment {
         center_x: whole.center_x,
@@ -102,7 +102,7 @@ fn draw_alone(
     r2: &mut [f32],
 ) -> DrawAnswer
     ensures { λ r. ⌜ leaves r (three (now (r0 .exit)) (now (r1 .exit)) (now (r2 .exit)))
-        ≡ drawAlone known (segmentOf whole) y x0 n (three (now (r0 .entry)) (now (r1 .entry)) (now (r2 .entry))) ⌝ }
+        ≡ drawAlone known (withoutOwner whole) y x0 n (three (now (r0 .entry)) (now (r1 .entry)) (now (r2 .entry))) ⌝ }
 {
     if !known {
         return DrawAnswer::Refused(Code::Table, 0);

@@ -17,7 +17,7 @@ use Rattle.shape.specs.Shape.{pointsOf}
 use Rattle.list.specs.List.{ListRooms, Got, got, stop, Described, described, limitOf, readOf, listOf}
 use Rattle.list.specs.Steps.{f32Of, zeroF32}
 use Rattle.list.proofs.RoundTrip.{Holds, written-is-read, read-is-written, read-is-valid}
-use Rattle.reader.specs.Read.{Outcome, readOutcome}
+use Rattle.reader.specs.Read.{ReadOutcome, readOutcome}
 use Rattle.reader.specs.Read as reading
 use Rattle.reader.specs.declared.ReadAnswer.{ReadAnswer}
 use Rattle.writer.specs.Write.{Check, check, firstFault, contentChecks, wholeOf, valuesOf, WriteOutcome, leaves, outcome, writeOf}
@@ -74,7 +74,7 @@ module _ (ns : List ℕ) (ss : List Float) (ds cs : List ℤ) (a : ℤ) (configu
 -- the description that a list was written from is read from it, every number, with rooms exact or larger
 pub written-then-read : (ns : List ℕ) (ss : List Float) (ds cs : List ℤ) (a : ℤ) (configured pixels room : ℕ) (o : WriteOutcome) (n : ℕ)
     → Floats ss → o ≡ writeOf ns ss ds cs a configured pixels room → o .answer ≡ WriteAnswer.Done n
-    → (rooms : ListRooms) → Enough rooms ns ss ds cs → (q : Outcome) → q ≡ readOutcome configured pixels rooms (take n (o .list))
+    → (rooms : ListRooms) → Enough rooms ns ss ds cs → (q : ReadOutcome) → q ≡ readOutcome configured pixels rooms (take n (o .list))
     → q ≡ reading.leaves (ReadAnswer.Done (length ns) (pointsOf ns) a) (padded (rooms .counts) 0 ns) (padded (rooms .starts) zeroF32 ss)
     (padded (rooms .deltas) (pos 0) ds) (padded (rooms .coefficients) (pos 0) cs)
 unfolding valuesOf
@@ -93,7 +93,7 @@ written-then-read ns ss ds cs a configured pixels room o n f p e rooms h q r =
 
 -- ---- what is read is written
 
-pub record Taken (limit : ℕ) (rooms : ListRooms) (l : List ℕ) (q : Outcome) (s p : ℕ) (a : ℤ) : Type 0 where
+pub record Taken (limit : ℕ) (rooms : ListRooms) (l : List ℕ) (q : ReadOutcome) (s p : ℕ) (a : ℤ) : Type 0 where
   pub zs : List ℤ
   pub ns : List ℕ
   pub ds : List ℤ
@@ -107,10 +107,10 @@ pub record Taken (limit : ℕ) (rooms : ListRooms) (l : List ℕ) (q : Outcome) 
   pub deltas : q .deltas ≡ padded (rooms .deltas) (pos 0) ds
   pub coefficients : q .coefficients ≡ padded (rooms .coefficients) (pos 0) cs
 
-pub done-read : (configured pixels : ℕ) (rooms : ListRooms) (l : List ℕ) (q : Outcome) (s p : ℕ) (a : ℤ) → q ≡ readOutcome configured pixels rooms l
+pub done-read : (configured pixels : ℕ) (rooms : ListRooms) (l : List ℕ) (q : ReadOutcome) (s p : ℕ) (a : ℤ) → q ≡ readOutcome configured pixels rooms l
     → q .answer ≡ ReadAnswer.Done s p a → Taken (limitOf configured pixels) rooms l q s p a
 done-read configured pixels rooms l q s p a r e =
-    go (readOf (limitOf configured pixels) rooms l) refl r (sym (ap (λ (u : Outcome). u .answer) r) ∙ e)
+    go (readOf (limitOf configured pixels) rooms l) refl r (sym (ap (λ (u : ReadOutcome). u .answer) r) ∙ e)
   where
     go : (g : Got Described) → readOf (limitOf configured pixels) rooms l ≡ g → q ≡ reading.outcome rooms g → reading.outcome rooms g .answer ≡ ReadAnswer.Done s p a
         → Taken (limitOf configured pixels) rooms l q s p a
@@ -128,14 +128,14 @@ done-read configured pixels rooms l q s p a r e =
           got-it = g ∙ ap (λ (k : ℤ). got (described k zs ns ds cs) rest) z;
           splines = sym x;
           points = sym y;
-          counts = ap (λ (u : Outcome). u .counts) r;
-          starts = ap (λ (u : Outcome). u .starts) r;
-          deltas = ap (λ (u : Outcome). u .deltas) r;
-          coefficients = ap (λ (u : Outcome). u .coefficients) r;
+          counts = ap (λ (u : ReadOutcome). u .counts) r;
+          starts = ap (λ (u : ReadOutcome). u .starts) r;
+          deltas = ap (λ (u : ReadOutcome). u .deltas) r;
+          coefficients = ap (λ (u : ReadOutcome). u .coefficients) r;
         }
 
 -- the list that a description was read from is written from it, every value, and zeros after it
-pub read-then-written : (configured pixels : ℕ) (rooms : ListRooms) (l : List ℕ) (q : Outcome) (s p : ℕ) (a : ℤ) → q ≡ readOutcome configured pixels rooms l
+pub read-then-written : (configured pixels : ℕ) (rooms : ListRooms) (l : List ℕ) (q : ReadOutcome) (s p : ℕ) (a : ℤ) → q ≡ readOutcome configured pixels rooms l
     → q .answer ≡ ReadAnswer.Done s p a → (room : ℕ) → length l ≤ room → (o : WriteOutcome)
     → o ≡ writeOf (take s (q .counts)) (take (2 * s) (q .starts)) (take (2 * p) (q .deltas)) (take (128 * s) (q .coefficients)) a configured pixels room
     → o ≡ leaves (WriteAnswer.Done (length l)) (l ++ replicate (room - length l) 0)

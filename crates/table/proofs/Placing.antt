@@ -27,7 +27,7 @@ use Rattle.painting.specs.declared.Drawn.{Drawn}
 use Rattle.painting.specs.declared.Drawn.the-variants as Drawn
 use Rattle.rows.specs.declared.Listed.{Listed}
 use Rattle.rows.specs.declared.Listed.the-variants as Listed
-use Rattle.rows.specs.Rows.{Outcome, outcome, inRow, built}
+use Rattle.rows.specs.Rows.{RowsOutcome, outcome, inRow, built}
 use Rattle.rows.specs.Rows as listing
 use Rattle.rows.proofs.Table.{rest-same}
 use Rattle.faint.specs.Faint.{faintIn}
@@ -41,7 +41,7 @@ kept z o n h e = e ∙ rw (length-take-le n o h)
 
 -- ---- the rows
 
-module _ (r : BuildRooms) (estimate count : ℕ) (numbers : List Float) (owned : List ℕ) (o : Outcome) {a : Listed} {starts entries : List ℕ} (e : outcome a starts entries ≡ o) where
+module _ (r : BuildRooms) (estimate count : ℕ) (numbers : List Float) (owned : List ℕ) (o : RowsOutcome) {a : Listed} {starts entries : List ℕ} (e : outcome a starts entries ≡ o) where
   pub rows-room : a ≡ Listed.Room → refusedWith r Code.Room 0 ≡ afterRows r estimate count numbers owned o
   rows-room q = rw (← e, q)
 

@@ -17,7 +17,7 @@ use Rattle.rows.proofs.Users.{length-up-to}
 use Rattle.faint.specs.Faint.{faintIn}
 use Rattle.table.specs.declared.BuildAnswer.the-variants.{Done}
 use Rattle.table.specs.Table.{BuildRooms, Setting, BuildOutcome, givenOf, refusedWith, buildOf}
-use Rattle.table.specs.Segments.{Makes, entriesOf, NeedsMet, doneWith, BuildMakes, NoLess, SameTable, MakesOne, OwnsOne, EnoughIsDone, DoneMakes, MoreRoomNeverRefuses}
+use Rattle.table.specs.Segments.{Makes, entryTotal, NeedsMet, doneWith, BuildMakes, NoLess, SameTable, MakesOne, OwnsOne, EnoughIsDone, DoneMakes, MoreRoomNeverRefuses}
 use Rattle.table.specs.Refusals.{painted}
 use Rattle.table.proofs.Users.{is-drawn, refused, met, Accepts, Refuses, either-way}
 
@@ -42,7 +42,7 @@ build-makes d i r s e estimate faint h = go (either-way d i r)
     go (inr w) = absurd (let z : _≡_ {A = ℕ} 0 1 = cc (sym (ap (λ (t : BuildOutcome). t .answer) (refused d i r (w .why))) ∙ h) in omega arith)
     go (inl a) =
         let m = met d i r (a .segs) (a .owners) (a .needs) in
-        let q : Done (length (a .segs)) (entriesOf i (a .segs)) (totalOf d (givenOf i) (length (d .counts))) (faintIn (eights (a .segs)) (length (a .segs))) ≡ Done s e estimate faint = sym (ap (λ (t : BuildOutcome). t .answer) m) ∙ h in
+        let q : Done (length (a .segs)) (entryTotal i (a .segs)) (totalOf d (givenOf i) (length (d .counts))) (faintIn (eights (a .segs)) (length (a .segs))) ≡ Done s e estimate faint = sym (ap (λ (t : BuildOutcome). t .answer) m) ∙ h in
         record {
           segs = a .segs;
           owners = a .owners;

@@ -26,7 +26,7 @@ use Rattle.rows.specs.Rows.{inRow}
 use Rattle.rows.proofs.Users.{room-when, table-when, either}
 use Rattle.table.specs.declared.BuildAnswer.the-variants.{Refused}
 use Rattle.table.specs.Table.{BuildRooms, Setting, BuildOutcome, givenOf, refusedWith, sized, shaped, orRefused, verdictOf, afterRows, afterPaint, afterJudge, buildOf}
-use Rattle.table.specs.Segments.{entriesOf, Fits, NeedsMet, doneWith}
+use Rattle.table.specs.Segments.{entryTotal, Fits, NeedsMet, doneWith}
 use Rattle.table.specs.Refusals.{painted, BuildRefusal, size, shape, starts, judged, drawing, entries}
 use Rattle.table.proofs.Checks.{both, agreed}
 
@@ -118,7 +118,7 @@ module _ (d : Description) (i : Setting) (r : BuildRooms) where
       w : Drawn segs owners
       w = all-exactly d (givenOf i) (i .high) (r .path) (r .walk) (r .segments) (r .owners) (f .shape) (passed a) segs owners .0 q
 
-      go : ((entriesOf i segs ≤ r .entries) × (entriesOf i segs ≤ 2 ^ 30)) ⊎ ((r .entries < entriesOf i segs) ⊎ (2 ^ 30 < entriesOf i segs)) → Accepts ⊎ Refuses
+      go : ((entryTotal i segs ≤ r .entries) × (entryTotal i segs ≤ 2 ^ 30)) ⊎ ((r .entries < entryTotal i segs) ⊎ (2 ^ 30 < entryTotal i segs)) → Accepts ⊎ Refuses
       go (inl fine) = inl (record { segs = segs; owners = owners; needs = record { fits = f; passes = a; drawn = w; entries = fine } })
       go (inr more) = inr (record { code = Code.Room; place = 0; why = entries f a w more })
 

@@ -15,7 +15,7 @@ use Rattle.owners.specs.Owners.{ownedRoom}
 use Rattle.painting.specs.Painting.{Painted, paintOf}
 use Rattle.painting.specs.Segments.{Lacks, DrawnUpTo, FirstLacks}
 use Rattle.table.specs.Table.{Setting, BuildRooms, givenOf}
-use Rattle.table.specs.Segments.{Fits, entriesOf}
+use Rattle.table.specs.Segments.{Fits, entryTotal}
 
 module _ (d : Description) (i : Setting) (r : BuildRooms) where
   -- all splines, drawn with the room that is lent
@@ -36,4 +36,4 @@ module _ (d : Description) (i : Setting) (r : BuildRooms) where
     drawing : {k : ℕ} → Fits d i r → AllPass d (givenOf i) → FirstLacks d (givenOf i) (i .high) (r .path) (r .walk) (r .segments) (r .owners) k → BuildRefusal Code.Room k
     -- 7: every spline is drawn, and the entries are more than are lent, or than 2^30
     entries : {segs : List Segment} {owners : List ℕ} → Fits d i r → AllPass d (givenOf i) → DrawnUpTo d (givenOf i) (i .high) (r .path) (r .walk) (r .segments) (r .owners) (length (d .counts)) segs owners
-        → Lacks (r .entries) (2 ^ 30) (entriesOf i segs) → BuildRefusal Code.Room 0
+        → Lacks (r .entries) (2 ^ 30) (entryTotal i segs) → BuildRefusal Code.Room 0

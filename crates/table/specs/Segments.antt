@@ -27,8 +27,8 @@ pub record Makes (d : Description) (i : Setting) (segs : List Segment) : Type 0 
   pub made : MakesOwned d i segs owners
 
 -- how many entries the rows of these segments have
-abbrev pub entriesOf : Setting → List Segment → ℕ
-entriesOf i segs = startOf (inRow (eights segs)) (length segs) (i .height)
+abbrev pub entryTotal : Setting → List Segment → ℕ
+entryTotal i segs = startOf (inRow (eights segs)) (length segs) (i .height)
 
 -- ---- what a build needs
 
@@ -45,12 +45,12 @@ module _ (d : Description) (i : Setting) (r : BuildRooms) where
     pub fits : Fits
     pub passes : AllPass d (givenOf i)
     pub drawn : DrawnUpTo d (givenOf i) (i .high) (r .path) (r .walk) (r .segments) (r .owners) (length (d .counts)) segs owners
-    pub entries : Suffices (r .entries) (2 ^ 30) (entriesOf i segs)
+    pub entries : Suffices (r .entries) (2 ^ 30) (entryTotal i segs)
 
   -- the counts and the table of these segments and owners, zeros behind it and in the working cells
   unfoldable pub doneWith : List Segment → List ℕ → BuildOutcome
   doneWith segs owners =
-      leaves (Done (length segs) (entriesOf i segs) (totalOf d (givenOf i) (length (d .counts))) (faintIn (eights segs) (length segs))) (zeros (r .path)) (zeros (r .walk)) (padded (r .segments) 0·0 (eights segs)) (padded (r .owners) 0 owners)
+      leaves (Done (length segs) (entryTotal i segs) (totalOf d (givenOf i) (length (d .counts))) (faintIn (eights segs) (length segs))) (zeros (r .path)) (zeros (r .walk)) (padded (r .segments) 0·0 (eights segs)) (padded (r .owners) 0 owners)
       (padded (r .starts) 0 (upTo (startOf (inRow (eights segs)) (length segs)) (suc (i .height)))) (padded (r .entries) 0 (rows (inRow (eights segs)) (length segs) (i .height)))
 
   -- a done build has met its needs, made the segments of the description, and left their table
@@ -60,7 +60,7 @@ module _ (d : Description) (i : Setting) (r : BuildRooms) where
     pub makes : MakesOwned d i segs owners
     pub needs : NeedsMet segs owners
     pub count : length segs ≡ s
-    pub entry-count : entriesOf i segs ≡ e
+    pub entry-count : entryTotal i segs ≡ e
     pub estimated : totalOf d (givenOf i) (length (d .counts)) ≡ estimate
     pub faint-count : faintIn (eights segs) (length segs) ≡ faint
     pub numbers : buildOf d i r .segments ≡ padded (r .segments) 0·0 (eights segs)

@@ -24,7 +24,7 @@ use Rattle.owners.specs.Owners.{ownedRoom}
 use Rattle.painting.specs.Painting.{Painted, All, NoRoomAt, paintOf}
 use Rattle.rows.specs.declared.Listed.{Listed}
 use Rattle.rows.specs.declared.Listed.the-variants as Listed
-use Rattle.rows.specs.Rows.{inRow, built, Outcome}
+use Rattle.rows.specs.Rows.{inRow, built, RowsOutcome}
 use Rattle.faint.specs.Faint.{faintIn}
 use Rattle.rows.specs.Rows as listing
 use Rattle.table.specs.declared.BuildAnswer.{BuildAnswer}
@@ -146,7 +146,7 @@ verdictOf d g width height rows =
 -- ---- the build
 
 -- ROOM for the entries, or the table of so many segments, whose numbers and owners are given, and how many of them are faint
-abbrev pub afterRows : BuildRooms → ℕ → ℕ → List Float → List ℕ → Outcome → BuildOutcome
+abbrev pub afterRows : BuildRooms → ℕ → ℕ → List Float → List ℕ → RowsOutcome → BuildOutcome
 afterRows r estimate count numbers owners o = go (o .answer)
   where
     go : Listed → BuildOutcome

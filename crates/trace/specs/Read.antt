@@ -7,7 +7,7 @@ use lib.ListN.{length, getD}
 use Rattle.codes.specs.declared.Code.the-variants.{Short, Coord, Delta, Trail, Room, Shape, Header}
 use Rattle.shape.specs.Shape.{pointsOf}
 use Rattle.list.specs.List.{ListRooms, Got, got, stop, Described, described, lacking}
-use Rattle.reader.specs.Read.{Outcome, outcome}
+use Rattle.reader.specs.Read.{ReadOutcome, outcome}
 use Rattle.writer.specs.Write.{Check, check, firstFault}
 use Rattle.writer.specs.declared.Verdict.{Verdict}
 use Rattle.writer.specs.declared.Verdict.the-variants.{Fine, Fault}
@@ -92,5 +92,5 @@ unfoldable pub readTrace : ListRooms → List ℕ → Got Described
 readTrace rooms bytes = judged (describedIn 8 (numbersIn bytes)) (firstFault (wholeChecks rooms bytes))
 
 -- what `trace_read` answers and leaves: splines, points, adjustment and the four buffers as `read` does
-unfoldable pub readTraceOf : ListRooms → List ℕ → Outcome
+unfoldable pub readTraceOf : ListRooms → List ℕ → ReadOutcome
 readTraceOf rooms bytes = outcome rooms (readTrace rooms bytes)

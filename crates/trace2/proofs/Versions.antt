@@ -13,7 +13,7 @@ use Rattle.codes.specs.declared.Code.{Code}
 use Rattle.codes.specs.declared.Code.the-variants.{Short, Room, Shape, Header, Edition}
 use Rattle.shape.specs.Shape.{pointsOf}
 use Rattle.list.specs.List.{ListRooms, Got, got, stop, Described, described}
-use Rattle.reader.specs.Read.{Outcome, outcome}
+use Rattle.reader.specs.Read.{ReadOutcome, outcome}
 use Rattle.writer.specs.Write.{Check, check, firstFault, misshapen, wholeOf, WriteOutcome}
 use Rattle.writer.specs.Write as writing
 use Rattle.writer.specs.declared.Verdict.{Verdict}

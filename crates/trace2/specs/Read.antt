@@ -8,7 +8,7 @@ use lib.IntN.{ℤ}
 use lib.Ieee.{Float}
 use Rattle.codes.specs.declared.Code.the-variants.{Short, Room, Header, Edition}
 use Rattle.list.specs.List.{ListRooms, Got, Described}
-use Rattle.reader.specs.Read.{Outcome, outcome}
+use Rattle.reader.specs.Read.{ReadOutcome, outcome}
 use Rattle.reader.specs.Read as reading
 use Rattle.reader.specs.declared.ReadAnswer.{ReadAnswer}
 use Rattle.writer.specs.Write.{Check, check, firstFault}
@@ -53,7 +53,7 @@ editionOf (FileAnswer.Refused c q) = 0
 
 -- what a call that reads leaves, and the edition beside it
 pub record FileOutcome : Type 0 where
-  pub read : Outcome
+  pub read : ReadOutcome
   pub edition : ℕ
 
 abbrev pub fileLeaves : FileAnswer → List ℕ → List Float → List ℤ → List ℤ → FileOutcome
@@ -64,7 +64,7 @@ abbrev pub editionTold : ReadAnswer → ℕ → ℕ
 editionTold (ReadAnswer.Done s p a) e = e
 editionTold (ReadAnswer.Refused c q) e = 0
 
-abbrev pub withEdition : ℕ → Outcome → FileOutcome
+abbrev pub withEdition : ℕ → ReadOutcome → FileOutcome
 withEdition e o = record { read = o; edition = editionTold (o .answer) e }
 
 -- what `trace_read2` answers and leaves: as `trace_read` does, with the edition

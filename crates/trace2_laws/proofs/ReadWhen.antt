@@ -11,7 +11,7 @@ use borrow.Author.Tests.{lt-ltb, le-ltb, ltb-true, ltb-false, eq-eqb}
 use Rattle.codes.specs.declared.Code.{Code}
 use Rattle.codes.specs.declared.Code.the-variants.{Short, Room, Header, Edition}
 use Rattle.list.specs.List.{ListRooms, Got, got, stop, Described, described}
-use Rattle.reader.specs.Read.{Outcome, outcome}
+use Rattle.reader.specs.Read.{ReadOutcome, outcome}
 use Rattle.reader.specs.Refusals.{ReadRefused}
 use Rattle.reader.specs.declared.ReadAnswer.{ReadAnswer}
 use Rattle.writer.specs.Write.{Check, check, firstFault}
@@ -22,7 +22,7 @@ use Rattle.little.specs.Little.{numbersIn}
 use Rattle.trace.specs.Read.{splinesIn, pointsIn, offsetChecks, bodyChecks, tight, describedIn}
 use Rattle.trace_laws.specs.Behind.{number, S, P, LaidBy, TamedBy, OffsetRefusal, BodyRefusal}
 use Rattle.trace_laws.specs.Behind as behind
-use Rattle.trace_laws.specs.Refusals.{Lacks}
+use Rattle.trace_laws.specs.Refusals.{ListLacks}
 use Rattle.trace_laws.proofs.Clean.{laid-offsets, offsets-laid, tamed-body, body-tamed}
 use Rattle.trace_laws.proofs.Firsts.{head-or, append-or, none-or}
 use Rattle.trace_laws.proofs.BehindWhen.{body-to, offsets-to, told-offset, told-body}
@@ -162,7 +162,7 @@ module _ (rooms : ListRooms) (bytes : List ℕ) where
   unfolding laidChecks
   second-from l v s = second-alike m Ns l v ∙ fails _ Short m _ (lt-ltb m 36 s)
 
-  room-from : (h e : ℕ) → TamedBy h (Editioned bytes h e) bytes → Lacks rooms (S bytes) (P bytes) → firstFault (wholeChecks2 rooms bytes) ≡ Fault Room 0
+  room-from : (h e : ℕ) → TamedBy h (Editioned bytes h e) bytes → ListLacks rooms (S bytes) (P bytes) → firstFault (wholeChecks2 rooms bytes) ≡ Fault Room 0
   unfolding wholeChecks2
   room-from h e t l = fine-before (fileChecks m Ns) _ (tamed-file bytes h e t) ∙ fails (tight rooms (S bytes) (P bytes)) Room 0 [] (lacks-tight rooms (S bytes) (P bytes) l)
 
@@ -211,9 +211,9 @@ module _ (rooms : ListRooms) (bytes : List ℕ) where
       done (described a zs ns ds cs) e = let z : _≡_ {A = ℕ} 0 1 = cc in absurd (omega arith)
 
       go : (v : Verdict) → firstFault (wholeChecks2 rooms bytes) ≡ v → firstFault (wholeChecks2 rooms bytes) ≡ Fault c q
-      go Fine f = done (describedIn (headerLong (getD Ns 0 0)) Ns) (sym (ap (λ (o : Outcome). o .answer) (read-is ∙ ap (outcome rooms) (judged-fine f))) ∙ e)
+      go Fine f = done (describedIn (headerLong (getD Ns 0 0)) Ns) (sym (ap (λ (o : ReadOutcome). o .answer) (read-is ∙ ap (outcome rooms) (judged-fine f))) ∙ e)
       go (Fault k p) f =
-          let z : ReadAnswer.Refused k p ≡ ReadAnswer.Refused c q = sym (ap (λ (o : Outcome). o .answer) (read-is ∙ ap (outcome rooms) (judged-fault k p f))) ∙ e in
+          let z : ReadAnswer.Refused k p ≡ ReadAnswer.Refused c q = sym (ap (λ (o : ReadOutcome). o .answer) (read-is ∙ ap (outcome rooms) (judged-fault k p f))) ∙ e in
           let x : k ≡ c = cc in
           let y : p ≡ q = cc in
           f ∙ ap (λ (d : Code). Fault d p) x ∙ ap (Fault c) y
@@ -224,7 +224,7 @@ module _ (rooms : ListRooms) (bytes : List ℕ) where
       go : (v : Verdict) → firstFault (wholeChecks2 rooms bytes) ≡ v → firstFault (wholeChecks2 rooms bytes) ≡ Fine
       go Fine f = f
       go (Fault k q) f =
-          let z : ReadAnswer.Refused k q ≡ ReadAnswer.Done s p a = sym (ap (λ (o : Outcome). o .answer) (read-is ∙ ap (outcome rooms) (judged-fault k q f))) ∙ e in
+          let z : ReadAnswer.Refused k q ≡ ReadAnswer.Done s p a = sym (ap (λ (o : ReadOutcome). o .answer) (read-is ∙ ap (outcome rooms) (judged-fault k q f))) ∙ e in
           let y : _≡_ {A = ℕ} 0 1 = cc in absurd (omega arith)
 
   pub refused-so : (c : Code) (q : ℕ) → R c q → readFileOf rooms bytes ≡ record { read = outcome rooms (stop c q); edition = 0 }
@@ -240,12 +240,12 @@ module _ (rooms : ListRooms) (bytes : List ℕ) where
       let x = e ∙ refused-so c q r in
       let y : o .read ≡ outcome rooms (stop c q) = ap (λ (u : FileOutcome). u .read) x in (
         record {
-          answer = ap (λ (u : Outcome). u .answer) y;
-          told = ap (λ (u : Outcome). u .told) y;
-          counts = ap (λ (u : Outcome). u .counts) y;
-          starts = ap (λ (u : Outcome). u .starts) y;
-          deltas = ap (λ (u : Outcome). u .deltas) y;
-          coefficients = ap (λ (u : Outcome). u .coefficients) y;
+          answer = ap (λ (u : ReadOutcome). u .answer) y;
+          told = ap (λ (u : ReadOutcome). u .told) y;
+          counts = ap (λ (u : ReadOutcome). u .counts) y;
+          starts = ap (λ (u : ReadOutcome). u .starts) y;
+          deltas = ap (λ (u : ReadOutcome). u .deltas) y;
+          coefficients = ap (λ (u : ReadOutcome). u .coefficients) y;
         },
         ap (λ (u : FileOutcome). u .edition) x,
       )

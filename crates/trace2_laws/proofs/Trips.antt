@@ -18,7 +18,7 @@ use Rattle.codes.specs.declared.Code.the-variants.{Short, Room, Shape, Header, 
 use Rattle.shape.specs.Shape.{pointsOf}
 use Rattle.list.specs.List.{ListRooms, Got, got, stop, Described, described}
 use Rattle.list.specs.Steps.{f32Of, zeroF32}
-use Rattle.reader.specs.Read.{Outcome}
+use Rattle.reader.specs.Read.{ReadOutcome}
 use Rattle.reader.specs.Read as reading
 use Rattle.reader.specs.declared.ReadAnswer.{ReadAnswer}
 use Rattle.writer.specs.Write.{Check, check, firstFault, wholeOf, WriteOutcome, leaves, outcome}
@@ -159,7 +159,7 @@ module _ (ns : List ℕ) (ss : List Float) (ds cs : List ℤ) (a : ℤ) (v e roo
       go l (told.Holds.first x y) =
           let p′ : o ≡ writeTraceOf ns ss ds cs a room = (rw (x, y) at p) ∙ write-as-before ns ss ds cs a room in
           let t = file-then-read ns ss ds cs a room o n nn f nc na p′ d rooms h (readTraceOf rooms (take n (o .list))) refl in
-          other-as-before rooms (take n (o .list)) (says-one rooms (take n (o .list)) _ _ a (ap (λ (u : Outcome). u .answer) t)) ∙ rw (t, y)
+          other-as-before rooms (take n (o .list)) (says-one rooms (take n (o .list)) _ _ a (ap (λ (u : ReadOutcome). u .answer) t)) ∙ rw (t, y)
       go l (told.Holds.second x y) =
           let w = done-second ns ss ds cs a e room o n (rw x at p) d in
           let file = fileOf version2 (e ∷ []) (described a (map wholeOf ss) ns ds cs) in

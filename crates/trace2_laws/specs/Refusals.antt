@@ -12,7 +12,7 @@ use Rattle.codes.specs.declared.Code.the-variants.{Short, Room, Shape, Header, 
 use Rattle.shape.specs.Shape.{pointsOf, Shaped}
 use Rattle.list.specs.List.{ListRooms}
 use Rattle.trace_laws.specs.Behind.{number, S, P, fileLong, LaidBy, TamedBy, OffsetRefusal, BodyRefusal, WritableBy, PutRefusal}
-use Rattle.trace_laws.specs.Refusals.{Lacks}
+use Rattle.trace_laws.specs.Refusals.{ListLacks}
 
 -- 1 and 2 are the versions, and the editions
 abbrev pub Known : ℕ → Type 0
@@ -48,7 +48,7 @@ pub data FileReadRefusal (rooms : ListRooms) (bytes : List ℕ) : Code → ℕ �
   -- 1, 6, 9, 3, 5: the length, the counts, the starts, the double deltas
   body : {h e : ℕ} {c : Code} {q : ℕ} → BodyRefusal h (Editioned bytes h e) bytes c q → FileReadRefusal rooms bytes c q
   -- 7: nothing else is given, and a buffer is too short
-  room : {h e : ℕ} → TamedBy h (Editioned bytes h e) bytes → Lacks rooms (S bytes) (P bytes) → FileReadRefusal rooms bytes Room 0
+  room : {h e : ℕ} → TamedBy h (Editioned bytes h e) bytes → ListLacks rooms (S bytes) (P bytes) → FileReadRefusal rooms bytes Room 0
 
 -- ---- writing
 

@@ -12,7 +12,7 @@ use borrow.Author.Tests.{lt-ltb, le-ltb, ltb-true, ltb-false, eqb-true, eqb-fals
 use Rattle.codes.specs.declared.Code.{Code}
 use Rattle.codes.specs.declared.Code.the-variants.{Short, Room, Edition}
 use Rattle.list.specs.List.{ListRooms, Got, got, stop, Described}
-use Rattle.reader.specs.Read.{Outcome, leaves, roomsOf, outcome}
+use Rattle.reader.specs.Read.{ReadOutcome, leaves, roomsOf, outcome}
 use Rattle.reader.specs.Rest.{ListLeft, Wiped}
 use Rattle.reader.specs.declared.ReadAnswer.{ReadAnswer}
 use Rattle.writer.specs.Write.{Check, check, firstFault}
@@ -28,7 +28,7 @@ use Rattle.trace2.specs.Editions.{unknown, editionIn}
 use Rattle.trace2.specs.Read.{laidChecks, fileChecks, wholeChecks2, readFile, answerOf, editionOf, fileLeaves, editionTold, withEdition, readFileOf}
 use Rattle.trace2.specs.declared.FileAnswer.{FileAnswer}
 use Rattle.trace2.proofs.Versions.{second-alike, nine-so, ninth-so, other-as-before, short-as-before}
-use Rattle.trace2_read.specs.Steps.{second, Second, firstOf}
+use Rattle.trace2_read.specs.Steps.{second, Second, eitherFault}
 
 -- ---- the numbers of the header
 
@@ -60,10 +60,10 @@ unfolding firstFault
 edition-fine e h = rw h
 
 -- of two lists of checks, the first that finds a fault
-pub in-order : (xs ys : List Check) → firstOf (firstFault xs) (firstFault ys) ≡ firstFault (xs ++ ys)
+pub in-order : (xs ys : List Check) → eitherFault (firstFault xs) (firstFault ys) ≡ firstFault (xs ++ ys)
 in-order xs ys = go (firstFault xs) refl
   where
-    go : (v : Verdict) → firstFault xs ≡ v → firstOf v (firstFault ys) ≡ firstFault (xs ++ ys)
+    go : (v : Verdict) → firstFault xs ≡ v → eitherFault v (firstFault ys) ≡ firstFault (xs ++ ys)
     go Fine f = sym (fine-before xs ys f)
     go (Fault c p) f = sym (faults-before xs ys c p f)
 
@@ -157,7 +157,7 @@ module _ (bytes n wn : List ℕ) (s ws : List Float) (d wd c wc : List ℤ) (w :
 -- ---- with the edition
 
 module _ (rooms : ListRooms) (bytes : List ℕ) (r : FileAnswer) (x : ReadAnswer) (e : ℕ) (n : List ℕ) (s : List Float) (d c : List ℤ) (a : answerOf r ≡ x) (b : editionOf r ≡ editionTold x e) where
-  told-so : (o : Outcome) → leaves x n s d c ≡ o → fileLeaves r n s d c ≡ withEdition e o
+  told-so : (o : ReadOutcome) → leaves x n s d c ≡ o → fileLeaves r n s d c ≡ withEdition e o
   told-so o p = rw (← p, a, b)
 
   -- version 2 tells its ninth number

@@ -18,6 +18,6 @@ pub record Second (bytes : List ℕ) : Type 0 where
   pub two : getD (numbersIn bytes) 0 0 ≡ 2
 
 -- the first of two verdicts that is a fault
-abbrev pub firstOf : Verdict → Verdict → Verdict
-firstOf Fine w = w
-firstOf (Fault c p) w = Fault c p
+abbrev pub eitherFault : Verdict → Verdict → Verdict
+eitherFault Fine w = w
+eitherFault (Fault c p) w = Fault c p

@@ -29,7 +29,7 @@ ghost use Rattle.trace_judge.specs.Counted.{Counted};
 ghost use Rattle.trace_read.specs.Steps.{roomsFrom, Loadable};
 ghost use Rattle.trace2.specs.Editions.{unknown};
 ghost use Rattle.trace2.specs.Read.{laidChecks, wholeChecks2, readFile, answerOf, editionOf, editionTold, fileLeaves, readFileOf};
-ghost use Rattle.trace2_read.specs.Steps.{second, Second, firstOf};
+ghost use Rattle.trace2_read.specs.Steps.{second, Second, eitherFault};
 
 // ---- the numbers of the header
 
@@ -57,7 +57,7 @@ fn ninth(bytes: &[u8]) -> u32
 
 // Of two verdicts the first that is a fault.
 fn first_of(first: Verdict, then: Verdict) -> Verdict
-    ensures { λ r. ⌜ r ≡ firstOf first then ⌝ }
+    ensures { λ r. ⌜ r ≡ eitherFault first then ⌝ }
 {
     match first {
         Verdict::Fault(c, place) => Verdict::Fault(c, place),

@@ -16,7 +16,7 @@ use Rattle.shape.specs.Shape.{pointsOf, shaped}
 use Rattle.shape.proofs.Shape.{is-shaped}
 use Rattle.list.specs.List.{ListRooms, Got, got, stop, Described, described, lacking, posLimit, deltaLimit}
 use Rattle.list.specs.Steps.{f32Of, zeroF32}
-use Rattle.reader.specs.Read.{Outcome}
+use Rattle.reader.specs.Read.{ReadOutcome}
 use Rattle.reader.specs.Read as reading
 use Rattle.reader.specs.declared.ReadAnswer.{ReadAnswer}
 use Rattle.writer.specs.Write.{Check, check, firstFault, wholeOf, WriteOutcome, leaves, outcome}
@@ -435,31 +435,31 @@ module _ (v : Layout) (more bytes : List ℕ) (B C : Type 0) (found : FileFound 
       ∙ tame-written (deltasFrom H s) (deltasFrom H (length ns)) _ (deltas-fine H bytes w (t .tame))
 
   -- what reading it leaves, in front of each buffer, and that its file is these bytes
-  pub record Taken (q : Outcome) (s p : ℕ) (a : ℤ) : Type 0 where
+  pub record Taken (q : ReadOutcome) (s p : ℕ) (a : ℤ) : Type 0 where
     pub counts : take s (q .counts) ≡ nsIn H bytes
     pub starts : take (2 * s) (q .starts) ≡ map f32Of (zsIn H bytes)
     pub deltas : take (2 * p) (q .deltas) ≡ dsIn H bytes
     pub coefficients : take (128 * s) (q .coefficients) ≡ csIn H bytes
     pub file : fileOf v more (described a (map wholeOf (map f32Of (zsIn H bytes))) (nsIn H bytes) (dsIn H bytes) (csIn H bytes)) ≡ bytes
 
-  pub taken : (rooms : ListRooms) (q : Outcome) (s p : ℕ) (a : ℤ) → q ≡ reading.outcome rooms (got (describedIn H N) []) → q .answer ≡ ReadAnswer.Done s p a → Taken q s p a
+  pub taken : (rooms : ListRooms) (q : ReadOutcome) (s p : ℕ) (a : ℤ) → q ≡ reading.outcome rooms (got (describedIn H N) []) → q .answer ≡ ReadAnswer.Done s p a → Taken q s p a
   unfolding describedIn
   taken rooms q s p a is e =
       let xs = nsIn H bytes in
       let ss = map f32Of (zsIn H bytes) in
       let ys = dsIn H bytes in
       let ws = csIn H bytes in
-      let ans : ReadAnswer.Done (length xs) (pointsOf xs) (signedIn (getD N 3 0)) ≡ ReadAnswer.Done s p a = sym (ap (λ (u : Outcome). u .answer) is) ∙ e in
+      let ans : ReadAnswer.Done (length xs) (pointsOf xs) (signedIn (getD N 3 0)) ≡ ReadAnswer.Done s p a = sym (ap (λ (u : ReadOutcome). u .answer) is) ∙ e in
       let es : length xs ≡ s = cc in
       let ep : pointsOf xs ≡ p = cc in
       let ea : signedIn (getD N 3 0) ≡ a = cc in
       let i : s ≡ S bytes = sym es ∙ counts-length in
       let j : p ≡ P bytes = sym ep ∙ ns-sum in
       record {
-        counts = ap (take s) (ap (λ (u : Outcome). u .counts) is) ∙ take-at xs _ s es;
-        starts = ap (take (2 * s)) (ap (λ (u : Outcome). u .starts) is) ∙ take-at ss _ (2 * s) (zs-long ∙ omega arith);
-        deltas = ap (take (2 * p)) (ap (λ (u : Outcome). u .deltas) is) ∙ take-at ys _ (2 * p) (ds-long ∙ omega arith);
-        coefficients = ap (take (128 * s)) (ap (λ (u : Outcome). u .coefficients) is) ∙ take-at ws _ (128 * s) (cs-long ∙ omega arith);
+        counts = ap (take s) (ap (λ (u : ReadOutcome). u .counts) is) ∙ take-at xs _ s es;
+        starts = ap (take (2 * s)) (ap (λ (u : ReadOutcome). u .starts) is) ∙ take-at ss _ (2 * s) (zs-long ∙ omega arith);
+        deltas = ap (take (2 * p)) (ap (λ (u : ReadOutcome). u .deltas) is) ∙ take-at ys _ (2 * p) (ds-long ∙ omega arith);
+        coefficients = ap (take (128 * s)) (ap (λ (u : ReadOutcome). u .coefficients) is) ∙ take-at ws _ (128 * s) (cs-long ∙ omega arith);
         file = rw (zs-back, ← ea) file-again;
       }
 

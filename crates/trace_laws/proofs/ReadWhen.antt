@@ -14,7 +14,7 @@ use Rattle.codes.specs.declared.Code.{Code}
 use Rattle.codes.specs.declared.Code.the-variants.{Short, Coord, Delta, Trail, Room, Shape, Header}
 use Rattle.shape.specs.Shape.{pointsOf}
 use Rattle.list.specs.List.{ListRooms, Got, Described, described, lacking}
-use Rattle.reader.specs.Read.{Outcome, outcome}
+use Rattle.reader.specs.Read.{ReadOutcome, outcome}
 use Rattle.reader.specs.Refusals.{ReadRefused}
 use Rattle.reader.specs.declared.ReadAnswer.{ReadAnswer}
 use Rattle.writer.specs.Write.{Check, check, firstFault}
@@ -28,7 +28,7 @@ use Rattle.trace_judge.proofs.Faults.{judge-short, judge-version, judge-offset,
 use Rattle.trace_read.proofs.Loads.{whole-fault, whole-room, judged-fine, judged-fault}
 use Rattle.trace_laws.specs.Behind.{number, S, P, OffsetRefusal, BodyRefusal}
 use Rattle.trace_laws.specs.Behind as behind
-use Rattle.trace_laws.specs.Refusals.{Opened, Laid, Tamed, Lacks, TraceReadRefusal, cut, version, short, trail, shape, coord, delta, room}
+use Rattle.trace_laws.specs.Refusals.{Opened, Laid, Tamed, ListLacks, TraceReadRefusal, cut, version, short, trail, shape, coord, delta, room}
 use Rattle.trace_laws.specs.Refusals as told
 use Rattle.trace_laws.proofs.Clean.{right, wrong, is-right, is-wrong, laid-offsets, offsets-laid, tamed-fine, fine-tamed}
 use Rattle.trace_laws.proofs.BehindWhen.{body-to, offsets-to, told-offset, told-body}
@@ -36,7 +36,7 @@ use Rattle.trace_laws.proofs.Firsts.{head-or, append-or, none-or}
 
 -- ---- the room
 
-pub lacks-tight : (rooms : ListRooms) (s p : ℕ) → Lacks rooms s p → tight rooms s p ≡ true
+pub lacks-tight : (rooms : ListRooms) (s p : ℕ) → ListLacks rooms s p → tight rooms s p ≡ true
 unfolding tight
 lacks-tight rooms s p (told.counts h) = rw (lt-ltb (rooms .counts) s h)
 lacks-tight rooms s p (told.starts h) = rw (lt-ltb (rooms .starts) (2 * s) h) (any (ltb (rooms .counts) s) (ltb (rooms .deltas) (2 * p)))
@@ -56,12 +56,12 @@ lacks-tight rooms s p (told.deltas h) = rw (lt-ltb (rooms .deltas) (2 * p) h) (a
     any true = refl
     any false = refl
 
-pub tight-lacks : (rooms : ListRooms) (s p : ℕ) → tight rooms s p ≡ true → Lacks rooms s p
+pub tight-lacks : (rooms : ListRooms) (s p : ℕ) → tight rooms s p ≡ true → ListLacks rooms s p
 unfolding tight
 tight-lacks rooms s p e = go (ltb (rooms .counts) s) (ltb (rooms .starts) (2 * s)) (ltb (rooms .coefficients) (128 * s)) (ltb (rooms .deltas) (2 * p)) refl refl refl refl e
   where
     go : (a b d f : Bool) → ltb (rooms .counts) s ≡ a → ltb (rooms .starts) (2 * s) ≡ b → ltb (rooms .coefficients) (128 * s) ≡ d → ltb (rooms .deltas) (2 * p) ≡ f
-        → ((a || (b || d)) || f) ≡ true → Lacks rooms s p
+        → ((a || (b || d)) || f) ≡ true → ListLacks rooms s p
     go true b d f x y z w e = told.counts (ltb-true _ _ x)
     go false true d f x y z w e = told.starts (ltb-true _ _ y)
     go false false true f x y z w e = told.coefficients (ltb-true _ _ z)
@@ -162,17 +162,17 @@ module _ (rooms : ListRooms) (bytes : List ℕ) where
   pub read-exactly : (c : Code) (q : ℕ) → readTraceOf rooms bytes .answer ≡ ReadAnswer.Refused c q ↔ R c q
   read-exactly c q = (λ e. fault-told c q (answer-of c q e), λ r. fault-answer c q (told-fault c q r))
 
-  pub read-refused : (c : Code) (q : ℕ) (o : Outcome) → o ≡ readTraceOf rooms bytes → R c q → ReadRefused rooms c q o
+  pub read-refused : (c : Code) (q : ℕ) (o : ReadOutcome) → o ≡ readTraceOf rooms bytes → R c q → ReadRefused rooms c q o
   unfolding readTraceOf
   read-refused c q o e r =
       let x = e ∙ ap (outcome rooms) (judged-fault rooms bytes c q (told-fault c q r)) in
       record {
-        answer = ap (λ (u : Outcome). u .answer) x;
-        told = ap (λ (u : Outcome). u .told) x;
-        counts = ap (λ (u : Outcome). u .counts) x;
-        starts = ap (λ (u : Outcome). u .starts) x;
-        deltas = ap (λ (u : Outcome). u .deltas) x;
-        coefficients = ap (λ (u : Outcome). u .coefficients) x;
+        answer = ap (λ (u : ReadOutcome). u .answer) x;
+        told = ap (λ (u : ReadOutcome). u .told) x;
+        counts = ap (λ (u : ReadOutcome). u .counts) x;
+        starts = ap (λ (u : ReadOutcome). u .starts) x;
+        deltas = ap (λ (u : ReadOutcome). u .deltas) x;
+        coefficients = ap (λ (u : ReadOutcome). u .coefficients) x;
       }
 
   -- and done where nothing is given

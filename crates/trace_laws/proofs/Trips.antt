@@ -16,7 +16,7 @@ use Rattle.codes.specs.declared.Code.the-variants.{Room}
 use Rattle.shape.specs.Shape.{pointsOf}
 use Rattle.list.specs.List.{ListRooms, Got, got, stop, Described, described}
 use Rattle.list.specs.Steps.{f32Of, zeroF32}
-use Rattle.reader.specs.Read.{Outcome}
+use Rattle.reader.specs.Read.{ReadOutcome}
 use Rattle.reader.specs.Read as reading
 use Rattle.reader.specs.declared.ReadAnswer.{ReadAnswer}
 use Rattle.writer.specs.Write.{Check, check, firstFault, wholeOf, WriteOutcome, leaves, outcome}
@@ -84,7 +84,7 @@ module _ (ns : List ℕ) (ss : List Float) (ds cs : List ℤ) (a : ℤ) (room : 
 -- the description that a file was written from is read from it, every number, with rooms exact or larger
 pub file-then-read : (ns : List ℕ) (ss : List Float) (ds cs : List ℤ) (a : ℤ) (room : ℕ) (o : WriteOutcome) (n : ℕ)
     → Numbers ns → Floats ss → Signeds cs → mag a < 2 ^ 31 → o ≡ writeTraceOf ns ss ds cs a room → o .answer ≡ WriteAnswer.Done n
-    → (rooms : ListRooms) → Enough rooms ns ss ds cs → (q : Outcome) → q ≡ readTraceOf rooms (take n (o .list))
+    → (rooms : ListRooms) → Enough rooms ns ss ds cs → (q : ReadOutcome) → q ≡ readTraceOf rooms (take n (o .list))
     → q ≡ reading.leaves (ReadAnswer.Done (length ns) (pointsOf ns) a) (padded (rooms .counts) 0 ns) (padded (rooms .starts) zeroF32 ss)
     (padded (rooms .deltas) (pos 0) ds) (padded (rooms .coefficients) (pos 0) cs)
 unfolding readTraceOf
@@ -98,11 +98,11 @@ file-then-read ns ss ds cs a room o n nn f nc na p e rooms h q r =
 
 -- ---- what is read is written
 
-pub record DoneRead (rooms : ListRooms) (bytes : List ℕ) (q : Outcome) (s p : ℕ) (a : ℤ) : Type 0 where
+pub record DoneRead (rooms : ListRooms) (bytes : List ℕ) (q : ReadOutcome) (s p : ℕ) (a : ℤ) : Type 0 where
   pub fine : firstFault (wholeChecks rooms bytes) ≡ Fine
   pub is : q ≡ reading.outcome rooms (got (describedIn 8 (numbersIn bytes)) [])
 
-pub done-read : (rooms : ListRooms) (bytes : List ℕ) (q : Outcome) (s p : ℕ) (a : ℤ) → q ≡ readTraceOf rooms bytes → q .answer ≡ ReadAnswer.Done s p a → DoneRead rooms bytes q s p a
+pub done-read : (rooms : ListRooms) (bytes : List ℕ) (q : ReadOutcome) (s p : ℕ) (a : ℤ) → q ≡ readTraceOf rooms bytes → q .answer ≡ ReadAnswer.Done s p a → DoneRead rooms bytes q s p a
 unfolding readTraceOf
 done-read rooms bytes q s p a r e = go (firstFault (wholeChecks rooms bytes)) refl
   where
@@ -110,11 +110,11 @@ done-read rooms bytes q s p a r e = go (firstFault (wholeChecks rooms bytes)) re
     go Fine f = record { fine = f; is = r ∙ ap (reading.outcome rooms) (judged-fine rooms bytes f) }
     go (Fault c k) f =
         let x : q ≡ reading.outcome rooms (stop c k) = r ∙ ap (reading.outcome rooms) (judged-fault rooms bytes c k f) in
-        let y : ReadAnswer.Refused c k ≡ ReadAnswer.Done s p a = sym (ap (λ (u : Outcome). u .answer) x) ∙ e in
+        let y : ReadAnswer.Refused c k ≡ ReadAnswer.Done s p a = sym (ap (λ (u : ReadOutcome). u .answer) x) ∙ e in
         let z : _≡_ {A = ℕ} 0 1 = cc in absurd (omega arith)
 
 -- the file that a description was read from is written from it, every byte, and zeros after it
-pub read-then-file : (rooms : ListRooms) (bytes : List ℕ) (q : Outcome) (s p : ℕ) (a : ℤ) → Bytes bytes → q ≡ readTraceOf rooms bytes → q .answer ≡ ReadAnswer.Done s p a
+pub read-then-file : (rooms : ListRooms) (bytes : List ℕ) (q : ReadOutcome) (s p : ℕ) (a : ℤ) → Bytes bytes → q ≡ readTraceOf rooms bytes → q .answer ≡ ReadAnswer.Done s p a
     → (room : ℕ) → length bytes ≤ room → (o : WriteOutcome)
     → o ≡ writeTraceOf (take s (q .counts)) (take (2 * s) (q .starts)) (take (2 * p) (q .deltas)) (take (128 * s) (q .coefficients)) a room
     → o ≡ leaves (WriteAnswer.Done (length bytes)) (bytes ++ replicate (room - length bytes) 0)
@@ -132,7 +132,7 @@ pub same-front : (xs ys : List ℕ) (us vs : List ℕ) → length xs ≡ length 
 same-front xs ys us vs h e = sym (take-at xs us (length xs) refl) ∙ ap (take (length xs)) e ∙ take-at ys vs (length xs) (sym h)
 
 -- two files that are read as one description are the same bytes
-pub same-file : (rooms : ListRooms) (bytes bytes′ : List ℕ) (q : Outcome) (s p : ℕ) (a : ℤ) → Bytes bytes → Bytes bytes′ → q ≡ readTraceOf rooms bytes → q ≡ readTraceOf rooms bytes′
+pub same-file : (rooms : ListRooms) (bytes bytes′ : List ℕ) (q : ReadOutcome) (s p : ℕ) (a : ℤ) → Bytes bytes → Bytes bytes′ → q ≡ readTraceOf rooms bytes → q ≡ readTraceOf rooms bytes′
     → q .answer ≡ ReadAnswer.Done s p a → bytes ≡ bytes′
 same-file rooms bytes bytes′ q s p a b b′ r r′ e =
     let room = length bytes + length bytes′ in

@@ -43,11 +43,11 @@ abbrev pub Tamed : List ℕ → Type 0
 Tamed bytes = TamedBy 8 (Laid bytes) bytes
 
 -- a buffer is too short
-pub data Lacks (rooms : ListRooms) (s p : ℕ) : Type 0 where
-  counts : rooms .counts < s → Lacks rooms s p
-  starts : rooms .starts < 2 * s → Lacks rooms s p
-  coefficients : rooms .coefficients < 128 * s → Lacks rooms s p
-  deltas : rooms .deltas < 2 * p → Lacks rooms s p
+pub data ListLacks (rooms : ListRooms) (s p : ℕ) : Type 0 where
+  counts : rooms .counts < s → ListLacks rooms s p
+  starts : rooms .starts < 2 * s → ListLacks rooms s p
+  coefficients : rooms .coefficients < 128 * s → ListLacks rooms s p
+  deltas : rooms .deltas < 2 * p → ListLacks rooms s p
 
 -- the table of reading: the code and the place, when
 pub data TraceReadRefusal (rooms : ListRooms) (bytes : List ℕ) : Code → ℕ → Type 0 where
@@ -71,12 +71,12 @@ pub data TraceReadRefusal (rooms : ListRooms) (bytes : List ℕ) : Code → ℕ 
   -- 5: double delta number k is the first out of range
   delta : Placed bytes → (k : ℕ) → k < 2 * P bytes → NoneOf k (WildAt 8 bytes) → WildAt 8 bytes k → TraceReadRefusal rooms bytes Delta (32 + 12 * S bytes + 4 * k)
   -- 7: nothing else is given, and a buffer is too short
-  room : Tamed bytes → Lacks rooms (S bytes) (P bytes) → TraceReadRefusal rooms bytes Room 0
+  room : Tamed bytes → ListLacks rooms (S bytes) (P bytes) → TraceReadRefusal rooms bytes Room 0
 
 -- 0: nothing is given
 pub record TraceReadAccepted (rooms : ListRooms) (bytes : List ℕ) : Type 0 where
   pub tamed : Tamed bytes
-  pub held : Lacks rooms (S bytes) (P bytes) → ⊥
+  pub held : ListLacks rooms (S bytes) (P bytes) → ⊥
 
 -- ---- writing
 

@@ -24,7 +24,7 @@ use Rattle.writer.specs.declared.WriteAnswer.the-variants.{Done, Refused}
 use Rattle.writer.proofs.Checks.{agree, agreed, none-counted, many-counted, well-counted, counted}
 use Rattle.writer.proofs.Starts.{unfit-any}
 use Rattle.writer.proofs.Stores.{list-length}
-use Rattle.write_laws.specs.Refusals.{Unfit, no-number, infinite, far, not-whole, minus-zero, negative-first, UnfitPair, WildPair, NoneOf, pointsBefore, countPlace, listSize, Started, WriteRefusal, Accepted, WriteRefused}
+use Rattle.write_laws.specs.Refusals.{Unfit, no-number, infinite, far, not-whole, minus-zero, negative-first, UnfitPair, WildPair, NoneOf, pointsBefore, countPlace, listSize, Started, WriteRefusal, WriteAccepted, WriteRefused}
 use Rattle.write_laws.specs.Refusals as words
 use Rattle.write_laws.proofs.Table.{unfitPair, FitPairs, wildPair, SplineRefusal, Given, Passed}
 use Rattle.write_laws.proofs.Table as tests
@@ -316,7 +316,7 @@ module _ (ns : List ℕ) (ss : List Float) (ds cs : List ℤ) (limit size room :
         let tame = tame-from (pointsOf ns) ds (omega (arith, s .shaped .deltas)) none in
         tests.room (shaped-from (s .shaped)) (few-from s) (fits-from s) w (rw all at tame) (omega (arith, is (shaped-from (s .shaped)), h))
 
-    accepted-to : (values : ℕ) → Passed ns ss ds cs limit size room values → Accepted ns ss ds cs limit room values
+    accepted-to : (values : ℕ) → Passed ns ss ds cs limit size room values → WriteAccepted ns ss ds cs limit room values
     accepted-to values g =
         let s = agreed ns ss ds cs (g .shaped) in
         let all : take (2 * pointsOf ns) ds ≡ ds = take-all (2 * pointsOf ns) ds (omega (arith, s .1)) in
@@ -328,7 +328,7 @@ module _ (ns : List ℕ) (ss : List Float) (ds cs : List ℤ) (limit size room :
           all = g .all ∙ is (g .shaped);
         }
 
-    accepted-from : (values : ℕ) → Accepted ns ss ds cs limit room values → Passed ns ss ds cs limit size room values
+    accepted-from : (values : ℕ) → WriteAccepted ns ss ds cs limit room values → Passed ns ss ds cs limit size room values
     accepted-from values g =
         let s = g .started in
         let m = shaped-from (s .shaped) in
@@ -376,7 +376,7 @@ module _ (ns : List ℕ) (ss : List Float) (ds cs : List ℤ) (a : ℤ) (configu
           rw (f, x, y) (record { answer = refl; told = refl; list = refl })
 
   -- and a list of so many values, exactly when it has none
-  pub done-exactly-when : (n : ℕ) → writeOf ns ss ds cs a configured pixels room .answer ≡ Done n ↔ Accepted ns ss ds cs (limitOf configured pixels) room n
+  pub done-exactly-when : (n : ℕ) → writeOf ns ss ds cs a configured pixels room .answer ≡ Done n ↔ WriteAccepted ns ss ds cs (limitOf configured pixels) room n
   done-exactly-when n =
       let t = done-by-tests ns ss ds cs a configured pixels room n in (
         λ e. accepted-to ns ss ds cs (limitOf configured pixels) _ room size-is n (t .0 e),

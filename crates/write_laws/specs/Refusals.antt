@@ -80,7 +80,7 @@ pub data WriteRefusal (ns : List ℕ) (ss : List Float) (ds cs : List ℤ) (limi
       → WriteRefusal ns ss ds cs limit room Room room
 
 -- 0: nothing is given, and so many values are written
-pub record Accepted (ns : List ℕ) (ss : List Float) (ds cs : List ℤ) (limit room values : ℕ) : Type 0 where
+pub record WriteAccepted (ns : List ℕ) (ss : List Float) (ds cs : List ℤ) (limit room values : ℕ) : Type 0 where
   pub started : Started ns ss ds cs limit
   pub within : pointsOf ns ≤ limit
   pub tame : NoneOf (pointsOf ns) (WildPair ds)

@@ -6,7 +6,7 @@ use lib.ListN.{length}
 use borrow.Author.Needs.{needs}
 use Rattle.desks.specs.Desks.{sightOf}
 use Rattle.checks.specs.Tables.{tableOf}
-use Rattle.bands.specs.Bands.{bandsIn, rowsGoodFrom, numbersOf, putBands}
+use Rattle.bands.specs.Bands.{bandsIn, rowsGoodFrom, bandNumbers, putBands}
 use Rattle.bands.proofs.Sums.{was-good, was-bad}
 use Rattle.bands.proofs.Whole.{goodOn, goods-on, goods-off, goods-begin, goods-end, put-none, put-next, put-length, cells-fit, not-so}
 use Rattle.bands.proofs.fill.Statement.{statement}
@@ -15,7 +15,7 @@ use Rattle.bands.proofs.fill.Tie as tie
 abbrev Inv-loop : tie.InvT-loop
 Inv-loop segments owners segment-count entries entry-count row-starts height splines bits desk width cells₀ bands b₀ cells b =
     (b ≤ bands) × (length cells ≡ length cells₀)
-    × (cells ≡ putBands cells₀ (numbersOf (tableOf segments segment-count entries entry-count row-starts height) (sightOf owners splines bits desk) width) b)
+    × (cells ≡ putBands cells₀ (bandNumbers (tableOf segments segment-count entries entry-count row-starts height) (sightOf owners splines bits desk) width) b)
     × (rowsGoodFrom (tableOf segments segment-count entries entry-count row-starts height) (sightOf owners splines bits desk) 0 height ≡ goodOn (tableOf segments segment-count entries entry-count row-starts height) (sightOf owners splines bits desk) b)
 
 abbrev μ-loop : tie.MeasureT-loop
@@ -82,7 +82,7 @@ loop-again c =
     let w = was-good _ _ g in (
       n,
       put-length (l .cells) _ (5 * l .b) _ v ∙ l .inv .1,
-      put-next (A .cells .now) (numbersOf (tableOf (A .segments .now) (A .segment-count) (A .entries .now) (A .entry-count) (A .row-starts .now) (A .height)) (sightOf (A .owners .now) (A .splines) (A .bits .now) (A .desk)) (A .width)) (l .cells) _ (l .b) (5 * l .b) _ (l .inv .2) refl (w .1) v,
+      put-next (A .cells .now) (bandNumbers (tableOf (A .segments .now) (A .segment-count) (A .entries .now) (A .entry-count) (A .row-starts .now) (A .height)) (sightOf (A .owners .now) (A .splines) (A .bits .now) (A .desk)) (A .width)) (l .cells) _ (l .b) (5 * l .b) _ (l .inv .2) refl (w .1) v,
       l .inv .3 ∙ goods-on (tableOf (A .segments .now) (A .segment-count) (A .entries .now) (A .entry-count) (A .row-starts .now) (A .height)) (sightOf (A .owners .now) (A .splines) (A .bits .now) (A .desk)) (l .b) (w .0),
     )
 
@@ -95,7 +95,7 @@ returns-2 c =
     let l = c .before .loop in
     let h : bandsIn (A .height) ≤ l .b = omega (arith, c .before .before .bands-in .ensures, c .loop-test .left) in
     let e : l .b ≡ bandsIn (A .height) = omega (arith, c .before .before .bands-in .ensures, c .loop-test .left, l .inv .0) in
-    (sym (l .inv .3 ∙ goods-end (tableOf (A .segments .now) (A .segment-count) (A .entries .now) (A .entry-count) (A .row-starts .now) (A .height)) (sightOf (A .owners .now) (A .splines) (A .bits .now) (A .desk)) (l .b) h), λ k. l .inv .2 ∙ ap (putBands (A .cells .now) (numbersOf (tableOf (A .segments .now) (A .segment-count) (A .entries .now) (A .entry-count) (A .row-starts .now) (A .height)) (sightOf (A .owners .now) (A .splines) (A .bits .now) (A .desk)) (A .width))) e)
+    (sym (l .inv .3 ∙ goods-end (tableOf (A .segments .now) (A .segment-count) (A .entries .now) (A .entry-count) (A .row-starts .now) (A .height)) (sightOf (A .owners .now) (A .splines) (A .bits .now) (A .desk)) (l .b) h), λ k. l .inv .2 ∙ ap (putBands (A .cells .now) (bandNumbers (tableOf (A .segments .now) (A .segment-count) (A .entries .now) (A .entry-count) (A .row-starts .now) (A .height)) (sightOf (A .owners .now) (A .splines) (A .bits .now) (A .desk)) (A .width))) e)
 
 pub fill-spec : {M : Type 1} → statement M
 fill-spec =

@@ -7,7 +7,7 @@ use native.Mathlib.Numerals.{add-one}
 use lib.ListN.{length}
 use borrow.Author.Tests.{not-true, not-false}
 use Rattle.rows.specs.Rows.{inRow}
-use Rattle.makers.specs.Check.{rowRight, countsGood}
+use Rattle.makers.specs.Check.{rowRight, offeredCountsGood}
 use Rattle.makers.proofs.Rows.{first-is}
 use Rattle.makers_search.proofs.Answers.{counts-facts, at-size, at-shape, at-counts, at-first, at-row, at-end, at-done}
 use borrow.Author.Needs.{needs}
@@ -43,14 +43,14 @@ returns-4 : tie.Need-returns-4
 returns-4 c =
     let A = c .before .before .before .before .before .before .before .before .before .args in
     let t : length (A .row-starts .now) ≡ suc (A .height) = c .before .before .before .before .if2 .left ∙ add-one (A .height) in
-    let g : countsGood (A .segments .now) (A .segment-count) (A .entries .now) (A .entry-count) ≡ true = sym (c .before .before .before .counts-good .ensures) ∙ not-false _ (c .before .before .if3 .left) in
+    let g : offeredCountsGood (A .segments .now) (A .segment-count) (A .entries .now) (A .entry-count) ≡ true = sym (c .before .before .before .counts-good .ensures) ∙ not-false _ (c .before .before .if3 .left) in
     at-first (A .segments .now) (A .segment-count) (A .height) (A .row-starts .now) (A .entries .now) (A .entry-count) (c .before .before .before .before .before .if1 .left) t g (c .if4 .taken)
 
 first-wrong-requires : tie.Need-first-wrong-requires
 first-wrong-requires c κs =
     let A = c .before .before .before .before .before .before .before .before .before .args in
     let t : length (A .row-starts .now) ≡ suc (A .height) = c .before .before .before .before .if2 .left ∙ add-one (A .height) in
-    let g : countsGood (A .segments .now) (A .segment-count) (A .entries .now) (A .entry-count) ≡ true = sym (c .before .before .before .counts-good .ensures) ∙ not-false _ (c .before .before .if3 .left) in
+    let g : offeredCountsGood (A .segments .now) (A .segment-count) (A .entries .now) (A .entry-count) ≡ true = sym (c .before .before .before .counts-good .ensures) ∙ not-false _ (c .before .before .if3 .left) in
     let f = counts-facts (A .segments .now) (A .segment-count) (A .entries .now) (A .entry-count) g in
     ((f .segments-fit, f .few-segments), ((f .entries-fit, omega (arith, t), c .before .before .before .before .before .if1 .left), c .if4 .left))
 
@@ -58,7 +58,7 @@ returns-5 : tie.Need-returns-5
 returns-5 c =
     let A = c .before .before .before .before .before .before .before .before .before .before .before .args in
     let t : length (A .row-starts .now) ≡ suc (A .height) = c .before .before .before .before .before .before .if2 .left ∙ add-one (A .height) in
-    let g : countsGood (A .segments .now) (A .segment-count) (A .entries .now) (A .entry-count) ≡ true = sym (c .before .before .before .before .before .counts-good .ensures) ∙ not-false _ (c .before .before .before .before .if3 .left) in
+    let g : offeredCountsGood (A .segments .now) (A .segment-count) (A .entries .now) (A .entry-count) ≡ true = sym (c .before .before .before .before .before .counts-good .ensures) ∙ not-false _ (c .before .before .before .before .if3 .left) in
     at-row (A .segments .now) (A .segment-count) (A .height) (A .row-starts .now) (A .entries .now) (A .entry-count) (c .before .before .before .before .before .before .before .if1 .left) t g (c .before .before .if4 .left) (c .before .first-wrong .ensures) (omega arith)
 
 mul-if6 : tie.Need-mul-if6
@@ -71,14 +71,14 @@ returns-6 : tie.Need-returns-6
 returns-6 c =
     let A = c .before .before .before .before .before .before .before .before .before .before .before .before .before .args in
     let t : length (A .row-starts .now) ≡ suc (A .height) = c .before .before .before .before .before .before .before .before .if2 .left ∙ add-one (A .height) in
-    let g : countsGood (A .segments .now) (A .segment-count) (A .entries .now) (A .entry-count) ≡ true = sym (c .before .before .before .before .before .before .before .counts-good .ensures) ∙ not-false _ (c .before .before .before .before .before .before .if3 .left) in
+    let g : offeredCountsGood (A .segments .now) (A .segment-count) (A .entries .now) (A .entry-count) ≡ true = sym (c .before .before .before .before .before .before .before .counts-good .ensures) ∙ not-false _ (c .before .before .before .before .before .before .if3 .left) in
     at-end (A .segments .now) (A .segment-count) (A .height) (A .row-starts .now) (A .entries .now) (A .entry-count) (c .before .before .before .before .before .before .before .before .before .if1 .left) t g (c .before .before .before .before .if4 .left) (c .before .before .before .first-wrong .ensures) (omega (arith, c .before .before .before .first-wrong .ensures, first-is (rowRight (inRow (A .segments .now)) (A .segment-count) (A .row-starts .now) (A .entries .now) (A .entry-count)) 0 (A .height) .within)) (λ e. omega (arith, e))
 
 returns-7 : tie.Need-returns-7
 returns-7 c =
     let A = c .before .before .before .before .before .before .before .before .before .before .before .before .before .args in
     let t : length (A .row-starts .now) ≡ suc (A .height) = c .before .before .before .before .before .before .before .before .if2 .left ∙ add-one (A .height) in
-    let g : countsGood (A .segments .now) (A .segment-count) (A .entries .now) (A .entry-count) ≡ true = sym (c .before .before .before .before .before .before .before .counts-good .ensures) ∙ not-false _ (c .before .before .before .before .before .before .if3 .left) in
+    let g : offeredCountsGood (A .segments .now) (A .segment-count) (A .entries .now) (A .entry-count) ≡ true = sym (c .before .before .before .before .before .before .before .counts-good .ensures) ∙ not-false _ (c .before .before .before .before .before .before .if3 .left) in
     at-done (A .segments .now) (A .segment-count) (A .height) (A .row-starts .now) (A .entries .now) (A .entry-count) (c .before .before .before .before .before .before .before .before .before .if1 .left) t g (c .before .before .before .before .if4 .left) (c .before .before .before .first-wrong .ensures) (omega arith) (omega arith)
 
 pub check-spec : {M : Type 1} → statement M

@@ -4,14 +4,14 @@ use Prim.Native.Nat.{suc, _+_, _-_, _*_, _≤_}
 use native.Mathlib.Omega.{arith}
 use lib.ListN.{length, getD, drop}
 use borrow.Author.Needs.{needs}
-use Rattle.profile.specs.Profile.{firstOf, splineFinding, splinesFinding}
+use Rattle.profile.specs.Profile.{firstFinding, splineFinding, splinesFinding}
 use Rattle.profile.proofs.Rules.{spline-turn, splines-end}
 use Rattle.profile.proofs.splines_finding.Statement.{statement}
 use Rattle.profile.proofs.splines_finding.Tie as tie
 
 abbrev Inv-loop : tie.InvT-loop
 Inv-loop counts c limits found₀ k₀ found k =
-    (k ≤ length counts) × (128 * length counts ≤ length c) × (splinesFinding limits counts c 0 ≡ firstOf found (splinesFinding limits (drop k counts) c k))
+    (k ≤ length counts) × (128 * length counts ≤ length c) × (splinesFinding limits counts c 0 ≡ firstFinding found (splinesFinding limits (drop k counts) c k))
 
 abbrev μ-loop : tie.MeasureT-loop
 μ-loop counts c limits found₀ k₀ found k = length counts - k
@@ -42,8 +42,8 @@ loop-again c =
     let a = c .before .before .before .before .before .before .args in
     let v = c .before .before .before .before .loop in
     let s : v .k + 1 ≡ suc (v .k) = omega arith in
-    let found : firstOf (firstOf (v .found) (splineFinding (a .limits) (getD (a .counts .now) (v .k) 0) (a .c .now) (v .k))) (splinesFinding (a .limits) (drop (suc (v .k)) (a .counts .now)) (a .c .now) (suc (v .k)))
-    ≡ firstOf (c .first-of .result) (splinesFinding (a .limits) (drop (v .k + 1) (a .counts .now)) (a .c .now) (v .k + 1))
+    let found : firstFinding (firstFinding (v .found) (splineFinding (a .limits) (getD (a .counts .now) (v .k) 0) (a .c .now) (v .k))) (splinesFinding (a .limits) (drop (suc (v .k)) (a .counts .now)) (a .c .now) (suc (v .k)))
+    ≡ firstFinding (c .first-of .result) (splinesFinding (a .limits) (drop (v .k + 1) (a .counts .now)) (a .c .now) (v .k + 1))
     = rw (s, c .first-of .ensures, c .before .spline-finding .ensures) in
     (omega arith, v .inv .1, v .inv .2 ∙ spline-turn (a .limits) (a .counts .now) (a .c .now) (v .found) (v .k) (omega arith) ∙ found)
 

@@ -5,7 +5,7 @@ use borrow.Author.Tests.{not-true, not-false}
 use Rattle.draw.specs.Draw.{three}
 use Rattle.checks.proofs.Checks.{span-facts}
 use Rattle.records.proofs.Alone.{not-known, no-row, no-span, drawn-alone, count-alone, columns-alone}
-use Rattle.records.specs.Records.{segmentOf}
+use Rattle.records.specs.Records.{withoutOwner}
 use borrow.Author.Needs.{needs}
 use Rattle.records.proofs.draw_alone.Statement.{statement}
 use Rattle.records.proofs.draw_alone.Tie as tie
@@ -13,12 +13,12 @@ use Rattle.records.proofs.draw_alone.Tie as tie
 returns : tie.Need-returns
 returns c =
     let A = c .before .before .before .before .args in
-    not-known (A .known) (segmentOf (A .whole)) (A .y) (A .x0) (A .n) (three (A .r0 .now) (A .r1 .now) (A .r2 .now)) (not-true _ (c .if1 .taken))
+    not-known (A .known) (withoutOwner (A .whole)) (A .y) (A .x0) (A .n) (three (A .r0 .now) (A .r1 .now) (A .r2 .now)) (not-true _ (c .if1 .taken))
 
 returns-2 : tie.Need-returns-2
 returns-2 c =
     let A = c .before .before .before .before .before .args in
-    no-row (A .known) (segmentOf (A .whole)) (A .y) (A .x0) (A .n) (three (A .r0 .now) (A .r1 .now) (A .r2 .now)) (not-false _ (c .before .if1 .left)) (omega arith)
+    no-row (A .known) (withoutOwner (A .whole)) (A .y) (A .x0) (A .n) (three (A .r0 .now) (A .r1 .now) (A .r2 .now)) (not-false _ (c .before .if1 .left)) (omega arith)
 
 span-good-requires : tie.Need-span-good-requires
 span-good-requires c κs = search needs
@@ -26,7 +26,7 @@ span-good-requires c κs = search needs
 returns-3 : tie.Need-returns-3
 returns-3 c =
     let A = c .before .before .before .before .before .before .before .args in
-    no-span (A .known) (segmentOf (A .whole)) (A .y) (A .x0) (A .n) (three (A .r0 .now) (A .r1 .now) (A .r2 .now)) (not-false _ (c .before .before .before .if1 .left)) (omega arith) (sym (c .before .span-good .ensures) ∙ not-true _ (c .if3 .taken))
+    no-span (A .known) (withoutOwner (A .whole)) (A .y) (A .x0) (A .n) (three (A .r0 .now) (A .r1 .now) (A .r2 .now)) (not-false _ (c .before .before .before .if1 .left)) (omega arith) (sym (c .before .span-good .ensures) ∙ not-true _ (c .if3 .taken))
 
 segment-of-requires : tie.Need-segment-of-requires
 segment-of-requires c κs = search needs
@@ -59,11 +59,11 @@ returns-4 c =
     let s = c .before .before .before .before .before .before .before .before .before .before .before .before .segment-of .ensures in
     let q = rw s at (c .before .before .before .before .before .before .before .before .before .before .before .columns .ensures) in
     let e = rw s at (c .before .before .before .before .before .before .draw-columns .ensures) in
-    drawn-alone (A .known) (segmentOf (A .whole)) (A .y) (A .x0) (A .n) (three (A .r0 .now) (A .r1 .now) (A .r2 .now)) (not-false _ (c .before .before .before .before .before .before .before .before .before .before .before .before .before .before .before .before .if1 .left)) (omega arith) g
-    (count-alone (segmentOf (A .whole)) (A .x0) (A .n) _ q h _ (e .0))
-    (columns-alone (segmentOf (A .whole)) (A .x0) (A .n) _ q h 0 (A .y) _ _ (e .1 .0))
-    (columns-alone (segmentOf (A .whole)) (A .x0) (A .n) _ q h 1 (A .y) _ _ (e .1 .1 .0))
-    (columns-alone (segmentOf (A .whole)) (A .x0) (A .n) _ q h 2 (A .y) _ _ (e .1 .1 .1))
+    drawn-alone (A .known) (withoutOwner (A .whole)) (A .y) (A .x0) (A .n) (three (A .r0 .now) (A .r1 .now) (A .r2 .now)) (not-false _ (c .before .before .before .before .before .before .before .before .before .before .before .before .before .before .before .before .if1 .left)) (omega arith) g
+    (count-alone (withoutOwner (A .whole)) (A .x0) (A .n) _ q h _ (e .0))
+    (columns-alone (withoutOwner (A .whole)) (A .x0) (A .n) _ q h 0 (A .y) _ _ (e .1 .0))
+    (columns-alone (withoutOwner (A .whole)) (A .x0) (A .n) _ q h 1 (A .y) _ _ (e .1 .1 .0))
+    (columns-alone (withoutOwner (A .whole)) (A .x0) (A .n) _ q h 2 (A .y) _ _ (e .1 .1 .1))
 
 pub draw-alone-spec : {M : Type 1} → statement M
 draw-alone-spec =

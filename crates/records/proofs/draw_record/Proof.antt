@@ -46,7 +46,7 @@ use Rattle.draw.specs.declared.DrawAnswer.{DrawAnswer}
 use Rattle.draw.specs.Draw.{three, leaves}
 use Rattle.draw.proofs.DrawAnswer as D
 use Rattle.draw.proofs.DrawAnswer.Laws as D′
-use Rattle.records.specs.Records.{segmentOf, zeroRecord, drawAlone}
+use Rattle.records.specs.Records.{withoutOwner, zeroRecord, drawAlone}
 use Rattle.records.proofs.segment_at as seg
 use Rattle.records.proofs.segment_at.Symbol as seg-def
 use Rattle.records.proofs.segment_at.Symbol.{name as #records·segment-at}
@@ -110,7 +110,7 @@ module _ {M : Type 1} (𝓤 : URA M) (H : Heap 𝓤) (A : Atoms 𝓤) (W : Given
 
   -- what is said of an answer and of the last lists of the channels
   abbrev Drawn : DrawAnswer → List Float → List Float → List Float → Type 0
-  Drawn r z₀ z₁ z₂ = leaves r (three z₀ z₁ z₂) ≡ drawAlone known (segmentOf elem) y x0 n (three (c₀ .now) (c₁ .now) (c₂ .now))
+  Drawn r z₀ z₁ z₂ = leaves r (three z₀ z₁ z₂) ≡ drawAlone known (withoutOwner elem) y x0 n (three (c₀ .now) (c₁ .now) (c₂ .now))
 
   abbrev Recs : Fml
   Recs = ShrSlice (named 0) κ T.the-row .own xr (slice xr ∷ [])

@@ -4,7 +4,7 @@ use mathlib.Core.List.{List}
 use Prim.Native.Nat.{ℕ, _*_}
 use lib.ListN.{length, take}
 use lib.Ieee.{Float, binary32, ofBits}
-use Rattle.rows.specs.Rows.{Outcome, inRow, built}
+use Rattle.rows.specs.Rows.{RowsOutcome, inRow, built}
 use Rattle.table.specs.Table.{BuildRooms, roomsOf}
 use Rattle.faint.proofs.Counts.{faint-take}
 use Rattle.table.proofs.Placing.{kept, rows-room, rows-done}
@@ -22,7 +22,7 @@ numbers s = take (8 * s .args .count) (s .args .segments .now)
 abbrev owned : tie.Start → List ℕ
 owned s = take (s .args .count) (s .args .owners .now)
 
-abbrev listing : tie.Start → Outcome
+abbrev listing : tie.Start → RowsOutcome
 listing s = built (inRow (s .args .segments .now)) (s .args .count) (s .args .height) (length (s .args .row-starts .now)) (length (s .args .entries .now))
 
 list-rows-requires : tie.Need-list-rows-requires

@@ -4,7 +4,7 @@ use Prim.Native.Nat.{_+_, _-_, _≤_}
 use native.Mathlib.Omega.{arith}
 use borrow.Author.Needs.{needs}
 use lib.ListN.{length}
-use Rattle.dequantize.specs.Coefficients.{coefficientAt, rowOf}
+use Rattle.dequantize.specs.Coefficients.{coefficientAt, coefficientRow}
 use Rattle.dequantize.proofs.Tables.{Filling, filling-none, filling-more, filling-all}
 use Rattle.dequantize.proofs.coefficients.row.Statement.{statement}
 use Rattle.dequantize.proofs.coefficients.row.Tie as tie
@@ -39,7 +39,7 @@ loop-again c =
     (l .inv .0, filling-more _ (l .i) (l .inv .1) (c .before .loop-test .taken) (c .coefficient .ensures))
 
 returns : tie.Need-returns Inv-loop μ-loop
-unfolding rowOf
+unfolding coefficientRow
 returns c = let l = c .before .loop in filling-all _ (l .i) (l .inv .1) (c .loop-test .left)
 
 pub row-spec : {M : Type 1} → statement M
