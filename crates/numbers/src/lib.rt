@@ -446,18 +446,20 @@ fn guess_root(n: u64) -> u64
     requires { ⌜ n < 281474976710656 ⌝ }
     ensures { λ r. ⌜ r < 16777216 ⌝ }
 {
-    let x = n as f64;
-    let y0 = x * 0.000000041723251342773438 + 5452595.0;
-    let y1 = (y0 + x / y0) * 0.5;
-    let y2 = (y1 + x / y1) * 0.5;
-    let y3 = (y2 + x / y2) * 0.5;
-    let y4 = (y3 + x / y3) * 0.5 + 0.0000000108;
-    if y4 > -1.0 {
-        if y4 < 18446744073709551616.0 {
-            let r = std::num::truncating_f64_to_u64(y4);
-            if r < 16777216 { r } else { 16777215 }
+    // the root of u = n / 2^46, from 1 up to 4: by a cubic to a part in 940, then by one step of Halley's to one in 3 * 10^9
+    let u = (n as i64) as f64 * 0.000000000000014210854715202004;
+    let y = ((0.008980291113908431 * u - 0.10323619306053179) * u + 0.6612826583625814) * u
+        + 0.4340364603873137;
+    let s = y * y;
+    let z = y * (s + 3.0 * u) / (3.0 * s + u);
+    // the digits of a number from 2^29 on end at 2^-23, so that the last 24 are the whole number nearest to n's root
+    let w = z + 536870912.0;
+    if w > 0.0 {
+        let g = f64::to_bits(w) % 16777216;
+        if n < g * g {
+            (g + 16777215) % 16777216
         } else {
-            0
+            g
         }
     } else {
         0

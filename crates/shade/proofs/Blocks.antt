@@ -1,4 +1,4 @@
--- Laws of a block of pixels: its three passes are one edit, and a block that has come back is a turn of the loop over all blocks.
+-- Laws of a block of pixels: its four passes are one edit, and a block that has come back is a turn of the loop over all blocks.
 use mathlib.Core.Path.{_≡_, ap, _∙_}
 use mathlib.Core.List.{List, _++_}
 use Prim.Native.Nat.{ℕ, _+_, _-_, _<_, _≤_}
@@ -9,12 +9,20 @@ use borrow.Author.Tests.{lt-ltb}
 use Rattle.numbers.specs.Root.{sqrtOf}
 use Rattle.segments.specs.declared.Segment.{Segment}
 use Rattle.shade.specs.Edit.{edit, firstCells}
-use Rattle.shade.specs.Shade.{sqd, dy2, shade, shaded, shadedByDistance, shadedBySquare}
+use Rattle.shade.specs.Shade.{sqd, dy2, intensityAt, shade, shaded, shadedByIntensity, shadedBySquare}
 use Rattle.shade.proofs.Edits.{length-edit, getD-edit, edit-cong, stored-part}
 
--- squares in v1, their roots in v2, and the segment added by them
-pub three-passes : (s : Segment) (d : Float) (x c m : ℕ) (v0 v1 v2 xs ys : List Float) → length v0 ≡ 32 → m ≤ 32 → m ≡ length xs → v1 ≡ edit (firstCells m (λ k w. sqd (s .«center_x») d (x + k))) v0 → v2 ≡ edit (firstCells m (λ k w. sqrtOf binary32 w)) v1 → ys ≡ edit (λ k v. shadedByDistance s (getD v2 k nan) c v) xs → ys ≡ edit (λ k v. shadedBySquare s d (x + k) c v) xs
-three-passes s d x c m v0 v1 v2 xs ys l h e p q r = r ∙ edit-cong _ (λ k v. shadedBySquare s d (x + k) c v) xs (λ i v k. ap (λ (w : Float). shadedByDistance s w c v) (root-at i (omega arith)))
+-- a cell after a pass over the first m
+passed : (f : ℕ → Float → Float) (m : ℕ) (v w : List Float) (i : ℕ) → m ≤ length v → i < m → w ≡ edit (firstCells m f) v → getD w i nan ≡ f i (getD v i nan)
+passed f m v w i h k p = ap (λ (u : List Float). getD u i nan) p ∙ getD-edit (firstCells m f) v i (omega arith) ∙ rw (lt-ltb i m k)
+
+as-long : (f : ℕ → Float → Float) (m : ℕ) (v w : List Float) → w ≡ edit (firstCells m f) v → length w ≡ length v
+as-long f m v w p = ap length p ∙ length-edit (firstCells m f) v
+
+-- squares in v1, the roots of the first m in v2, intensities in v3, and the segment added by these
+pub four-passes : (s : Segment) (d : Float) (x c m l : ℕ) (v0 v1 v2 v3 xs ys : List Float) → length v0 ≡ 32 → m ≤ l → l ≤ 32 → m ≡ length xs → v1 ≡ edit (firstCells l (λ k w. sqd (s .«center_x») d (x + k))) v0 → v2 ≡ edit (firstCells m (λ k w. sqrtOf binary32 w)) v1 → v3 ≡ edit (firstCells l (λ k w. intensityAt s w)) v2 → ys ≡ edit (λ k v. shadedByIntensity s (getD v3 k nan) c v) xs → ys ≡ edit (λ k v. shadedBySquare s d (x + k) c v) xs
+four-passes s d x c m l v0 v1 v2 v3 xs ys z ml l32 e p q r t =
+    t ∙ edit-cong _ (λ k v. shadedBySquare s d (x + k) c v) xs (λ i v k. ap (λ (w : Float). shadedByIntensity s w c v) (local-at i (omega arith)))
   where
     square : ℕ → Float → Float
     square k w = sqd (s .«center_x») d (x + k)
@@ -22,21 +30,24 @@ three-passes s d x c m v0 v1 v2 xs ys l h e p q r = r ∙ edit-cong _ (λ k v. s
     root : ℕ → Float → Float
     root k w = sqrtOf binary32 w
 
-    long : length v1 ≡ 32
-    long = ap length p ∙ length-edit (firstCells m square) v0 ∙ l
+    local : ℕ → Float → Float
+    local k w = intensityAt s w
 
-    square-at : (i : ℕ) → i < m → getD v1 i nan ≡ square i (getD v0 i nan)
-    square-at i k = ap (λ (v : List Float). getD v i nan) p ∙ getD-edit (firstCells m square) v0 i (omega arith) ∙ rw (lt-ltb i m k)
+    long1 : length v1 ≡ 32
+    long1 = as-long square l v0 v1 p ∙ z
+
+    long2 : length v2 ≡ 32
+    long2 = as-long root m v1 v2 q ∙ long1
 
     root-at : (i : ℕ) → i < m → getD v2 i nan ≡ sqrtOf binary32 (sqd (s .«center_x») d (x + i))
-    root-at i k =
-        ap (λ (v : List Float). getD v i nan) q
-        ∙ getD-edit (firstCells m root) v1 i (omega (arith, long))
-        ∙ rw (lt-ltb i m k) (ap (sqrtOf binary32) (square-at i k))
+    root-at i k = passed root m v1 v2 i (omega (arith, long1)) k q ∙ ap (sqrtOf binary32) (passed square l v0 v1 i (omega arith) (omega arith) p)
+
+    local-at : (i : ℕ) → i < m → getD v3 i nan ≡ intensityAt s (sqrtOf binary32 (sqd (s .«center_x») d (x + i)))
+    local-at i k = passed local l v2 v3 i (omega (arith, long2)) (omega arith) r ∙ ap (intensityAt s) (root-at i k)
 
 -- by the square of the distance in y
 same-shade : (s : Segment) (y x c : ℕ) (d v : Float) → d ≡ dy2 (s .«center_y») y → shadedBySquare s d x c v ≡ shaded s y x c v
-unfolding shadedByDistance shade
+unfolding shadedByIntensity shade
 same-shade s y x c d v e = ap (λ (w : Float). shadedBySquare s w x c v) e
 
 -- the block from a up to e of the pixels from column x on

@@ -47,10 +47,10 @@ shade s y x c = colorOf s c ⊗ localIntensity s y x
 abbrev pub shaded : Segment → ℕ → ℕ → ℕ → Float → Float
 shaded s y x c v = shade s y x c ⊕ v
 
--- ---- the same by what the code has at hand: the distance, or the square of the distance in y
+-- ---- the same by what the code has at hand: the local intensity, or the square of the distance in y
 
-unfoldable pub shadedByDistance : Segment → Float → ℕ → Float → Float
-shadedByDistance s distance c v = colorOf s c ⊗ intensityAt s distance ⊕ v
+unfoldable pub shadedByIntensity : Segment → Float → ℕ → Float → Float
+shadedByIntensity s local c v = colorOf s c ⊗ local ⊕ v
 
 abbrev pub shadedBySquare : Segment → Float → ℕ → ℕ → Float → Float
-shadedBySquare s dy2 x c v = shadedByDistance s (sqrtOf binary32 (sqd (s .«center_x») dy2 x)) c v
+shadedBySquare s dy2 x c v = shadedByIntensity s (intensityAt s (sqrtOf binary32 (sqd (s .«center_x») dy2 x))) c v

@@ -1,5 +1,6 @@
 // One segment added to parts of three channels, pixel by pixel: `draw_segment_inner` of spline.rs.
-// Pixels go by blocks of 32 in three passes (squares of distances, their roots, shades): the machine's vectors take the first and the last.
+// Pixels go by blocks of 32 in four passes (squares of distances, their roots, intensities, shades). All but the roots are for the machine's vectors, which take four
+// numbers at a time: so squares and intensities are worked out for whole fours, and what is beyond the block is dropped.
 ghost use mathlib.Core.Path.{_≡_};
 ghost use mathlib.Core.Bool.{cond};
 ghost use Prim.Native.Nat.{_+_, _≤_, _<_, _^_};
@@ -10,12 +11,12 @@ ghost use Rattle.numbers.specs.Root.{sqrtOf};
 ghost use Rattle.numbers.specs.Erf.{erfCore, fastErff};
 ghost use Rattle.shade.specs.Alike.{Alike};
 ghost use Rattle.shade.specs.Edit.{edit, firstCells};
-ghost use Rattle.shade.specs.Shade.{sqd, intensityAt, shadedByDistance, shadedBySquare, shaded};
+ghost use Rattle.shade.specs.Shade.{sqd, intensityAt, shadedByIntensity, shadedBySquare, shaded};
 use segments::Segment;
 
 // A row or a column as a float, by way of a signed number, for which the machine has a vector instruction.
 fn float_of(n: u32) -> f32
-    requires { ⌜ n ≤ 2 ^ 23 ⌝ }
+    requires { ⌜ n ≤ 2 ^ 24 ⌝ }
     ensures { λ r. ⌜ r ≡ ofInt binary32 (pos n) ⌝ }
 {
     (n as i32) as f32
@@ -23,7 +24,7 @@ fn float_of(n: u32) -> f32
 
 // The squares of the distances of m columns from x on.
 fn squares(v: &mut [f32; 32], m: usize, x: u32, center_x: f32, dy2: f32)
-    requires { ⌜ (m ≤ 32) × (length (now v) ≡ 32) × (x + m ≤ 2 ^ 23) ⌝ }
+    requires { ⌜ (m ≤ 32) × (length (now v) ≡ 32) × (x + m ≤ 2 ^ 24) ⌝ }
     ensures { λ _. ⌜ now (v .exit) ≡ edit (firstCells m (λ k w. sqd «center_x» dy2 (x + k))) (now (v .entry)) ⌝ }
 {
     let mut k: usize = 0;
@@ -71,21 +72,41 @@ fn intensity(segment: Segment, distance: f32) -> f32
     segment.sigma_over_4_times_intensity * factor * factor
 }
 
-// Adds a segment to at most 32 pixels, by their distances.
-fn add(segment: Segment, distances: &[f32; 32], r0: &mut [f32], r1: &mut [f32], r2: &mut [f32])
+// The first m distances as intensities.
+fn intensities(segment: Segment, v: &mut [f32; 32], m: usize)
+    requires { ⌜ (m ≤ 32) × (length (now v) ≡ 32) ⌝ }
+    ensures { λ _. ⌜ now (v .exit) ≡ edit (firstCells m (λ k w. intensityAt segment w)) (now (v .entry)) ⌝ }
+{
+    let mut k: usize = 0;
+    while k < m {
+        v[k] = intensity(segment, v[k]);
+        k += 1;
+    }
+}
+
+// Adds a segment to at most 32 pixels, by the intensities there.
+fn add(segment: Segment, locals: &[f32; 32], r0: &mut [f32], r1: &mut [f32], r2: &mut [f32])
     requires { ⌜ (length (now r0) ≤ 32) × (length (now r1) ≡ length (now r0)) × (length (now r2) ≡ length (now r0)) ⌝ }
-    ensures { λ _. ⌜ now (r0 .exit) ≡ edit (λ k v. shadedByDistance segment (getD (now (distances .entry)) k nan) 0 v) (now (r0 .entry)) ⌝ }
-    ensures { λ _. ⌜ now (r1 .exit) ≡ edit (λ k v. shadedByDistance segment (getD (now (distances .entry)) k nan) 1 v) (now (r1 .entry)) ⌝ }
-    ensures { λ _. ⌜ now (r2 .exit) ≡ edit (λ k v. shadedByDistance segment (getD (now (distances .entry)) k nan) 2 v) (now (r2 .entry)) ⌝ }
+    ensures { λ _. ⌜ now (r0 .exit) ≡ edit (λ k v. shadedByIntensity segment (getD (now (locals .entry)) k nan) 0 v) (now (r0 .entry)) ⌝ }
+    ensures { λ _. ⌜ now (r1 .exit) ≡ edit (λ k v. shadedByIntensity segment (getD (now (locals .entry)) k nan) 1 v) (now (r1 .entry)) ⌝ }
+    ensures { λ _. ⌜ now (r2 .exit) ≡ edit (λ k v. shadedByIntensity segment (getD (now (locals .entry)) k nan) 2 v) (now (r2 .entry)) ⌝ }
 {
     let mut k: usize = 0;
     while k < r0.len() {
-        let local = intensity(segment, distances[k]);
+        let local = locals[k];
         r0[k] = segment.color0 * local + r0[k];
         r1[k] = segment.color1 * local + r1[k];
         r2[k] = segment.color2 * local + r2[k];
         k += 1;
     }
+}
+
+// m, or the next multiple of four.
+fn fours(m: usize) -> usize
+    requires { ⌜ m ≤ 32 ⌝ }
+    ensures { λ r. ⌜ (m ≤ r) × (r ≤ 32) × (r ≤ m + 3) ⌝ }
+{
+    (m + 3) / 4 * 4
 }
 
 // Adds a segment to at most 32 pixels, the first of which is column x.
@@ -104,9 +125,11 @@ fn block(
     ensures { λ _. ⌜ now (r2 .exit) ≡ edit (λ k v. shadedBySquare segment dy2 (x + k) 2 v) (now (r2 .entry)) ⌝ }
 {
     let m = r0.len();
+    let l = fours(m);
     let mut v = [0.0f32; 32];
-    squares(&mut v, m, x, segment.center_x, dy2);
+    squares(&mut v, l, x, segment.center_x, dy2);
     roots(&mut v, m, table);
+    intensities(segment, &mut v, l);
     add(segment, &v, r0, r1, r2);
 }
 

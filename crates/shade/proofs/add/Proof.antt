@@ -5,32 +5,29 @@ use native.Mathlib.Omega.{arith}
 use lib.ListN.{length, getD, length-set}
 use lib.Ieee.{nan}
 use Rattle.shade.specs.Edit.{edit, firstCells}
-use Rattle.shade.specs.Shade.{shadedByDistance}
+use Rattle.shade.specs.Shade.{shadedByIntensity}
 use Rattle.shade.proofs.Edits.{edit-none, edit-all, stored}
 use Rattle.shade.proofs.add.Statement.{statement}
 use Rattle.shade.proofs.add.Tie as tie
 
 abbrev Inv-loop : tie.InvT-loop
-Inv-loop segment distances r0₀ r1₀ r2₀ k₀ r0 r1 r2 k =
+Inv-loop segment locals r0₀ r1₀ r2₀ k₀ r0 r1 r2 k =
     (k ≤ length r0₀) × (length r0₀ ≤ 32) × (length r0 ≡ length r0₀) × (length r1 ≡ length r0₀) × (length r2 ≡ length r0₀)
-    × (r0 ≡ edit (firstCells k (λ j v. shadedByDistance segment (getD distances j nan) 0 v)) r0₀)
-    × (r1 ≡ edit (firstCells k (λ j v. shadedByDistance segment (getD distances j nan) 1 v)) r1₀)
-    × (r2 ≡ edit (firstCells k (λ j v. shadedByDistance segment (getD distances j nan) 2 v)) r2₀)
+    × (r0 ≡ edit (firstCells k (λ j v. shadedByIntensity segment (getD locals j nan) 0 v)) r0₀)
+    × (r1 ≡ edit (firstCells k (λ j v. shadedByIntensity segment (getD locals j nan) 1 v)) r1₀)
+    × (r2 ≡ edit (firstCells k (λ j v. shadedByIntensity segment (getD locals j nan) 2 v)) r2₀)
 
 abbrev μ-loop : tie.MeasureT-loop
-μ-loop segment distances r0₀ r1₀ r2₀ k₀ r0 r1 r2 k = length r0₀ - k
+μ-loop segment locals r0₀ r1₀ r2₀ k₀ r0 r1 r2 k = length r0₀ - k
 
 loop-holds : tie.Need-loop-holds Inv-loop μ-loop
 loop-holds c = (omega arith, omega arith, refl, omega arith, omega arith, edit-none _ _, edit-none _ _, edit-none _ _)
 
-mul-intensity : tie.Need-mul-intensity Inv-loop μ-loop
-mul-intensity c = omega arith
+mul-local : tie.Need-mul-local Inv-loop μ-loop
+mul-local c = omega arith
 
-element-copy-out-intensity : tie.Need-element-copy-out-intensity Inv-loop μ-loop
-element-copy-out-intensity c = omega arith
-
-intensity-requires : tie.Need-intensity-requires Inv-loop μ-loop
-intensity-requires c κs = tt
+element-copy-out-local : tie.Need-element-copy-out-local Inv-loop μ-loop
+element-copy-out-local c = omega arith
 
 mul-r0 : tie.Need-mul-r0 Inv-loop μ-loop
 mul-r0 c = omega arith
@@ -75,18 +72,17 @@ loop-less : tie.Need-loop-less Inv-loop μ-loop
 loop-less c = omega arith
 
 loop-again : tie.Need-loop-again Inv-loop μ-loop
-unfolding shadedByDistance
+unfolding shadedByIntensity
 loop-again c =
-    let l = c .before .before .before .before .before .before .before .before .before .loop in
-    let g = c .before .before .before .before .before .before .intensity .ensures in (
+    let l = c .before .before .before .before .before .before .before .before .loop in (
       omega arith,
       omega arith,
       simp length-set (omega arith),
       simp length-set (omega arith),
       simp length-set (omega arith),
-      stored _ _ _ (l .k) _ (omega arith) (l .inv .5) (rw g),
-      stored _ _ _ (l .k) _ (omega arith) (l .inv .6) (rw g),
-      stored _ _ _ (l .k) _ (omega arith) (l .inv .7) (rw g),
+      stored _ _ _ (l .k) _ (omega arith) (l .inv .5) refl,
+      stored _ _ _ (l .k) _ (omega arith) (l .inv .6) refl,
+      stored _ _ _ (l .k) _ (omega arith) (l .inv .7) refl,
     )
 
 same-length : tie.Need-same-length Inv-loop μ-loop
@@ -110,9 +106,8 @@ add-spec =
     Inv-loop
     μ-loop
     loop-holds
-    mul-intensity
-    element-copy-out-intensity
-    intensity-requires
+    mul-local
+    element-copy-out-local
     mul-r0
     slice-read-r0
     mul-r0-2
