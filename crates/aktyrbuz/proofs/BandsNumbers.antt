@@ -9,9 +9,9 @@ use Rattle.bands.specs.declared.BandsAnswer.{BandsAnswer}
 use Rattle.bands.specs.Calls.{BandsOutcome, leaves, bandsOf, bandOf}
 use Rattle.bands_laws.specs.Summaries.{Refreshes}
 use Rattle.bands_laws.specs.Summaries as runs
-use Rattle.aktyrbuz.specs.declared.Told.{Told}
-use Rattle.aktyrbuz.specs.Exported.{toldIn}
-use Rattle.aktyrbuz.specs.BandsExported.{toldBands, bandsLeaves, bandsExport}
+use Rattle.told.specs.declared.Told.{Told}
+use Rattle.told.specs.Told.{toldBands, toldIn}
+use Rattle.aktyrbuz.specs.BandsExported.{bandsLeaves, bandsExport}
 use Rattle.aktyrbuz.specs.BandsCalls.{BandsCall, makes, BandCall, refreshes, BandCalls}
 use Rattle.aktyrbuz.specs.BandsCalls as calls
 

@@ -6,9 +6,9 @@ use lib.IntN.{ℤ}
 use Rattle.checks.specs.Tables.{Table}
 use Rattle.makers.specs.declared.CheckAnswer.{CheckAnswer}
 use Rattle.makers.specs.Check.{checkOf}
-use Rattle.aktyrbuz.specs.declared.Told.{Told}
-use Rattle.aktyrbuz.specs.Exported.{toldIn}
-use Rattle.aktyrbuz.specs.MakersExported.{toldCheck, checkLeaves, checkExport}
+use Rattle.told.specs.declared.Told.{Told}
+use Rattle.told.specs.Told.{toldCheck, toldIn}
+use Rattle.aktyrbuz.specs.MakersExported.{checkLeaves, checkExport}
 use Rattle.aktyrbuz.specs.MakersCalls.{CheckCall, checks}
 
 pub check-exported : {o : CheckAnswer} (r : CheckAnswer) (t : Told) (five : List ℤ)

@@ -1,12 +1,8 @@
--- Signed numbers come back from their bits, and a layer's outcome is what its export leaves.
+-- A layer's outcome is what its export leaves.
 use mathlib.Core.Path.{_≡_}
 use mathlib.Core.List.{List}
 use Prim.Native.Nat.{ℕ}
-use native.Mathlib.Omega.{arith}
 use lib.IntN.{ℤ}
-use mir.Syntax.{w64}
-use mir.Val.{toZ, ofZ}
-use mir.Facts.{toZ-ofZ}
 use lib.Ieee.{Float}
 use Rattle.reader.specs.Read as Read
 use Rattle.reader.specs.declared.ReadAnswer.{ReadAnswer}
@@ -20,11 +16,9 @@ use Rattle.draw.specs.Draw as Draw
 use Rattle.hull.specs.Reach as Reach
 use Rattle.draw.specs.declared.DrawAnswer.{DrawAnswer}
 use Rattle.hull.specs.declared.ReachAnswer.{ReachAnswer}
-use Rattle.aktyrbuz.specs.declared.Told.{Told}
-use Rattle.aktyrbuz.specs.Exported.{signedOf, toldIn, toldRead, toldWrite, toldBuild, toldDraw, toldReach, toldHide, readLeaves, readExport, writeLeaves, writeExport, buildLeaves, buildExport, drawLeaves, drawExport, reachLeaves, reachExport, hideLeaves, hideExport}
-
-pub signed-back : (n : ℕ) → toZ w64 (ofZ w64 (signedOf n)) ≡ signedOf n
-signed-back n = toZ-ofZ {w = w64} {z = signedOf n} (record { sfits = omega arith })
+use Rattle.told.specs.declared.Told.{Told}
+use Rattle.told.specs.Told.{toldIn, toldRead, toldWrite, toldBuild, toldDraw, toldReach, toldHide}
+use Rattle.aktyrbuz.specs.Exported.{readLeaves, readExport, writeLeaves, writeExport, buildLeaves, buildExport, drawLeaves, drawExport, reachLeaves, reachExport, hideLeaves, hideExport}
 
 pub read-exported : {o : Read.ReadOutcome} (r : ReadAnswer) (t : Told) (five : List ℤ) (ns : List ℕ) (zs : List Float) (ds cs : List ℤ)
     → Read.leaves r ns zs ds cs ≡ o → t ≡ toldRead r → five ≡ toldIn t

@@ -10,9 +10,10 @@ use Rattle.profile.specs.declared.ProfileAnswer.{ProfileAnswer}
 use Rattle.profile.specs.Profile.{ProfileOutcome, tells, profileOf}
 use Rattle.profile_build.specs.declared.ProfileBuildAnswer.{ProfileBuildAnswer}
 use Rattle.profile_build.specs.Building.{ProfileBuildOutcome, leaves, buildProfileOf}
-use Rattle.aktyrbuz.specs.declared.Told.{Told}
-use Rattle.aktyrbuz.specs.Exported.{toldIn, buildLeaves}
-use Rattle.aktyrbuz.specs.ProfileExported.{toldProfile, toldProfileBuild, profileLeaves, profileExport, profileBuildExport}
+use Rattle.told.specs.declared.Told.{Told}
+use Rattle.told.specs.Told.{toldProfile, toldProfileBuild, toldIn}
+use Rattle.aktyrbuz.specs.Exported.{buildLeaves}
+use Rattle.aktyrbuz.specs.ProfileExported.{profileLeaves, profileExport, profileBuildExport}
 use Rattle.aktyrbuz.specs.ProfileCalls.{ProfileCall, checks, ProfileBuildCall, builds}
 
 pub profile-exported : {o : ProfileOutcome} (r : ProfileAnswer) (t : Told) (five : List ℤ)

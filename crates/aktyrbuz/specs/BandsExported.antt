@@ -1,15 +1,9 @@
 -- What the exports for a summary return and leave, as in Exported.antt. Definitions only.
 use mathlib.Core.List.{List}
 use Prim.Native.Nat.{ℕ}
-use lib.IntN.{ℤ, pos}
+use lib.IntN.{ℤ}
 use Rattle.bands.specs.Calls.{BandsOutcome}
-use Rattle.bands.specs.declared.BandsAnswer.{BandsAnswer}
-use Rattle.aktyrbuz.specs.declared.Told.{Told}
-use Rattle.aktyrbuz.specs.Exported.{toldRefusal, toldIn}
-
-abbrev pub toldBands : BandsAnswer → Told
-toldBands (BandsAnswer.Done n) = record { number = 0; place = pos 0; first = pos n; second = pos 0; third = pos 0; fourth = pos 0 }
-toldBands (BandsAnswer.Refused c p) = toldRefusal c p
+use Rattle.told.specs.Told.{toldBands, toldIn}
 
 pub record BandsExport : Type 0 where
   pub number : ℕ

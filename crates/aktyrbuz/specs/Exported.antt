@@ -1,60 +1,16 @@
 -- What the exported calls return and leave: a layer's outcome in the terms of the C interface. Definitions only.
 -- Five numbers tell an answer: the place, then the counts, then zeros.
-use mathlib.Core.List.{List, [], _∷_}
-use Prim.Native.Nat.{ℕ, _^_, _-_, min}
-use lib.IntN.{ℤ, pos}
+use mathlib.Core.List.{List}
+use Prim.Native.Nat.{ℕ}
+use lib.IntN.{ℤ}
 use lib.Ieee.{Float}
-use Rattle.codes.specs.Codes.{numberOf}
-use Rattle.codes.specs.declared.Code.{Code}
 use Rattle.reader.specs.Read.{ReadOutcome}
-use Rattle.reader.specs.declared.ReadAnswer.{ReadAnswer}
 use Rattle.writer.specs.Write.{WriteOutcome}
-use Rattle.writer.specs.declared.WriteAnswer.{WriteAnswer}
 use Rattle.table.specs.Table.{BuildOutcome}
-use Rattle.table.specs.declared.BuildAnswer.{BuildAnswer}
 use Rattle.draw.specs.Draw.{Channels, DrawOutcome}
 use Rattle.hull.specs.Reach.{ReachOutcome}
-use Rattle.draw.specs.declared.DrawAnswer.{DrawAnswer}
-use Rattle.hull.specs.declared.ReachAnswer.{ReachAnswer}
 use Rattle.desks.specs.Hide.{HideOutcome}
-use Rattle.desks.specs.declared.HideAnswer.{HideAnswer}
-use Rattle.aktyrbuz.specs.declared.Told.{Told}
-
--- a number as an int64_t
-abbrev pub signedOf : ℕ → ℤ
-signedOf n = pos (min n (2 ^ 63 - 1))
-
--- a success is number 0 at place 0; a refusal has counts of 0
-abbrev pub toldRefusal : Code → ℕ → Told
-toldRefusal c p = record { number = numberOf c; place = signedOf p; first = pos 0; second = pos 0; third = pos 0; fourth = pos 0 }
-
-abbrev pub toldRead : ReadAnswer → Told
-toldRead (ReadAnswer.Done s n a) = record { number = 0; place = pos 0; first = pos s; second = pos n; third = a; fourth = pos 0 }
-toldRead (ReadAnswer.Refused c p) = toldRefusal c p
-
-abbrev pub toldWrite : WriteAnswer → Told
-toldWrite (WriteAnswer.Done n) = record { number = 0; place = pos 0; first = signedOf n; second = pos 0; third = pos 0; fourth = pos 0 }
-toldWrite (WriteAnswer.Refused c p) = toldRefusal c p
-
-abbrev pub toldBuild : BuildAnswer → Told
-toldBuild (BuildAnswer.Done s n a f) = record { number = 0; place = pos 0; first = pos s; second = pos n; third = signedOf a; fourth = pos f }
-toldBuild (BuildAnswer.Refused c p) = toldRefusal c p
-
-abbrev pub toldDraw : DrawAnswer → Told
-toldDraw (DrawAnswer.Done n) = record { number = 0; place = pos 0; first = signedOf n; second = pos 0; third = pos 0; fourth = pos 0 }
-toldDraw (DrawAnswer.Refused c p) = toldRefusal c p
-
-abbrev pub toldReach : ReachAnswer → Told
-toldReach (ReachAnswer.Done a e) = record { number = 0; place = pos 0; first = pos a; second = pos e; third = pos 0; fourth = pos 0 }
-toldReach (ReachAnswer.Refused c p) = toldRefusal c p
-
-abbrev pub toldHide : HideAnswer → Told
-toldHide HideAnswer.Done = record { number = 0; place = pos 0; first = pos 0; second = pos 0; third = pos 0; fourth = pos 0 }
-toldHide (HideAnswer.Refused c p) = toldRefusal c p
-
--- the five numbers
-abbrev pub toldIn : Told → List ℤ
-toldIn t = t .place ∷ t .first ∷ t .second ∷ t .third ∷ t .fourth ∷ []
+use Rattle.told.specs.Told.{toldRead, toldWrite, toldBuild, toldDraw, toldReach, toldHide, toldIn}
 
 -- the number returned, the five numbers, and every lent cell
 pub record ReadExport : Type 0 where

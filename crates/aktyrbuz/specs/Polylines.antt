@@ -4,7 +4,7 @@ use Prim.Native.Nat.{ℕ}
 use lib.IntN.{ℤ}
 use lib.Ieee.{Float}
 use Rattle.polyline.specs.Read.{PointsOutcome}
-use Rattle.aktyrbuz.specs.Exported.{toldIn, toldWrite}
+use Rattle.told.specs.Told.{toldWrite, toldIn}
 
 pub record PointsExport : Type 0 where
   pub number : ℕ

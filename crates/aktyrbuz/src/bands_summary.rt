@@ -4,27 +4,9 @@ ghost use lib.ListN.{length};
 ghost use Rattle.desks.specs.Desks.{sightOf};
 ghost use Rattle.checks.specs.Tables.{tableOf};
 ghost use Rattle.bands.specs.Calls.{bandsOf, bandOf};
-ghost use Rattle.aktyrbuz.specs.BandsExported.{toldBands, bandsLeaves, bandsExport};
-use super::Told;
-use super::tell;
-use super::told_refusal;
-use bands::BandsAnswer;
-
-fn told_bands(answer: BandsAnswer) -> Told
-    ensures { λ r. ⌜ r ≡ toldBands answer ⌝ }
-{
-    match answer {
-        BandsAnswer::Done(bands) => Told {
-            number: 0,
-            place: 0,
-            first: bands as i64,
-            second: 0,
-            third: 0,
-            fourth: 0,
-        },
-        BandsAnswer::Refused(code, place) => told_refusal(code, place),
-    }
-}
+ghost use Rattle.aktyrbuz.specs.BandsExported.{bandsLeaves, bandsExport};
+use told::tell;
+use told::told_bands;
 
 #[no_mangle]
 pub extern "C" fn aktyrbuz_bands(

@@ -1,27 +1,9 @@
 // The export for the shared bytes of two desks.
 ghost use mathlib.Core.Path.{_≡_};
 ghost use Rattle.desks.specs.Hide.{hideOf};
-ghost use Rattle.aktyrbuz.specs.Exported.{toldHide, hideLeaves, hideExport};
-use super::Told;
-use super::tell;
-use super::told_refusal;
-use desks::HideAnswer;
-
-fn told_hide(answer: HideAnswer) -> Told
-    ensures { λ r. ⌜ r ≡ toldHide answer ⌝ }
-{
-    match answer {
-        HideAnswer::Done => Told {
-            number: 0,
-            place: 0,
-            first: 0,
-            second: 0,
-            third: 0,
-            fourth: 0,
-        },
-        HideAnswer::Refused(code, place) => told_refusal(code, place),
-    }
-}
+ghost use Rattle.aktyrbuz.specs.Exported.{hideLeaves, hideExport};
+use told::tell;
+use told::told_hide;
 
 #[no_mangle]
 pub extern "C" fn aktyrbuz_hide(

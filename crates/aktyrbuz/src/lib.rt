@@ -11,7 +11,7 @@ ghost use Rattle.table.specs.Table as build;
 ghost use Rattle.desks.specs.Desks.{sightOf};
 ghost use Rattle.draw.specs.Draw.{tableOf, three, drawOf};
 ghost use Rattle.hull.specs.Reach.{reachOf};
-ghost use Rattle.aktyrbuz.specs.Exported.{signedOf, toldIn, toldRefusal, toldRead, toldWrite, toldBuild, toldDraw, toldReach, readLeaves, readExport, writeLeaves, writeExport, buildLeaves, buildExport, drawLeaves, drawExport, reachLeaves, reachExport};
+ghost use Rattle.aktyrbuz.specs.Exported.{readLeaves, readExport, writeLeaves, writeExport, buildLeaves, buildExport, drawLeaves, drawExport, reachLeaves, reachExport};
 
 pub mod bands_summary;
 pub mod hiding;
@@ -21,12 +21,12 @@ pub mod profiles;
 pub mod trace_files;
 pub mod trace_files2;
 
-use codes::Code;
-use draw::DrawAnswer;
-use hull::ReachAnswer;
-use reader::ReadAnswer;
-use table::BuildAnswer;
-use writer::WriteAnswer;
+use told::tell;
+use told::told_build;
+use told::told_draw;
+use told::told_reach;
+use told::told_read;
+use told::told_write;
 
 // The natural logarithm of an f32.
 #[no_mangle]
@@ -34,139 +34,6 @@ pub extern "C" fn aktyrbuz_ln(x: f32) -> f32
     ensures { λ r. ⌜ r ≡ lnOf x ⌝ }
 {
     numbers::ln(x)
-}
-
-// A number as C's int64_t. No slice has 2^63 cells, so no place is cut.
-fn signed(n: usize) -> i64
-    ensures { λ r. ⌜ r ≡ signedOf n ⌝ }
-{
-    if n < 9223372036854775808 {
-        n as i64
-    } else {
-        9223372036854775807
-    }
-}
-
-// A call's answer for C: the code's number, and what the five numbers tell.
-struct Told {
-    number: u32,
-    place: i64,
-    first: i64,
-    second: i64,
-    third: i64,
-    fourth: i64,
-}
-
-fn told_refusal(code: Code, place: usize) -> Told
-    ensures { λ r. ⌜ r ≡ toldRefusal code place ⌝ }
-{
-    Told {
-        number: codes::number_of(code),
-        place: signed(place),
-        first: 0,
-        second: 0,
-        third: 0,
-        fourth: 0,
-    }
-}
-
-fn told_read(answer: ReadAnswer) -> Told
-    ensures { λ r. ⌜ r ≡ toldRead answer ⌝ }
-{
-    match answer {
-        ReadAnswer::Done(splines, points, adjustment) => Told {
-            number: 0,
-            place: 0,
-            first: splines as i64,
-            second: points as i64,
-            third: adjustment as i64,
-            fourth: 0,
-        },
-        ReadAnswer::Refused(code, place) => told_refusal(code, place),
-    }
-}
-
-fn told_write(answer: WriteAnswer) -> Told
-    ensures { λ r. ⌜ r ≡ toldWrite answer ⌝ }
-{
-    match answer {
-        WriteAnswer::Done(values) => Told {
-            number: 0,
-            place: 0,
-            first: signed(values),
-            second: 0,
-            third: 0,
-            fourth: 0,
-        },
-        WriteAnswer::Refused(code, place) => told_refusal(code, place),
-    }
-}
-
-fn told_build(answer: BuildAnswer) -> Told
-    ensures { λ r. ⌜ r ≡ toldBuild answer ⌝ }
-{
-    match answer {
-        BuildAnswer::Done(segments, entries, estimate, faint) => Told {
-            number: 0,
-            place: 0,
-            first: segments as i64,
-            second: entries as i64,
-            third: signed(estimate as usize),
-            fourth: faint as i64,
-        },
-        BuildAnswer::Refused(code, place) => told_refusal(code, place),
-    }
-}
-
-fn told_draw(answer: DrawAnswer) -> Told
-    ensures { λ r. ⌜ r ≡ toldDraw answer ⌝ }
-{
-    match answer {
-        DrawAnswer::Done(updates) => Told {
-            number: 0,
-            place: 0,
-            first: signed(updates as usize),
-            second: 0,
-            third: 0,
-            fourth: 0,
-        },
-        DrawAnswer::Refused(code, place) => told_refusal(code, place),
-    }
-}
-
-fn told_reach(answer: ReachAnswer) -> Told
-    ensures { λ r. ⌜ r ≡ toldReach answer ⌝ }
-{
-    match answer {
-        ReachAnswer::Done(first, past) => Told {
-            number: 0,
-            place: 0,
-            first: first as i64,
-            second: past as i64,
-            third: 0,
-            fourth: 0,
-        },
-        ReachAnswer::Refused(code, place) => told_refusal(code, place),
-    }
-}
-
-// The five numbers.
-fn five(told: Told) -> [i64; 5]
-    ensures { λ r. ⌜ r ≡ toldIn told ⌝ }
-{
-    let place = told.place;
-    let first = told.first;
-    let second = told.second;
-    let third = told.third;
-    let fourth = told.fourth;
-    [place, first, second, third, fourth]
-}
-
-fn tell(answer: &mut [i64; 5], told: Told)
-    ensures { λ _. ⌜ now (answer .exit) ≡ toldIn told ⌝ }
-{
-    let numbers = five(told);
-    *answer = numbers;
 }
 
 #[no_mangle]

@@ -1,27 +1,9 @@
 // The export for a row table that another maker offers: its check.
 ghost use mathlib.Core.Path.{_≡_};
 ghost use Rattle.makers.specs.Check.{checkOf};
-ghost use Rattle.aktyrbuz.specs.MakersExported.{toldCheck, checkLeaves, checkExport};
-use super::Told;
-use super::tell;
-use super::told_refusal;
-use makers::CheckAnswer;
-
-fn told_check(answer: CheckAnswer) -> Told
-    ensures { λ r. ⌜ r ≡ toldCheck answer ⌝ }
-{
-    match answer {
-        CheckAnswer::Done(entries) => Told {
-            number: 0,
-            place: 0,
-            first: entries as i64,
-            second: 0,
-            third: 0,
-            fourth: 0,
-        },
-        CheckAnswer::Refused(code, place) => told_refusal(code, place),
-    }
-}
+ghost use Rattle.aktyrbuz.specs.MakersExported.{checkLeaves, checkExport};
+use told::tell;
+use told::told_check;
 
 #[no_mangle]
 pub extern "C" fn aktyrbuz_check(

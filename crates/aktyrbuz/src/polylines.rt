@@ -5,8 +5,8 @@ ghost use Rattle.polyline.specs.Read.{readPointsOf};
 ghost use Rattle.polyline.specs.Write.{writePointsOf};
 ghost use Rattle.aktyrbuz.specs.Exported.{writeLeaves, writeExport};
 ghost use Rattle.aktyrbuz.specs.Polylines.{pointsLeaves, pointsExport};
-use super::tell;
-use super::told_write;
+use told::tell;
+use told::told_write;
 
 #[no_mangle]
 pub extern "C" fn aktyrbuz_points_read(

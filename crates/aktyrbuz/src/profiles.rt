@@ -5,40 +5,10 @@ ghost use Rattle.table.specs.Table.{settingOf, roomsOf};
 ghost use Rattle.profile.specs.Profile.{profileOf};
 ghost use Rattle.profile_build.specs.Building.{buildProfileOf};
 ghost use Rattle.aktyrbuz.specs.Exported.{buildLeaves};
-ghost use Rattle.aktyrbuz.specs.ProfileExported.{toldProfile, toldProfileBuild, profileLeaves, profileExport, profileBuildExport};
-use super::Told;
-use super::signed;
-use super::tell;
-use profile::ProfileAnswer;
-use profile_build::ProfileBuildAnswer;
-
-fn told_profile(answer: ProfileAnswer) -> Told
-    ensures { λ r. ⌜ r ≡ toldProfile answer ⌝ }
-{
-    let told = profile::told(answer);
-    Told {
-        number: told.number,
-        place: signed(told.place),
-        first: told.first as i64,
-        second: 0,
-        third: 0,
-        fourth: 0,
-    }
-}
-
-fn told_profile_build(answer: ProfileBuildAnswer) -> Told
-    ensures { λ r. ⌜ r ≡ toldProfileBuild answer ⌝ }
-{
-    let told = profile_build::told(answer);
-    Told {
-        number: told.number,
-        place: signed(told.place),
-        first: told.first as i64,
-        second: told.second as i64,
-        third: signed(told.third as usize),
-        fourth: told.fourth as i64,
-    }
-}
+ghost use Rattle.aktyrbuz.specs.ProfileExported.{profileLeaves, profileExport, profileBuildExport};
+use told::tell;
+use told::told_profile;
+use told::told_profile_build;
 
 #[no_mangle]
 pub extern "C" fn aktyrbuz_profile(

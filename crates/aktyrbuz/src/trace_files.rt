@@ -5,9 +5,9 @@ ghost use Rattle.reader.specs.Read.{roomsOf};
 ghost use Rattle.trace.specs.Read.{readTraceOf};
 ghost use Rattle.trace.specs.Write.{writeTraceOf};
 ghost use Rattle.aktyrbuz.specs.Exported.{readLeaves, readExport, writeLeaves, writeExport};
-use super::tell;
-use super::told_read;
-use super::told_write;
+use told::tell;
+use told::told_read;
+use told::told_write;
 
 #[no_mangle]
 pub extern "C" fn aktyrbuz_trace_read(

@@ -5,28 +5,10 @@ ghost use Rattle.reader.specs.Read.{roomsOf};
 ghost use Rattle.trace2.specs.Read.{readFileOf};
 ghost use Rattle.trace2.specs.Write.{writeFileOf};
 ghost use Rattle.aktyrbuz.specs.Exported.{readLeaves, writeLeaves, writeExport};
-ghost use Rattle.aktyrbuz.specs.Trace2Exported.{toldFile, fileExport};
-use super::Told;
-use super::tell;
-use super::told_refusal;
-use super::told_write;
-use trace2::FileAnswer;
-
-fn told_file(answer: FileAnswer) -> Told
-    ensures { λ r. ⌜ r ≡ toldFile answer ⌝ }
-{
-    match answer {
-        FileAnswer::Done(splines, points, adjustment, edition) => Told {
-            number: 0,
-            place: 0,
-            first: splines as i64,
-            second: points as i64,
-            third: adjustment as i64,
-            fourth: edition as i64,
-        },
-        FileAnswer::Refused(code, place) => told_refusal(code, place),
-    }
-}
+ghost use Rattle.aktyrbuz.specs.Trace2Exported.{fileExport};
+use told::tell;
+use told::told_file;
+use told::told_write;
 
 #[no_mangle]
 pub extern "C" fn aktyrbuz_trace_read2(

@@ -5,8 +5,8 @@ use lib.IntN.{ℤ}
 use lib.Ieee.{Float}
 use Rattle.writer.specs.declared.WriteAnswer.{WriteAnswer}
 use Rattle.polyline.specs.Read.{PointsOutcome, leaves}
-use Rattle.aktyrbuz.specs.Exported.{toldIn, toldWrite}
-use Rattle.aktyrbuz.specs.declared.Told.{Told}
+use Rattle.told.specs.Told.{toldWrite, toldIn}
+use Rattle.told.specs.declared.Told.{Told}
 use Rattle.aktyrbuz.specs.Polylines.{pointsLeaves, pointsExport}
 use borrow.Author.Needs.{needs}
 use Rattle.aktyrbuz.proofs.polylines.aktyrbuz_points_read.Statement.{statement}

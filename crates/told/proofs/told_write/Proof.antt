@@ -1,0 +1,49 @@
+-- `told_write` meets its contract: in each arm the answer is known.
+use mathlib.Core.Path.{_≡_, ap}
+use lib.IntN.{ℤ, pos}
+use mir.Syntax.{w64}
+use mir.Val.{toZ, ofZ}
+use Rattle.told.specs.declared.Told.{Told}
+use Rattle.told.specs.Told.{signedOf}
+use Rattle.told.proofs.Numbers.{signed-back}
+use borrow.Author.Needs.{needs}
+use Rattle.told.proofs.told_write.Statement.{statement}
+use Rattle.told.proofs.told_write.Tie as tie
+
+-- a success with one count
+abbrev counted : ℤ → Told
+counted z = record { number = 0; place = pos 0; first = z; second = pos 0; third = pos 0; fourth = pos 0 }
+
+enum-known-answer : tie.Need-enum-known-answer
+enum-known-answer c = search needs
+
+signed-requires : tie.Need-signed-requires
+signed-requires c κs = search needs
+
+enum-known-answer-2 : tie.Need-enum-known-answer-2
+enum-known-answer-2 c = search needs
+
+told-refusal-requires : tie.Need-told-refusal-requires
+told-refusal-requires c κs = search needs
+
+returns : tie.Need-returns
+returns c =
+    let n = c .before .before .answer .given .0 .0 in
+    let is : toZ w64 (ofZ w64 (c .signed .result)) ≡ signedOf n = rw (c .signed .ensures) (signed-back n) in
+    rw (c .before .before .answer .given .1) (ap counted is)
+
+returns-2 : tie.Need-returns-2
+returns-2 c = rw (c .before .before .answer2 .given .1) (c .told-refusal .ensures)
+
+pub told-write-spec : {M : Type 1} → statement M
+told-write-spec =
+    tie.close
+    (tie.spec
+    enum-known-answer
+    signed-requires
+    enum-known-answer-2
+    told-refusal-requires
+    returns
+    returns-2)
+
+-- Assumes nothing.
