@@ -31,7 +31,7 @@ returns-2 c =
     list-stop _ Code.Splines 0 _ _ _ _ _ _ _ _ (read-splines (a .limit) (roomsOf (a .counts .now) (a .starts .now) (a .deltas .now) (a .coefficients .now)) (a .list .now) (c .before .before .v .given .0 .0) (sym (c .before .before .before .before .head .ensures) ∙ c .before .before .v .given .1) (omega arith))
 
 add-s : tie.Need-add-s
-add-s c = search needs
+add-s c = omega (arith, c .if1 .left)
 
 cast-n : tie.Need-cast-n
 cast-n c = search needs
