@@ -381,7 +381,7 @@ pub fn make(
 ) -> BandsAnswer
     ensures { λ r. ⌜ leaves r (now (cells .exit)) ≡ bandsOf (tableOf (now (segments .entry)) «segment_count» (now (entries .entry)) «entry_count» (now («row_starts» .entry)) height) (sightOf (now (owners .entry)) splines (now (bits .entry)) desk) width (length (now (cells .entry))) ⌝ }
 {
-    list::clear_u32(cells);
+    buffers::clear_u32(cells);
     match judge(
         segments,
         owners,
@@ -414,7 +414,7 @@ pub fn make(
             ) {
                 return BandsAnswer::Done(bands_in(height));
             }
-            list::clear_u32(cells);
+            buffers::clear_u32(cells);
             BandsAnswer::Refused(Code::Table, 0)
         }
     }

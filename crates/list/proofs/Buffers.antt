@@ -1,35 +1,29 @@
--- Lists that a loop fills from the front, parts of a list, and the next value: laws by recursion on the list.
-use mathlib.Core.Path.{_≡_, refl, ap}
-use mathlib.Core.List.{List, [], _∷_, _++_}
-use Prim.Native.Nat.{ℕ, zero, suc, _+_, _-_, _≤_, _<_}
-use native.Mathlib.Nat.{not-suc-le-zero, le-of-suc-le-suc}
-use native.Mathlib.Numerals.{add-one}
+-- Parts of a list, cells that are zero, and the next value.
+use mathlib.Core.Path.{_≡_, refl, ap, _∙_}
+use mathlib.Core.List.{List, [], _∷_}
+use Prim.Native.Nat.{ℕ, _-_, _≤_, _<_}
+use native.Mathlib.Nat.{not-suc-le-zero}
 use native.Mathlib.Omega.{arith}
-use lib.ListN.{length, take, drop, set, getD, replicate, length-drop}
+use lib.ListN.{length, take, drop, getD, replicate, length-drop}
 use lib.Seq.{take-all}
-use Rattle.list.specs.Steps.{nextOf}
+use lib.Ieee.{Float, binary32, ofInt, ofBits}
+use Rattle.list.specs.Steps.{nextOf, zeroF32}
 use Rattle.list.specs.declared.Next.{Next}
 
 module _ {A : Type 0} where
-  fill-suc : (n : ℕ) (v : A) (d : List A) → n < length d → set (replicate n v ++ drop n d) n v ≡ replicate (suc n) v ++ drop (suc n) d
-  fill-suc n v [] l = absurd (not-suc-le-zero l)
-  fill-suc zero v (x ∷ d) l = refl
-  fill-suc (suc n) v (x ∷ d) l = ap (λ (t : List A). v ∷ t) (fill-suc n v d (le-of-suc-le-suc l))
-
-  -- one more cell holds v
-  pub fill-more : (n : ℕ) (v : A) (d : List A) → n < length d → set (replicate n v ++ drop n d) n v ≡ replicate (n + 1) v ++ drop (n + 1) d
-  fill-more n v d l = rw add-one (fill-suc n v d l)
-
-  -- every cell holds v
-  pub fill-all : (n : ℕ) (v : A) (d : List A) → length d ≤ n → n ≤ length d → replicate n v ++ drop n d ≡ replicate (length d) v
-  fill-all zero v [] h g = refl
-  fill-all (suc n) v [] h g = absurd (not-suc-le-zero g)
-  fill-all zero v (x ∷ d) h g = absurd (not-suc-le-zero h)
-  fill-all (suc n) v (x ∷ d) h g = ap (λ (t : List A). v ∷ t) (fill-all n v d (le-of-suc-le-suc h) (le-of-suc-le-suc g))
-
   -- the part from k to the end is what is left after k
   pub part-tail : (k : ℕ) (l : List A) → take (length l - k) (drop k l) ≡ drop k l
   part-tail k l = take-all (length l - k) (drop k l) (omega (arith, length-drop k l))
+
+-- ---- zeros
+
+-- the bits that are all 0 are those of zero
+zero-bits : ofBits binary32 0 ≡ zeroF32
+unfolding ofInt ofBits
+zero-bits = refl
+
+pub zeros-f32 : (n : ℕ) {l : List Float} → l ≡ replicate n (ofBits binary32 0) → l ≡ replicate n zeroF32
+zeros-f32 n h = h ∙ ap (replicate n) zero-bits
 
 -- ---- the next value
 

@@ -1,9 +1,7 @@
-// The value list: signed values, the limit, the next value, and buffers set to zero.
+// The value list: signed values, the limit, and the next value.
 ghost use mathlib.Core.Path.{_≡_};
-ghost use lib.IntN.{pos};
-ghost use lib.ListN.{length, replicate};
 ghost use Rattle.list.specs.List.{unpackSigned, packSigned, limitOf};
-ghost use Rattle.list.specs.Steps.{nextOf, zeroF32};
+ghost use Rattle.list.specs.Steps.{nextOf};
 
 pub enum Next {
     Value(u32),
@@ -44,34 +42,4 @@ pub fn limit(configured: u32, pixels: u32) -> u32
 {
     let half = pixels / 2;
     if configured < half { configured } else { half }
-}
-
-pub fn clear_u32(s: &mut [u32])
-    ensures { λ _. ⌜ now (s .exit) ≡ replicate (length (now (s .entry))) 0 ⌝ }
-{
-    let mut i = 0;
-    while i < s.len() {
-        s[i] = 0;
-        i += 1;
-    }
-}
-
-pub fn clear_i32(s: &mut [i32])
-    ensures { λ _. ⌜ now (s .exit) ≡ replicate (length (now (s .entry))) (pos 0) ⌝ }
-{
-    let mut i = 0;
-    while i < s.len() {
-        s[i] = 0;
-        i += 1;
-    }
-}
-
-pub fn clear_f32(s: &mut [f32])
-    ensures { λ _. ⌜ now (s .exit) ≡ replicate (length (now (s .entry))) zeroF32 ⌝ }
-{
-    let mut i = 0;
-    while i < s.len() {
-        s[i] = 0.0;
-        i += 1;
-    }
 }

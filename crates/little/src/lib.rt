@@ -1,7 +1,7 @@
 // Numbers of four bytes, the least byte first: the number at an index of a slice of bytes, as it is or as a signed one, and a number put there.
 ghost use mathlib.Core.Path.{_≡_};
 ghost use Prim.Native.Nat.{_+_, _*_, _≤_, _<_};
-ghost use lib.ListN.{length, getD, replicate};
+ghost use lib.ListN.{length, getD};
 ghost use lib.Seq.{sets};
 ghost use Rattle.little.specs.Little.{fourOf, numbersIn, unsignedOf, signedIn};
 
@@ -53,14 +53,4 @@ pub fn put_number(bytes: &mut [u8], i: usize, number: u32)
     bytes[at + 1] = (number / 256 % 256) as u8;
     bytes[at + 2] = (number / 65536 % 256) as u8;
     bytes[at + 3] = (number / 16777216 % 256) as u8;
-}
-
-pub fn clear_u8(bytes: &mut [u8])
-    ensures { λ _. ⌜ now (bytes .exit) ≡ replicate (length (now (bytes .entry))) 0 ⌝ }
-{
-    let mut i = 0;
-    while i < bytes.len() {
-        bytes[i] = 0;
-        i += 1;
-    }
 }

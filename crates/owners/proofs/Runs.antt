@@ -1,10 +1,10 @@
--- One value in adjacent cells, one more at a time; up to the last cell.
-use mathlib.Core.Path.{_≡_, refl, sym, ap, _∙_}
-use mathlib.Core.List.{List, [], _∷_, _++_, append-nil}
+-- One value in adjacent cells, one more at a time.
+use mathlib.Core.Path.{_≡_, sym, ap, _∙_}
+use mathlib.Core.List.{List, [], _∷_}
 use Prim.Native.Nat.{ℕ, _+_, _-_, _≤_}
 use native.Mathlib.Omega.{arith}
-use lib.ListN.{length, take, drop, set, replicate, length-replicate, replicate-append-replicate, drop-of-length-le}
-use lib.Seq.{sets, sets-eq}
+use lib.ListN.{set, replicate, length-replicate, replicate-append-replicate}
+use lib.Seq.{sets}
 use Rattle.buffers.proofs.Fronts.{sets-more}
 
 module _ {A : Type 0} (z : A) (o : List A) (k : ℕ) where
@@ -16,13 +16,5 @@ module _ {A : Type 0} (z : A) (o : List A) (k : ℕ) where
       let e : i + 1 - k ≡ i - k + 1 = omega arith in
       sets-more (replicate (i - k) z) (z ∷ []) o k i (omega (arith, length-replicate (i - k) z))
       ∙ ap (sets o k) (replicate-append-replicate (i - k) 1 z ∙ ap (λ (n : ℕ). replicate n z) (sym e))
-
-  pub run-to-end : k ≤ length o → sets o k (replicate (length o - k) z) ≡ take k o ++ replicate (length o - k) z
-  run-to-end h =
-      let n = length o - k in
-      let e = length-replicate n z in
-      let l : length o ≤ k + length (replicate n z) = omega arith in
-      let d : drop (k + length (replicate n z)) o ≡ [] = drop-of-length-le o l in
-      sets-eq (replicate n z) o k (omega arith) ∙ rw (d, append-nil)
 
 -- Assumes nothing.

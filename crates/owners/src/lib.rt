@@ -1,8 +1,7 @@
 // The owners of the segments, each the number of the spline that made it: the room for segments that have one, and one number in adjacent cells.
 ghost use mathlib.Core.Path.{_≡_};
-ghost use mathlib.Core.List.{_++_};
 ghost use Prim.Native.Nat.{_-_, _≤_, min};
-ghost use lib.ListN.{length, take, replicate};
+ghost use lib.ListN.{length, replicate};
 ghost use lib.Seq.{sets};
 ghost use Rattle.owners.specs.Owners.{ownedRoom};
 
@@ -31,12 +30,4 @@ pub fn fill(owners: &mut [u64], from: usize, to: usize, k: usize)
         owners[i] = k as u64;
         i += 1;
     }
-}
-
-// Zeros from cell k on.
-pub fn clear(owners: &mut [u64], k: usize)
-    requires { ⌜ k ≤ length (now owners) ⌝ }
-    ensures { λ _. ⌜ now (owners .exit) ≡ take k (now (owners .entry)) ++ replicate (length (now (owners .entry)) - k) 0 ⌝ }
-{
-    fill(owners, k, owners.len(), 0);
 }

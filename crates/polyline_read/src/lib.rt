@@ -1,10 +1,10 @@
 // Reads a points text into a lent start and lent double deltas, with zeros behind, or says what is wrong and where.
 // The form is judged first. Then the text is gone through byte by byte, and each pair is judged and its double delta stored when it ends.
+use buffers::clear_f32;
+use buffers::clear_i32;
 use codes::Code;
 use dequantize::control_points::Pair;
 use dequantize::control_points::Place;
-use list::clear_f32;
-use list::clear_i32;
 use polyline::Figure;
 use polyline::Judged;
 use polyline::Spot;

@@ -1,5 +1,6 @@
 // Writes the control points of one spline as a points text, with zeros behind, or says why they can't be written.
 // The spline is judged as building does, but for its length and area, and by itself: no other spline's points are looked at.
+use buffers::clear_u8;
 use codes::Code;
 use decimal::put_byte;
 use decimal::put_number;
@@ -7,7 +8,6 @@ use dequantize::control_points::Pair;
 use dequantize::control_points::Place;
 use dequantize::control_points::Start;
 use dequantize::control_points::starting_point;
-use little::clear_u8;
 use polyline::Gone;
 use polyline_read::same;
 use polyline_read::valid;

@@ -1,10 +1,10 @@
 // Reads the value list into lent buffers: what it holds, with zeros behind, or a refusal that leaves them zero.
 // Each step takes the next value apart or stops with SHORT, and hands on the part of the list that begins after it.
+use buffers::clear_f32;
+use buffers::clear_i32;
+use buffers::clear_u32;
 use codes::Code;
 use list::Next;
-use list::clear_f32;
-use list::clear_i32;
-use list::clear_u32;
 use list::head;
 use list::limit;
 use list::unpack_signed;

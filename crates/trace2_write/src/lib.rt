@@ -1,7 +1,7 @@
 // Writes the trace file of a description in either version into lent bytes, with zeros behind, or says what can't be written and where.
 // Version 1 with edition 1 is left to `trace_write`; the steps here are those of a header of nine numbers, the ninth of which is the edition.
+use buffers::clear_u8;
 use codes::Code;
-use little::clear_u8;
 use little::unsigned;
 use shape::shape_good;
 use trace_fit::judge;

@@ -1,7 +1,7 @@
 // Writes the trace file of a description into lent bytes, with zeros behind, or says what can't be written and where.
 // `from` is the number of the file at which a part begins.
+use buffers::clear_u8;
 use codes::Code;
-use little::clear_u8;
 use little::put_number;
 use little::unsigned;
 use trace_fit::judge;

@@ -4,14 +4,17 @@ ghost use mathlib.Core.List.{_++_};
 ghost use Prim.Native.Nat.{_-_, _*_, _≤_};
 ghost use lib.ListN.{length, take, replicate};
 ghost use lib.Ieee.{binary32, ofBits};
+use buffers::clear_f32;
+use buffers::clear_u32;
+use buffers::clear_u64;
 
 // The cells that a build works in.
 fn wipe_working(path: &mut [f32], walk: &mut [f32])
     ensures { λ _. ⌜ now (path .exit) ≡ replicate (length (now (path .entry))) (ofBits binary32 0) ⌝ }
     ensures { λ _. ⌜ now (walk .exit) ≡ replicate (length (now (walk .entry))) (ofBits binary32 0) ⌝ }
 {
-    buffers::clear(path, 0);
-    buffers::clear(walk, 0);
+    clear_f32(path);
+    clear_f32(walk);
 }
 
 // Every lent cell.
@@ -31,10 +34,10 @@ pub fn wipe(
     ensures { λ _. ⌜ now (entries .exit) ≡ replicate (length (now (entries .entry))) 0 ⌝ }
 {
     wipe_working(path, walk);
-    buffers::clear(segments, 0);
-    owners::clear(owners, 0);
-    rows::clear(row_starts, 0);
-    rows::clear(entries, 0);
+    clear_f32(segments);
+    clear_u64(owners);
+    clear_u32(row_starts);
+    clear_u32(entries);
 }
 
 // The working cells, and those of the segments and their owners behind the first `count`.
@@ -52,6 +55,7 @@ pub fn wipe_unused(
     ensures { λ _. ⌜ now (owners .exit) ≡ take count (now (owners .entry)) ++ replicate (length (now (owners .entry)) - count) 0 ⌝ }
 {
     wipe_working(path, walk);
-    buffers::clear(segments, 8 * count);
-    owners::clear(owners, count);
+    let used = 8 * count;
+    clear_f32(&mut segments[used..]);
+    clear_u64(&mut owners[count..]);
 }

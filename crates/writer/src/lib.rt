@@ -1,6 +1,6 @@
 // The writer: a description as a list of values.
+use buffers::clear_u32;
 use codes::Code;
-use list::clear_u32;
 use list::limit;
 use list::pack_signed;
 use shape::shape_good;

@@ -3,6 +3,7 @@ use mathlib.Core.Path.{sym, _∙_}
 use native.Mathlib.Omega.{arith}
 use denote.Ref.{now}
 use lib.ListN.{length}
+use Rattle.list.proofs.Buffers.{zeros-f32}
 use Rattle.polyline_read.proofs.Answers.{call-done, call-refused}
 use borrow.Author.Needs.{needs}
 use Rattle.polyline_read.proofs.points_read.Statement.{statement}
@@ -36,7 +37,7 @@ returns : tie.Need-returns
 returns c =
     let s = c .before .before .before .before .before .before .before .before .before .before .before .before .before .before .before .before .before .before in
     let t = c .before .before .before .before .before .before .read-text in
-    call-done (now (s .args .text)) (length (now (s .args .start))) (length (now (s .args .deltas))) _ _ _ _ (c .before .before .before .before .before .before .before .before .before .before .before .before .before .before .clear-f32 .ensures) (c .before .before .before .before .before .before .before .before .before .before .clear-i32 .ensures) _ (t .ensures) _ (c .before .n .given .1)
+    call-done (now (s .args .text)) (length (now (s .args .start))) (length (now (s .args .deltas))) _ _ _ _ (zeros-f32 (length (now (s .args .start))) (c .before .before .before .before .before .before .before .before .before .before .before .before .before .before .clear-f32 .ensures)) (c .before .before .before .before .before .before .before .before .before .before .clear-i32 .ensures) _ (t .ensures) _ (c .before .n .given .1)
 
 same-length-3 : tie.Need-same-length-3
 same-length-3 c = search needs
@@ -48,7 +49,7 @@ returns-2 : tie.Need-returns-2
 returns-2 c =
     let s = c .before .before .before .before .before .before .before .before .before .before .before .before .before .before .before .before .before .before .before .before .before in
     let t = c .before .before .before .before .before .before .before .before .before .read-text in
-    call-refused (now (s .args .text)) (length (now (s .args .start))) (length (now (s .args .deltas))) _ _ _ _ (c .before .before .before .before .before .before .before .before .before .before .before .before .before .before .before .before .before .clear-f32 .ensures) (c .before .before .before .before .before .before .before .before .before .before .before .before .before .clear-i32 .ensures) _ (t .ensures) _ _ _ (c .before .clear-i322 .ensures) (t .kept .1 .1 .0) (c .before .before .before .before .code .given .1)
+    call-refused (now (s .args .text)) (length (now (s .args .start))) (length (now (s .args .deltas))) _ _ _ _ (zeros-f32 (length (now (s .args .start))) (c .before .before .before .before .before .before .before .before .before .before .before .before .before .before .before .before .before .clear-f32 .ensures)) (c .before .before .before .before .before .before .before .before .before .before .before .before .before .clear-i32 .ensures) _ (t .ensures) _ _ _ (c .before .clear-i322 .ensures) (t .kept .1 .1 .0) (c .before .before .before .before .code .given .1)
 
 pub points-read-spec : {M : Type 1} → statement M
 points-read-spec =
