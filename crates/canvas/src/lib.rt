@@ -14,9 +14,9 @@ const BYTES: usize = 24576;
 // The bytes of the longest head, and more.
 const HEAD: usize = 64;
 
-// What is asked of a description: to be told, its rows, its bands, its picture, the traces that have the pixel in this column and row, why the segment of this number sits where it does, its row table, whether that in the file of this argument is it, whether it meets this edition of the profile, its trace file, its list, or its line drawing.
+// What is asked of a description: what it holds, its rows, its bands, its picture, the traces that have the pixel in this column and row, why the segment of this number sits where it does, its row table, whether that in the file of this argument is it, whether it meets this edition of the profile, its trace file, its list, or its line drawing.
 pub enum Asked {
-    Told,
+    Contents,
     Rows,
     Bands,
     Picture,

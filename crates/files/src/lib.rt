@@ -1,6 +1,8 @@
 // The bytes of a file, and the values of a text.
 ghost use mathlib.Core.Path.{_≡_};
 ghost use Prim.Native.Nat.{_≤_};
+ghost use lib.IntN.{negsuc};
+ghost use lib.Signed.{_≤ℤ_};
 ghost use Rattle.io.specs.Counts.{Counts};
 ghost use Rattle.files.specs.Loads.{statusIn};
 use text::Parsed;
@@ -81,14 +83,17 @@ pub fn say_long(i: usize, room: usize) -> u8
     )
 }
 
-// The file that argument i names, open; below 0 where it is not, after a line that says why.
-fn open(i: usize) -> i32 {
+// The file that argument i names, open; -1 where it is not, after a line that says why.
+pub fn open(i: usize) -> i32
+    ensures { λ r. ⌜ negsuc 0 ≤ℤ r ⌝ }
+{
     let mut held = io::buffer();
     let n = os::arg(i, &mut held);
     let path = &held[..n];
     let fd = os::open_read(path);
     if fd < 0 {
         os::fail(path);
+        return -1;
     }
     fd
 }

@@ -13,7 +13,7 @@ use commands::Command;
 use drawing::Wanted;
 use files::Loaded;
 use options::Options;
-use rooms::Told;
+use rooms::Tried;
 
 // As many as a list of 4096 splines and 2^20 points has.
 const VALUES: usize = 2633730;
@@ -116,25 +116,25 @@ fn perform_long(i: usize, fd: i32, task: Task) -> u8 {
 }
 
 // What a list holds, the first n of the values.
-fn tell_first(values: &[u32], n: usize) -> Told {
+fn tell_first(values: &[u32], n: usize) -> Tried {
     if values.len() < n {
-        return Told::Status(2);
+        return Tried::Status(2);
     }
     rooms::tell_list(&values[0..n])
 }
 
-fn tell_text(i: usize, text: &[u8], values: &mut [u32; SHORT_VALUES]) -> Told {
+fn tell_text(i: usize, text: &[u8], values: &mut [u32; SHORT_VALUES]) -> Tried {
     match files::parse(i, text, values) {
-        Loaded::Long => Told::Room,
-        Loaded::Status(status) => Told::Status(status),
+        Loaded::Long => Tried::Room,
+        Loaded::Status(status) => Tried::Status(status),
         Loaded::Count(n) => tell_first(values, n),
     }
 }
 
 // What the first n bytes hold, which the file that argument i names has.
-fn tell_bytes(i: usize, bytes: &[u8], n: usize, values: &mut [u32; SHORT_VALUES]) -> Told {
+fn tell_bytes(i: usize, bytes: &[u8], n: usize, values: &mut [u32; SHORT_VALUES]) -> Tried {
     if bytes.len() < n {
-        return Told::Status(2);
+        return Tried::Status(2);
     }
     match kind_at(i) {
         Kind::Trace => rooms::tell_trace(&bytes[0..n]),
@@ -147,31 +147,19 @@ fn tell_in(
     fd: i32,
     bytes: &mut [u8; SHORT_BYTES],
     values: &mut [u32; SHORT_VALUES],
-) -> Told {
+) -> Tried {
     match files::fill(i, fd, bytes) {
-        Loaded::Long => Told::Room,
-        Loaded::Status(status) => Told::Status(status),
+        Loaded::Long => Tried::Room,
+        Loaded::Status(status) => Tried::Status(status),
         Loaded::Count(n) => tell_bytes(i, bytes, n, values),
     }
 }
 
 // What an open file holds, in rooms that fit a small stack.
-fn tell_short(i: usize, fd: i32) -> Told {
+fn tell_short(i: usize, fd: i32) -> Tried {
     let mut bytes = [0u8; SHORT_BYTES];
     let mut values = [0u32; SHORT_VALUES];
     tell_in(i, fd, &mut bytes, &mut values)
-}
-
-// The file that argument i names, open; below 0 where it is not, after a line that says why.
-fn open(i: usize) -> i32 {
-    let mut held = io::buffer();
-    let n = os::arg(i, &mut held);
-    let path = &held[..n];
-    let fd = os::open_read(path);
-    if fd < 0 {
-        os::fail(path);
-    }
-    fd
 }
 
 // What an open file holds. One that is too long is read again; a pipe, which has no position, can be read only once.
@@ -180,8 +168,8 @@ fn read_open(i: usize, fd: i32, task: Task) -> u8 {
         return perform_long(i, fd, task);
     }
     match tell_short(i, fd) {
-        Told::Status(status) => status,
-        Told::Room => {
+        Tried::Status(status) => status,
+        Tried::Room => {
             libc::lseek(fd, 0, libc::SEEK_SET);
             perform_long(i, fd, task)
         }
@@ -189,7 +177,7 @@ fn read_open(i: usize, fd: i32, task: Task) -> u8 {
 }
 
 fn perform(i: usize, task: Task) -> u8 {
-    let fd = open(i);
+    let fd = files::open(i);
     if fd < 0 {
         return 2;
     }
@@ -216,11 +204,11 @@ fn task(options: Options, width: u32, height: u32, asked: Asked) -> Task {
 }
 
 fn read(i: u8, options: Options) -> u8 {
-    let fd = open(i as usize);
+    let fd = files::open(i as usize);
     if fd < 0 {
         return 2;
     }
-    let status = read_open(i as usize, fd, task(options, 0, 0, Asked::Told));
+    let status = read_open(i as usize, fd, task(options, 0, 0, Asked::Contents));
     libc::close(fd);
     status
 }

@@ -1,2 +1,2 @@
 -- The definitions of the crate `rooms`.
-pub mod Tells
+pub mod Tries

@@ -6,7 +6,7 @@ ghost use Prim.Native.Nat.{_≤_};
 use canvas::Asked;
 use canvas::Task;
 use reader::ReadAnswer;
-pub use short::Told;
+pub use short::Tried;
 pub use short::tell_list;
 pub use short::tell_trace;
 use trace2::FileAnswer;
@@ -65,7 +65,7 @@ fn answer(
 {
     let asked = task.asked;
     match asked {
-        Asked::Told => telling::say(counts, starts, deltas.len() / 2, adjustment, source),
+        Asked::Contents => telling::say(counts, starts, deltas.len() / 2, adjustment, source),
         Asked::Trace => {
             let fd = task.fd;
             let edition = task.edition;

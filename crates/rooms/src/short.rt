@@ -1,6 +1,6 @@
 // `gauge read` in rooms that are soon cleared and fit a small stack; a description that is too long for them is left to the others.
 ghost use Prim.Native.Nat.{_≤_};
-ghost use Rattle.rooms.specs.Tells.{statusIn};
+ghost use Rattle.rooms.specs.Tries.{triedStatus};
 use crate::Source;
 use crate::telling;
 use codes::Code;
@@ -16,7 +16,7 @@ const DELTAS: usize = 32768;
 const COEFFICIENTS: usize = 65536;
 
 // The status; or the rooms are too short.
-pub enum Told {
+pub enum Tried {
     Status(u8),
     Room,
 }
@@ -49,13 +49,13 @@ fn say_first(
 }
 
 // ROOM, or the status of another refusal of a list that has no image.
-fn refuse_list(code: Code, place: usize, list: &[u32]) -> Told
-    ensures { λ r. ⌜ statusIn r ≤ 3 ⌝ }
+fn refuse_list(code: Code, place: usize, list: &[u32]) -> Tried
+    ensures { λ r. ⌜ triedStatus r ≤ 3 ⌝ }
 {
     if codes::number_of(code) == 7 {
-        return Told::Room;
+        return Tried::Room;
     }
-    Told::Status(words::of_reading(code, place, list, crate::CONFIGURED))
+    Tried::Status(words::of_reading(code, place, list, crate::CONFIGURED))
 }
 
 // A list that is read in lent rooms.
@@ -65,8 +65,8 @@ fn list_in(
     starts: &mut [f32; STARTS],
     deltas: &mut [i32; DELTAS],
     coefficients: &mut [i32; COEFFICIENTS],
-) -> Told
-    ensures { λ r. ⌜ statusIn r ≤ 3 ⌝ }
+) -> Tried
+    ensures { λ r. ⌜ triedStatus r ≤ 3 ⌝ }
 {
     match reader::read(
         list,
@@ -78,7 +78,7 @@ fn list_in(
         coefficients,
     ) {
         ReadAnswer::Refused(code, place) => refuse_list(code, place, list),
-        ReadAnswer::Done(splines, points, adjustment) => Told::Status(say_first(
+        ReadAnswer::Done(splines, points, adjustment) => Tried::Status(say_first(
             counts,
             starts,
             splines,
@@ -90,8 +90,8 @@ fn list_in(
 }
 
 // What a list holds.
-pub fn tell_list(list: &[u32]) -> Told
-    ensures { λ r. ⌜ statusIn r ≤ 3 ⌝ }
+pub fn tell_list(list: &[u32]) -> Tried
+    ensures { λ r. ⌜ triedStatus r ≤ 3 ⌝ }
 {
     let mut counts = [0u32; SPLINES];
     let mut starts = [0.0f32; STARTS];
@@ -106,13 +106,13 @@ pub fn tell_list(list: &[u32]) -> Told
     )
 }
 
-fn refuse_trace(code: Code, place: usize, bytes: &[u8]) -> Told
-    ensures { λ r. ⌜ statusIn r ≤ 3 ⌝ }
+fn refuse_trace(code: Code, place: usize, bytes: &[u8]) -> Tried
+    ensures { λ r. ⌜ triedStatus r ≤ 3 ⌝ }
 {
     if codes::number_of(code) == 7 {
-        return Told::Room;
+        return Tried::Room;
     }
-    Told::Status(words::of_trace(code, place, bytes))
+    Tried::Status(words::of_trace(code, place, bytes))
 }
 
 // A trace file that is read in lent rooms.
@@ -122,12 +122,12 @@ fn trace_in(
     starts: &mut [f32; STARTS],
     deltas: &mut [i32; DELTAS],
     coefficients: &mut [i32; COEFFICIENTS],
-) -> Told
-    ensures { λ r. ⌜ statusIn r ≤ 3 ⌝ }
+) -> Tried
+    ensures { λ r. ⌜ triedStatus r ≤ 3 ⌝ }
 {
     match trace2_read::trace_read2(bytes, counts, starts, deltas, coefficients) {
         FileAnswer::Refused(code, place) => refuse_trace(code, place, bytes),
-        FileAnswer::Done(splines, points, adjustment, edition) => Told::Status(say_first(
+        FileAnswer::Done(splines, points, adjustment, edition) => Tried::Status(say_first(
             counts,
             starts,
             splines,
@@ -139,8 +139,8 @@ fn trace_in(
 }
 
 // What a trace file holds.
-pub fn tell_trace(bytes: &[u8]) -> Told
-    ensures { λ r. ⌜ statusIn r ≤ 3 ⌝ }
+pub fn tell_trace(bytes: &[u8]) -> Tried
+    ensures { λ r. ⌜ triedStatus r ≤ 3 ⌝ }
 {
     let mut counts = [0u32; SPLINES];
     let mut starts = [0.0f32; STARTS];
