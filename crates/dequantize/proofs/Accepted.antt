@@ -8,21 +8,21 @@ use lib.IntN.{ℤ}
 use lib.Ieee.{Float}
 use Rattle.codes.specs.declared.Code.{Code}
 use Rattle.codes.specs.declared.Code.the-variants.{Done, Position}
-use Rattle.dequantize.specs.ControlPoints.{startingPoint, traceOf}
+use Rattle.control_points.specs.ControlPoints.{startingPoint, traceOf}
 use Rattle.dequantize.specs.Asked.{SplineAccepted}
 use Rattle.dequantize.specs.Dequantize.{refusedOf, finishedOf, dequantizeOf}
 use Rattle.dequantize.specs.declared.Given.{Given}
 use Rattle.dequantize.specs.declared.Spline.{Spline}
-use Rattle.dequantize.specs.declared.control_points.Pair.{Pair}
-use Rattle.dequantize.specs.declared.control_points.Run.{Run}
-use Rattle.dequantize.specs.declared.control_points.Start.{Start}
-use Rattle.dequantize.specs.declared.control_points.Start.the-variants.{At, Out}
-use Rattle.dequantize.specs.declared.control_points.Traced.{Traced}
-use Rattle.dequantize.specs.declared.control_points.Traced.the-variants.{On, Stop}
-use Rattle.dequantize.proofs.Starts.{start-valid}
-use Rattle.dequantize.proofs.Coincide.{coincides}
-use Rattle.dequantize.proofs.Walks.{traced-walk}
-use Rattle.dequantize.proofs.Exactly.{OfTrace, trace-code}
+use Rattle.control_points.specs.declared.Pair.{Pair}
+use Rattle.control_points.specs.declared.Run.{Run}
+use Rattle.control_points.specs.declared.Start.{Start}
+use Rattle.control_points.specs.declared.Start.the-variants.{At, Out}
+use Rattle.control_points.specs.declared.Traced.{Traced}
+use Rattle.control_points.specs.declared.Traced.the-variants.{On, Stop}
+use Rattle.control_points.proofs.Starts.{start-valid}
+use Rattle.control_points.proofs.Coincide.{coincides}
+use Rattle.control_points.proofs.Walks.{traced-walk}
+use Rattle.control_points.proofs.Exactly.{OfTrace, trace-code}
 
 module _ (x y : Float) (ds c : List ℤ) (g : Given) where
   -- ---- the three cases

@@ -13,7 +13,7 @@ use Rattle.codes.specs.declared.Code.{Code}
 use Rattle.codes.specs.declared.Code.the-variants.{Done, Area, Coincide}
 use Rattle.codes.proofs.Codes.{numberOf-injective}
 use Rattle.numbers.specs.Saturating.{satAdd}
-use Rattle.dequantize.specs.Estimate.{satSum}
+use Rattle.estimate.specs.Estimate.{satSum}
 use Rattle.dequantize.specs.Judge.{Description, startX, startY, deltasOf, coefficientsOf, splineOf, totalOf, settleOf, onward, judgeFrom, judgeOf}
 use Rattle.dequantize.specs.declared.Given.{Given}
 use Rattle.dequantize.specs.declared.Spline.{Spline}

@@ -11,28 +11,29 @@ use borrow.Author.Tests.{leb-true, leb-false}
 use Rattle.codes.specs.declared.Code.{Code}
 use Rattle.codes.specs.declared.Code.the-variants.{Done, Delta, Position, Distance, Area, Coincide}
 use Rattle.numbers.specs.Saturating.{satAdd}
-use Rattle.dequantize.specs.ControlPoints.{startingPoint, traceOf, controlPoints, validPointPos, samePoint, coincideFrom, adjacentCoincide}
+use Rattle.control_points.specs.ControlPoints.{startingPoint, traceOf, controlPoints, validPointPos, samePoint, coincideFrom, adjacentCoincide}
 use Rattle.dequantize.specs.Dequantize.{refusedOf, finishedOf, dequantizeOf}
 use Rattle.dequantize.specs.Judge.{Description, startX, startY, deltasOf, coefficientsOf, splineOf, totalOf, settleOf, judgeOf}
-use Rattle.dequantize.specs.Refusals.{nowhere, RoundsTo, Adjacent, Traces, SplinePasses, SplineRefusal, start-strays, pair-refused, area-above, points-meet, AllPass, FirstRefused, EstimateIs}
+use Rattle.control_points.specs.Refusals.{nowhere, RoundsTo, Adjacent}
+use Rattle.dequantize.specs.Refusals.{Traces, SplinePasses, SplineRefusal, start-strays, pair-refused, area-above, points-meet, AllPass, FirstRefused, EstimateIs}
 use Rattle.dequantize.specs.declared.Given.{Given}
 use Rattle.dequantize.specs.declared.Spline.{Spline}
-use Rattle.dequantize.specs.declared.control_points.Pair.{Pair}
-use Rattle.dequantize.specs.declared.control_points.Run.{Run}
-use Rattle.dequantize.specs.declared.control_points.Start.{Start}
-use Rattle.dequantize.specs.declared.control_points.Start.the-variants.{At, Out}
-use Rattle.dequantize.specs.declared.control_points.Traced.{Traced}
-use Rattle.dequantize.specs.declared.control_points.Traced.the-variants as T
+use Rattle.control_points.specs.declared.Pair.{Pair}
+use Rattle.control_points.specs.declared.Run.{Run}
+use Rattle.control_points.specs.declared.Start.{Start}
+use Rattle.control_points.specs.declared.Start.the-variants.{At, Out}
+use Rattle.control_points.specs.declared.Traced.{Traced}
+use Rattle.control_points.specs.declared.Traced.the-variants as T
 use Rattle.dequantize.specs.declared.judge.Settled.the-variants.{Total, Stop}
 use Rattle.dequantize.specs.declared.judge.Judged.the-variants.{Fine, Refused}
 use Rattle.codes.proofs.Decides.{both}
-use Rattle.dequantize.proofs.Coincide.{same-point}
-use Rattle.dequantize.proofs.Walks.{allInRange, points-in-range}
-use Rattle.dequantize.proofs.Exactly.{OfTrace, trace-code}
+use Rattle.control_points.proofs.Coincide.{same-point}
+use Rattle.control_points.proofs.Walks.{allInRange, points-in-range}
+use Rattle.control_points.proofs.Exactly.{OfTrace, trace-code}
 use Rattle.dequantize.proofs.Accepted.{start-refused, trace-refused, trace-accepted, accepted-exactly}
 use Rattle.dequantize.proofs.Judgement.{area-exactly, coincide-exactly, total-exactly, settled-done, Passes, Refusal, total-more, fine-exactly, refused-exactly}
-use Rattle.dequantize.proofs.Ranges.{starts-at, starting-at, starts-out, starting-out}
-use Rattle.dequantize.proofs.Tracing.{trace-passed, trace-stops, refused-stops, passed-traces}
+use Rattle.control_points.proofs.Ranges.{starts-at, starting-at, starts-out, starting-out}
+use Rattle.control_points.proofs.Tracing.{trace-passed, trace-stops, refused-stops, passed-traces}
 
 -- ---- two adjacent points
 

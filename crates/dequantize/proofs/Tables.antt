@@ -1,4 +1,4 @@
--- A table that a loop fills, and a saturating sum that a loop adds up: none yet, one more, all. Every such loop of the crate cites these.
+-- A table that a loop fills: none yet, one more, all. Every such loop of the crate cites these.
 use mathlib.Core.Path.{_≡_, refl, sym, ap, _∙_}
 use mathlib.Core.List.{List, [], _∷_, _++_, append-nil, append-assoc}
 use Prim.Native.Nat.{ℕ, zero, suc, _+_, _≤_, _<_}
@@ -6,11 +6,7 @@ use native.Mathlib.Numerals.{add-one}
 use native.Mathlib.Omega.{arith}
 use lib.ListN.{length, set, length-append, length-set}
 use lib.Seq.{set-at}
-use Rattle.numbers.specs.Saturating.{satAdd}
 use Rattle.dequantize.specs.Coefficients.{table}
-use Rattle.dequantize.specs.Estimate.{satSum}
-
--- ---- a table
 
 -- of the n cells of o the first i hold the table's values
 pub record Filling {A : Type 0} (g : ℕ → A) (n : ℕ) (o : List A) (i : ℕ) : Type 0 where
@@ -53,24 +49,5 @@ module _ {A : Type 0} (g : ℕ → A) where
       nothing : (r : List A) → length r ≡ 0 → r ≡ []
       nothing [] l = refl
       nothing (y ∷ ys) l = absurd (omega arith)
-
--- ---- a saturating sum
-
--- of the n terms i are in s
-pub record Summed (g : ℕ → ℕ) (n s i : ℕ) : Type 0 where
-  pub some : i ≤ n
-  pub is : s ≡ satSum g i
-
-module _ (g : ℕ → ℕ) where
-  pub summed-none : (n : ℕ) → Summed g n 0 0
-  unfolding satSum
-  summed-none n = record { some = omega arith; is = refl }
-
-  pub summed-more : {n s : ℕ} (i : ℕ) → Summed g n s i → i < n → {t v : ℕ} → v ≡ g i → t ≡ satAdd s v → Summed g n t (i + 1)
-  unfolding satSum
-  summed-more i q h e r = record { some = omega arith; is = r ∙ rw (q .is, e, add-one i) }
-
-  pub summed-all : {n s : ℕ} (i : ℕ) → Summed g n s i → n ≤ i → s ≡ satSum g n
-  summed-all {n} i q h = let e : i ≡ n = omega (arith, q .some) in rw e at (q .is)
 
 -- Assumes nothing.

@@ -1,51 +1,16 @@
--- What the code asks for in its contracts: sums that fit, a run that no check has stopped, control points that may be gone through again, a spline that was accepted. Definitions only.
+-- What the code asks for in its contracts: a spline that was accepted. Definitions only.
 use mathlib.Core.Path.{_≡_}
-use mathlib.Core.Bool.{Bool, true, false, cond}
-use mathlib.Core.List.{List, [], _∷_}
-use Prim.Native.Nat.{ℕ, _≤_, _<_}
+use mathlib.Core.List.{List}
 use lib.IntN.{ℤ}
-use lib.Signed.{mag}
 use lib.Ieee.{Float}
-use Rattle.dequantize.specs.ControlPoints.{validPointPos, validDoubleDelta, plusOf, startingPoint, placeAt, movedOf, controlPoints, adjacentCoincide, traceOf}
+use Rattle.control_points.specs.ControlPoints.{startingPoint, placeAt, controlPoints, adjacentCoincide, traceOf}
+use Rattle.control_points.specs.Asked.{Passable}
+use Rattle.control_points.specs.declared.Pair.{Pair}
+use Rattle.control_points.specs.declared.Run.{Run}
+use Rattle.control_points.specs.declared.Start.the-variants.{At}
+use Rattle.control_points.specs.declared.Traced.the-variants.{On}
 use Rattle.dequantize.specs.Dequantize.{finishedOf, dequantizeOf}
 use Rattle.dequantize.specs.declared.Given.{Given}
-use Rattle.dequantize.specs.declared.control_points.Pair.{Pair}
-use Rattle.dequantize.specs.declared.control_points.Place.{Place}
-use Rattle.dequantize.specs.declared.control_points.Run.{Run}
-use Rattle.dequantize.specs.declared.control_points.Start.the-variants.{At}
-use Rattle.dequantize.specs.declared.control_points.Traced.the-variants.{On}
-
--- the sum of two such pairs fits
-pub record Fine (p : Pair) : Type 0 where
-  pub x : mag (p .x) < 1073741824
-  pub y : mag (p .y) < 1073741824
-
--- what a run that no check has stopped keeps
-pub record Held (r : Run) (limit : ℕ) : Type 0 where
-  pub delta : Fine (r .delta)
-  pub point : validPointPos (r .point) ≡ true
-  pub manhattan : r .manhattan ≤ limit
-
--- the sums of a move fit
-pub record Moves (p : Place) (dd : Pair) : Type 0 where
-  pub delta : Fine (p .delta)
-  pub more : Fine dd
-  pub next : Fine (plusOf (p .delta) dd)
-  pub point : Fine (p .point)
-
--- every double delta, delta and point on the way from p passes its check
-unfoldable pub passes : Place → List ℤ → Bool
-passes p [] = true
-passes p (a ∷ []) = true
-passes p (a ∷ b ∷ ds) =
-    let q = movedOf p (record { x = a; y = b }) in
-    cond (validDoubleDelta (record { x = a; y = b })) (cond (validPointPos (q .delta)) (cond (validPointPos (q .point)) (passes q ds) false) false) false
-
--- the control points from p on may be gone through again
-pub record Passable (p : Place) (ds : List ℤ) : Type 0 where
-  pub delta : validPointPos (p .delta) ≡ true
-  pub point : validPointPos (p .point) ≡ true
-  pub rest : passes p ds ≡ true
 
 -- its start is a place and its trace ends well, so it is dequantized whole, and its control points may be gone through again
 pub record SplineAccepted (x y : Float) (ds c : List ℤ) (g : Given) : Type 0 where

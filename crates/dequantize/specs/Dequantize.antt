@@ -7,13 +7,13 @@ use lib.ListN.{replicate}
 use lib.Ieee.{Float, binary32, ofBits}
 use Rattle.codes.specs.declared.Code.{Code}
 use Rattle.codes.specs.declared.Code.the-variants.{Done, Position}
-use Rattle.dequantize.specs.ControlPoints.{startingPoint, traceOf}
+use Rattle.control_points.specs.ControlPoints.{startingPoint, traceOf}
 use Rattle.dequantize.specs.Coefficients.{invAdjustedQuant, rowsOf}
-use Rattle.dequantize.specs.Estimate.{estimateOf}
-use Rattle.dequantize.specs.declared.control_points.Start.{Start}
-use Rattle.dequantize.specs.declared.control_points.Start.the-variants.{At, Out}
-use Rattle.dequantize.specs.declared.control_points.Traced.{Traced}
-use Rattle.dequantize.specs.declared.control_points.Traced.the-variants.{On, Stop}
+use Rattle.estimate.specs.Estimate.{estimateOf}
+use Rattle.control_points.specs.declared.Start.{Start}
+use Rattle.control_points.specs.declared.Start.the-variants.{At, Out}
+use Rattle.control_points.specs.declared.Traced.{Traced}
+use Rattle.control_points.specs.declared.Traced.the-variants.{On, Stop}
 use Rattle.dequantize.specs.declared.Given.{Given}
 use Rattle.dequantize.specs.declared.Spline.{Spline}
 

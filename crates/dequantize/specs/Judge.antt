@@ -12,7 +12,7 @@ use Rattle.shape.specs.Shape.{pointsOf}
 use Rattle.codes.specs.Codes.{numberOf}
 use Rattle.codes.specs.declared.Code.the-variants.{Area, Coincide}
 use Rattle.numbers.specs.Saturating.{satAdd}
-use Rattle.dequantize.specs.Estimate.{satSum}
+use Rattle.estimate.specs.Estimate.{satSum}
 use Rattle.dequantize.specs.Dequantize.{dequantizeOf}
 use Rattle.dequantize.specs.declared.Given.{Given}
 use Rattle.dequantize.specs.declared.Spline.{Spline}

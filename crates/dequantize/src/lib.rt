@@ -1,4 +1,4 @@
-// Dequantizing: the control points, coefficients and estimate of a spline that was read, and the judging of all splines.
+// Dequantizing: the coefficients and the estimate of a spline whose control points pass, and the judging of all splines.
 ghost use mathlib.Core.Path.{_≡_};
 ghost use Prim.Native.Nat.{_≤_};
 ghost use lib.ListN.{length};
@@ -8,8 +8,6 @@ use control_points::Start;
 use control_points::Traced;
 
 pub mod coefficients;
-pub mod control_points;
-pub mod estimate;
 pub mod judge;
 pub mod limits;
 

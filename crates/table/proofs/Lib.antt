@@ -1,5 +1,5 @@
 -- The laws of the crate `table`.
-pub mod Checks
+pub mod Area
 pub mod Placing
 pub mod Users
 pub mod Segments

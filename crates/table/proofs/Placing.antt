@@ -32,7 +32,8 @@ use Rattle.rows.specs.Rows as listing
 use Rattle.rows.proofs.Table.{rest-same}
 use Rattle.faint.specs.Faint.{faintIn}
 use Rattle.table.specs.declared.BuildAnswer.the-variants.{Done, Refused}
-use Rattle.table.specs.Table.{BuildRooms, BuildOutcome, Setting, roomsOf, givenOf, leaves, zeros, refusedWith, verdictOf, afterRows, afterPaint, buildOf}
+use Rattle.table.specs.Table.{BuildRooms, BuildOutcome, Setting, roomsOf, givenOf, leaves, zeros, refusedWith, afterRows, afterPaint, buildOf}
+use Rattle.verdict.specs.Verdict.{verdictOf}
 
 -- ---- a buffer that is cleared behind what it keeps
 

@@ -6,10 +6,11 @@ use native.Mathlib.Omega.{arith}
 use lib.IntN.{ℤ, pos, negsuc, _+ℤ_, +ℤ-idr}
 use lib.ListN.{length}
 use Rattle.codes.specs.declared.Code.the-variants as Code
-use Rattle.dequantize.specs.ControlPoints.{plusOf, placeAt, movedOf, laterPoints, controlPoints}
+use Rattle.control_points.specs.ControlPoints.{plusOf, placeAt, movedOf, laterPoints, controlPoints}
 use Rattle.dequantize.specs.Judge.{Description, deltasOf, totalOf}
-use Rattle.dequantize.specs.Refusals.{Adjacent, Traces, SplinePasses, points-meet}
-use Rattle.dequantize.specs.declared.control_points.Pair.{Pair}
+use Rattle.control_points.specs.Refusals.{Adjacent}
+use Rattle.dequantize.specs.Refusals.{Traces, SplinePasses, points-meet}
+use Rattle.control_points.specs.declared.Pair.{Pair}
 use Rattle.table.specs.declared.BuildAnswer.the-variants.{Refused}
 use Rattle.table.specs.Table.{BuildRooms, Setting, givenOf, buildOf}
 use Rattle.table.specs.Segments.{Fits}

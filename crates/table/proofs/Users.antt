@@ -25,10 +25,11 @@ use Rattle.painting.proofs.Segments.{all-exactly, room-exactly}
 use Rattle.rows.specs.Rows.{inRow}
 use Rattle.rows.proofs.Users.{room-when, table-when, either}
 use Rattle.table.specs.declared.BuildAnswer.the-variants.{Refused}
-use Rattle.table.specs.Table.{BuildRooms, Setting, BuildOutcome, givenOf, refusedWith, sized, shaped, orRefused, verdictOf, afterRows, afterPaint, afterJudge, buildOf}
+use Rattle.table.specs.Table.{BuildRooms, Setting, BuildOutcome, givenOf, refusedWith, afterRows, afterPaint, afterJudge, buildOf}
+use Rattle.verdict.specs.Verdict.{sized, shaped, orRefused, verdictOf}
 use Rattle.table.specs.Segments.{entryTotal, Fits, NeedsMet, doneWith}
 use Rattle.table.specs.Refusals.{painted, BuildRefusal, size, shape, starts, judged, drawing, entries}
-use Rattle.table.proofs.Checks.{both, agreed}
+use Rattle.verdict.proofs.Checks.{both, agreed}
 
 -- ---- tests
 

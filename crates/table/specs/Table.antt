@@ -1,8 +1,7 @@
 -- `initialize_draw_cache` of spline.rs over lent buffers: the checks in their order, all splines judged, then each drawn, then the rows listed. Definitions only.
-use mathlib.Core.Bool.{Bool, true, false, _&&_}
+use mathlib.Core.Bool.{Bool}
 use mathlib.Core.List.{List, _++_}
-use Prim.Native.Nat.{ℕ, suc, _-_, _*_, _^_}
-use lib.Dec.{leb}
+use Prim.Native.Nat.{ℕ, _*_}
 use lib.IntN.{ℤ}
 use lib.ListN.{length, replicate}
 use lib.Ieee.{Float, binary32, ofBits}
@@ -15,8 +14,8 @@ use Rattle.dequantize.specs.declared.Given.{Given}
 use Rattle.dequantize.specs.declared.judge.Judged.{Judged}
 use Rattle.dequantize.specs.declared.judge.Judged.the-variants as Judged
 use Rattle.dequantize.specs.Limits.{splineAreaLimit}
-use Rattle.dequantize.specs.Judge.{Description, judgeOf}
-use Rattle.shape.specs.Shape as Shape
+use Rattle.dequantize.specs.Judge.{Description}
+use Rattle.verdict.specs.Verdict.{verdictOf}
 use Rattle.curve.specs.Curve.{pathRoom}
 use Rattle.walk.specs.Walk.{walkRoom}
 use Rattle.points.specs.Points.{eights}
@@ -121,27 +120,6 @@ zeros n = replicate n (ofBits binary32 0)
 unfoldable pub refusedWith : BuildRooms → Code → ℕ → BuildOutcome
 refusedWith r code place =
     leaves (Refused code place) (zeros (r .path)) (zeros (r .walk)) (zeros (r .segments)) (replicate (r .owners) 0) (replicate (r .starts) 0) (replicate (r .entries) 0)
-
--- ---- the checks before any drawing
-
-abbrev pub sized : ℕ → ℕ → Bool
-sized width height = leb width (2 ^ 23) && leb height (2 ^ 23)
-
--- lengths that agree
-abbrev pub shaped : Description → Bool
-shaped d = Shape.shaped (d .counts) (d .starts) (d .deltas) (d .coefficients)
-
-abbrev pub orRefused : Bool → Code → Judged → Judged
-orRefused true code rest = rest
-orRefused false code rest = Judged.Refused code 0
-
--- SIZE, SHAPE, ROOM for the row starts, then every spline judged
-unfoldable pub verdictOf : Description → Given → ℕ → ℕ → ℕ → Judged
-verdictOf d g width height rows =
-    orRefused (sized width height) Code.Size
-    (orRefused (shaped d) Code.Shape
-    (orRefused (leb (suc height) rows) Code.Room
-    (judgeOf d g)))
 
 -- ---- the build
 

@@ -9,7 +9,7 @@ ghost use Rattle.walk.specs.Walk.{walkRoom};
 ghost use Rattle.owners.specs.Owners.{ownedRoom};
 ghost use Rattle.painting.specs.Painting.{Passed, paintOf};
 ghost use Rattle.rows.specs.Rows.{inRow, built};
-ghost use Rattle.table.specs.Table.{roomsOf, settingOf, givenOf, leaves, refusedWith, sized, verdictOf, afterRows, afterPaint, buildOf};
+ghost use Rattle.table.specs.Table.{roomsOf, settingOf, givenOf, leaves, refusedWith, afterRows, afterPaint, buildOf};
 use codes::Code;
 use dequantize::Given;
 use dequantize::judge::Judged;
@@ -41,42 +41,6 @@ fn given_of(
         y_to_b,
         limit,
     }
-}
-
-fn size_good(width: u32, height: u32) -> bool
-    ensures { λ r. ⌜ r ≡ sized width height ⌝ }
-{
-    if 8388608 < width {
-        return false;
-    }
-    height <= 8388608
-}
-
-// All checks before any drawing, in their order.
-fn judge_all(
-    counts: &[u32],
-    starts: &[f32],
-    deltas: &[i32],
-    coefficients: &[i32],
-    given: Given,
-    width: u32,
-    height: u32,
-    rows: usize,
-) -> Judged
-    ensures { λ r. ⌜ r ≡ verdictOf (descriptionOf (now (counts .entry)) (now (starts .entry)) (now (deltas .entry)) (now (coefficients .entry))) given width height rows ⌝ }
-{
-    let small = size_good(width, height);
-    let agrees = shape::shape_good(counts, starts, deltas, coefficients);
-    if !small {
-        return Judged::Refused(Code::Size, 0);
-    }
-    if !agrees {
-        return Judged::Refused(Code::Shape, 0);
-    }
-    if rows <= height as usize {
-        return Judged::Refused(Code::Room, 0);
-    }
-    dequantize::judge::judge(counts, starts, deltas, coefficients, given)
 }
 
 // A refusal, with every lent cell zero.
@@ -221,7 +185,7 @@ pub fn build(
         high_precision,
         level10,
     );
-    match judge_all(
+    match verdict::judge_all(
         counts,
         starts,
         deltas,

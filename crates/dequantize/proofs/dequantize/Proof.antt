@@ -2,7 +2,7 @@
 use mathlib.Core.Path.{sym, _∙_}
 use borrow.Author.Needs.{needs}
 use Rattle.dequantize.specs.Dequantize.{dequantizeOf}
-use Rattle.dequantize.proofs.Starts.{start-valid}
+use Rattle.control_points.proofs.Starts.{start-valid}
 use Rattle.dequantize.proofs.dequantize.Statement.{statement}
 use Rattle.dequantize.proofs.dequantize.Tie as tie
 

@@ -5,7 +5,7 @@ use mir.Facts.{toZ-ofZ}
 use mir.Val.{toZ, ofZ}
 use Rattle.dequantize.specs.Judge.{Description, descriptionOf}
 use Rattle.table.specs.Table.{BuildRooms, roomsOf, Setting, settingOf}
-use Rattle.table.proofs.Checks.{ready}
+use Rattle.verdict.proofs.Checks.{ready}
 use Rattle.table.proofs.Placing.{build-refused, build-painted}
 use borrow.Author.Needs.{needs}
 use Rattle.table.proofs.build.Statement.{statement}

@@ -2,7 +2,7 @@
 use borrow.Author.Needs.{needs}
 use mir.Syntax.{w32}
 use mir.Facts.{toZ-ofZ}
-use Rattle.table.proofs.Checks.{area-fits}
+use Rattle.table.proofs.Area.{area-fits}
 use Rattle.table.proofs.given_of.Statement.{statement}
 use Rattle.table.proofs.given_of.Tie as tie
 

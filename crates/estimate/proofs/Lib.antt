@@ -1,0 +1,3 @@
+-- The laws of the crate `estimate`.
+pub mod Sums
+pub mod ByKind

@@ -1,0 +1,3 @@
+-- The definitions of the crate `estimate`.
+pub mod Estimate
+pub mod ByKind
