@@ -61,7 +61,8 @@ use Rattle.picture.proofs.Skips.{skipped-makes-none, no-deltas-skipped}
 use Rattle.numbers.specs.Arith.{0·0, _⊕_, _⊖_}
 use Rattle.numbers.specs.Whole.{wholeBy}
 use Rattle.numbers.specs.Kind.{kindBy}
-use Rattle.dequantize.proofs.ByKind.{start-by-kind, estimate-by-kind}
+use Rattle.control_points.proofs.ByKind.{start-by-kind}
+use Rattle.estimate.proofs.ByKind.{estimate-by-kind}
 use Rattle.segments.proofs.ByBound.{rows-by-kind, columns-by-kind}
 use Rattle.points.proofs.Adding.{length-eights}
 use Rattle.faint.specs.Faint.{faintIn}

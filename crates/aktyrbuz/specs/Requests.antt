@@ -33,7 +33,8 @@ use Rattle.painting.specs.Segments.{SplineMakes}
 use Rattle.table.specs.Segments.{MakesOwned}
 use Rattle.picture.specs.Owners.{segmentsIn, ownedBy, Ascending, Skipped}
 use Rattle.numbers.specs.Arith.{_⊕_, _⊖_}
-use Rattle.dequantize.specs.ByKind.{StartByKind, EstimateByKind}
+use Rattle.control_points.specs.ByKind.{StartByKind}
+use Rattle.estimate.specs.ByKind.{EstimateByKind}
 use Rattle.segments.specs.Bounds.{RowsByKind, ColumnsByKind}
 use Rattle.faint.specs.Faint.{faintIn}
 use Rattle.codes.specs.Codes.{numberOf}
@@ -79,12 +80,12 @@ use Rattle.bands_laws.specs.Summaries.{InBand, BandRows, OtherCell, ListsSpline
 use Rattle.aktyrbuz.specs.BandsCalls.{BandsCall, BandCall, BandCalls}
 use lib.Ieee.{nan}
 use Rattle.list.specs.Steps.{f32Of}
-use Rattle.dequantize.specs.ControlPoints.{startingPoint}
+use Rattle.control_points.specs.ControlPoints.{startingPoint}
 use Rattle.dequantize.specs.Judge.{descriptionOf, startX, startY, deltasOf}
 use Rattle.dequantize.specs.Refusals.{SplinePasses, SplineRefusal}
 use Rattle.dequantize.specs.declared.Given.{Given}
-use Rattle.dequantize.specs.declared.control_points.Pair.{Pair}
-use Rattle.dequantize.specs.declared.control_points.Start.the-variants as start-at
+use Rattle.control_points.specs.declared.Pair.{Pair}
+use Rattle.control_points.specs.declared.Start.the-variants as start-at
 use Rattle.polyline.specs.Form.{PointsForm}
 use Rattle.polyline.specs.Read.{PointsOutcome, readPointsOf}
 use Rattle.polyline.specs.Read as drawn

@@ -9,9 +9,9 @@ use lib.IntN.{ℤ}
 use lib.ListN.{length, length-append}
 use lib.Ieee.{Float}
 use Rattle.buffers.specs.Onto.{onto}
-use Rattle.dequantize.specs.ControlPoints.{placeAt, laterPoints, controlPoints}
-use Rattle.dequantize.specs.declared.control_points.Pair.{Pair}
-use Rattle.dequantize.proofs.Walks.{points-length, points-done}
+use Rattle.control_points.specs.ControlPoints.{placeAt, laterPoints, controlPoints}
+use Rattle.control_points.specs.declared.Pair.{Pair}
+use Rattle.control_points.proofs.Walks.{points-length, points-done}
 use Rattle.curve.specs.declared.Point.{Point}
 use Rattle.curve.specs.declared.Window.{Window}
 use Rattle.curve.specs.declared.Curved.the-variants.{Points, Room}

@@ -14,11 +14,11 @@ use Rattle.numbers.specs.Length.{hypotOf}
 use Rattle.numbers.proofs.Hypot.{hypot-is-length}
 use Rattle.buffers.specs.Onto.{onto}
 use Rattle.buffers.proofs.Filling.{Filled, filled-more, filled-all}
-use Rattle.dequantize.specs.ControlPoints.{validPointPos, plusOf, placeAt, movedOf, laterPoints, controlPoints}
-use Rattle.dequantize.specs.Asked.{Passable}
-use Rattle.dequantize.specs.declared.control_points.Pair.{Pair}
-use Rattle.dequantize.proofs.Pairs.{in-range-mag, point-range, abs-mag}
-use Rattle.dequantize.proofs.Walks.{walk-more, points-more, points-done}
+use Rattle.control_points.specs.ControlPoints.{validPointPos, plusOf, placeAt, movedOf, laterPoints, controlPoints}
+use Rattle.control_points.specs.Asked.{Passable}
+use Rattle.control_points.specs.declared.Pair.{Pair}
+use Rattle.control_points.proofs.Pairs.{in-range-mag, point-range, abs-mag}
+use Rattle.control_points.proofs.Walks.{walk-more, points-more, points-done}
 use Rattle.curve.specs.declared.Point.{Point}
 use Rattle.curve.specs.declared.Window.{Window}
 use Rattle.curve.specs.declared.Turn.{Turn}

@@ -9,8 +9,8 @@ use lib.ListN.{length}
 use lib.Ieee.{Float, binary32, ofInt}
 use Rattle.numbers.specs.Root.{sqrtOf}
 use Rattle.buffers.specs.Onto.{onto}
-use Rattle.dequantize.specs.ControlPoints.{controlPoints}
-use Rattle.dequantize.specs.declared.control_points.Pair.{Pair}
+use Rattle.control_points.specs.ControlPoints.{controlPoints}
+use Rattle.control_points.specs.declared.Pair.{Pair}
 use Rattle.curve.specs.declared.Point.{Point}
 use Rattle.curve.specs.declared.Window.{Window}
 use Rattle.curve.specs.declared.Curved.{Curved}

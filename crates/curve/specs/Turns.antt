@@ -5,9 +5,9 @@ use lib.IntN.{ℤ}
 use lib.Ieee.{Float, binary32}
 use Rattle.numbers.specs.Root.{sqrtOf}
 use Rattle.numbers.specs.Length.{lengthOf}
-use Rattle.dequantize.specs.ControlPoints.{pairAt, movedOf}
-use Rattle.dequantize.specs.declared.control_points.Pair.{Pair}
-use Rattle.dequantize.specs.declared.control_points.Place.{Place}
+use Rattle.control_points.specs.ControlPoints.{pairAt, movedOf}
+use Rattle.control_points.specs.declared.Pair.{Pair}
+use Rattle.control_points.specs.declared.Place.{Place}
 use Rattle.curve.specs.declared.Point.{Point}
 use Rattle.curve.specs.declared.Window.{Window}
 use Rattle.curve.specs.declared.Turn.{Turn}

@@ -5,14 +5,14 @@ ghost use Prim.Native.Nat.{_+_, _*_, _/_, _≤_, _<_};
 ghost use lib.ListN.{length, drop};
 ghost use lib.Seq.{sets};
 ghost use Rattle.buffers.specs.Onto.{onto};
-ghost use Rattle.dequantize.specs.ControlPoints.{validPointPos, placeAt};
-ghost use Rattle.dequantize.specs.Asked.{Passable};
+ghost use Rattle.control_points.specs.ControlPoints.{validPointPos, placeAt};
+ghost use Rattle.control_points.specs.Asked.{Passable};
 ghost use Rattle.curve.specs.Points.{addPoint, subPoint, mulPoint};
 ghost use Rattle.curve.specs.Windows.{toward, time, levels, windowPoint};
 ghost use Rattle.curve.specs.Curve.{pointOf, reflected, interpolated, windowPoints, pathOf, flat, pathRoom, curvedOf, curvedOn};
 ghost use Rattle.curve.specs.Turns.{rootLength, nextPlace, firstTurn, nextTurn, turnWindow, lastWindow};
-use dequantize::control_points::Pair;
-use dequantize::control_points::Place;
+use control_points::Pair;
+use control_points::Place;
 
 // ---- points
 

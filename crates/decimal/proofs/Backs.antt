@@ -10,8 +10,8 @@ use lib.Seq.{sets, set-comm}
 use mir.Syntax.{w32}
 use mir.Val.{toZ, ofZ}
 use mir.Facts.{toZ-ofZ}
-use Rattle.dequantize.specs.ControlPoints.{inRange}
-use Rattle.dequantize.proofs.Pairs.{in-range-mag}
+use Rattle.control_points.specs.ControlPoints.{inRange}
+use Rattle.control_points.proofs.Pairs.{in-range-mag}
 use mathlib.Core.Bool.{true}
 use Rattle.polyline.specs.Write.{digitsOf, numberText}
 use Rattle.polyline.proofs.Digits.{digits-small, digits-large, length-small, length-large, length-some, length-most}

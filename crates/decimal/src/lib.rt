@@ -4,7 +4,7 @@ ghost use mathlib.Core.Bool.{Bool};
 ghost use Prim.Native.Nat.{_+_, _-_, _≤_, _<_};
 ghost use lib.ListN.{length, set};
 ghost use lib.Seq.{sets};
-ghost use Rattle.dequantize.specs.ControlPoints.{inRange};
+ghost use Rattle.control_points.specs.ControlPoints.{inRange};
 ghost use Rattle.polyline.specs.Write.{digitsOf, numberText};
 
 // A byte, where there is a cell for it.

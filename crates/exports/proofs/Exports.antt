@@ -24,7 +24,8 @@ use Rattle.painting.specs.Painting.{Painted, All, NoRoomAt}
 use Rattle.rows.specs.declared.Listed.{Listed}
 use Rattle.rows.specs.declared.Listed.the-variants as listed
 use Rattle.rows.specs.Rows as rows
-use Rattle.table.specs.Table.{Setting, settingOf, BuildRooms, BuildOutcome, givenOf, refusedWith, verdictOf, afterRows, afterPaint, afterJudge, buildOf}
+use Rattle.table.specs.Table.{Setting, settingOf, BuildRooms, BuildOutcome, givenOf, refusedWith, afterRows, afterPaint, afterJudge, buildOf}
+use Rattle.verdict.specs.Verdict.{verdictOf}
 use Rattle.table.specs.Refusals.{painted}
 use Rattle.table.specs.Table as building
 use Rattle.desks.specs.Desks.{Sight}

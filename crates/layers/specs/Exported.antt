@@ -12,12 +12,12 @@ use Rattle.codes.specs.declared.Code.{Code}
 use Rattle.codes.specs.declared.Code.the-variants.{Done, Room, Shape, Position}
 use Rattle.dequantize.specs.declared.Given.{Given}
 use Rattle.dequantize.specs.declared.Spline.{Spline}
-use Rattle.dequantize.specs.declared.control_points.Pair.{Pair}
-use Rattle.dequantize.specs.ControlPoints.{traceOf}
-use Rattle.dequantize.specs.declared.control_points.Start.{Start}
-use Rattle.dequantize.specs.declared.control_points.Start.the-variants.{At, Out}
-use Rattle.dequantize.specs.declared.control_points.Traced.{Traced}
-use Rattle.dequantize.specs.declared.control_points.Traced.the-variants.{On, Stop}
+use Rattle.control_points.specs.declared.Pair.{Pair}
+use Rattle.control_points.specs.ControlPoints.{traceOf}
+use Rattle.control_points.specs.declared.Start.{Start}
+use Rattle.control_points.specs.declared.Start.the-variants.{At, Out}
+use Rattle.control_points.specs.declared.Traced.{Traced}
+use Rattle.control_points.specs.declared.Traced.the-variants.{On, Stop}
 use Rattle.dequantize.specs.Judge.{Description, judgeOf}
 use Rattle.dequantize.specs.declared.judge.Judged.{Judged}
 use Rattle.dequantize.specs.declared.judge.Judged.the-variants.{Fine, Refused}
@@ -36,7 +36,7 @@ use Rattle.segments.specs.declared.Added.{Added}
 use Rattle.segments.specs.declared.Added.the-variants.{Made, Nothing}
 use Rattle.segments.specs.declared.Range.{Range}
 use Rattle.segments.specs.declared.Segment.{Segment}
-use Rattle.table.specs.Table.{shaped, orRefused}
+use Rattle.verdict.specs.Verdict.{shaped, orRefused}
 use Rattle.layers.specs.declared.Ran.{Ran}
 use Rattle.layers.specs.declared.Told.{Told}
 use Rattle.layers.specs.declared.Eight.{Eight}

@@ -5,7 +5,7 @@ ghost use mathlib.Core.Path.{_≡_};
 ghost use lib.Dec.{leb};
 ghost use lib.ListN.{length};
 ghost use Rattle.dequantize.specs.Coefficients.{invAdjustedQuant};
-ghost use Rattle.dequantize.specs.ControlPoints.{startingPoint, validPointPos};
+ghost use Rattle.control_points.specs.ControlPoints.{startingPoint, validPointPos};
 ghost use Rattle.dequantize.specs.Dequantize.{dequantizeOf};
 ghost use Rattle.dequantize.specs.Judge.{descriptionOf};
 ghost use Rattle.dequantize.specs.Limits.{splineAreaLimit};
@@ -16,12 +16,12 @@ ghost use Rattle.segments.specs.Segment.{addSegment, segmentAt};
 ghost use Rattle.segments.specs.Ranges.{rowsOf, columnsOf};
 ghost use Rattle.layers.specs.Exported.{ranOf, ranLeaves, tracedFrom, givenOf, dequantizedLeaves, dequantizedExport, judgedOf, toldJudged, judgedLeaves, refusedWith, countedLeaves, countedPath, pathLeaves, pathFrom, curvedFrom, countedWalk, walkedAlong, WalkLeft, lengthLeaves, lengthFrom, coefficientsOf, fourOf, eightIn, eightLeaves, twoOf, countedSegments, filledAlong};
 use codes::Code;
+use control_points::Pair;
+use control_points::Start;
+use control_points::Traced;
 use curve::Curved;
 use dequantize::Given;
 use dequantize::Spline;
-use dequantize::control_points::Pair;
-use dequantize::control_points::Start;
-use dequantize::control_points::Traced;
 use dequantize::judge::Judged;
 use points::Filled;
 use segments::Added;
@@ -76,9 +76,9 @@ fn ran_on(traced: Traced) -> Ran
 fn traced_from(start_x: f32, start_y: f32, deltas: &[i32], limit: u64) -> Traced
     ensures { λ r. ⌜ r ≡ tracedFrom limit (now (deltas .entry)) (startingPoint «start_x» «start_y») ⌝ }
 {
-    match dequantize::control_points::starting_point(start_x, start_y) {
+    match control_points::starting_point(start_x, start_y) {
         Start::Out => Traced::Stop(Code::Position),
-        Start::At(start) => dequantize::control_points::trace(start, deltas, limit),
+        Start::At(start) => control_points::trace(start, deltas, limit),
     }
 }
 
@@ -247,7 +247,7 @@ fn path_from(start: Pair, deltas: &[i32], path: &mut [f32]) -> Counted
     requires { ⌜ validPointPos start ≡ true ⌝ }
     ensures { λ r. ⌜ pathLeaves r (now (path .exit)) ≡ pathFrom start (now (deltas .entry)) (now (path .entry)) ⌝ }
 {
-    match dequantize::control_points::trace(start, deltas, 18446744073709551615) {
+    match control_points::trace(start, deltas, 18446744073709551615) {
         Traced::Stop(code) => refused_with(code),
         Traced::On(_) => counted_path(curve::curve(start, deltas, path)),
     }
@@ -256,7 +256,7 @@ fn path_from(start: Pair, deltas: &[i32], path: &mut [f32]) -> Counted
 fn curved_from(start_x: f32, start_y: f32, deltas: &[i32], path: &mut [f32]) -> Counted
     ensures { λ r. ⌜ pathLeaves r (now (path .exit)) ≡ curvedFrom (startingPoint «start_x» «start_y») (now (deltas .entry)) (now (path .entry)) ⌝ }
 {
-    match dequantize::control_points::starting_point(start_x, start_y) {
+    match control_points::starting_point(start_x, start_y) {
         Start::Out => refused_with(Code::Position),
         Start::At(start) => path_from(start, deltas, path),
     }

@@ -12,10 +12,10 @@ use lib.Seq.{length-take-le}
 use lib.Ieee.{Float}
 use borrow.Author.Tests.{leb-true, leb-false, le-leb, lt-leb}
 use Rattle.dequantize.specs.declared.Given.{Given}
-use Rattle.dequantize.specs.declared.control_points.Pair.{Pair}
-use Rattle.dequantize.specs.declared.control_points.Start.{Start}
-use Rattle.dequantize.specs.declared.control_points.Start.the-variants.{At, Out}
-use Rattle.dequantize.specs.ControlPoints.{startingPoint}
+use Rattle.control_points.specs.declared.Pair.{Pair}
+use Rattle.control_points.specs.declared.Start.{Start}
+use Rattle.control_points.specs.declared.Start.the-variants.{At, Out}
+use Rattle.control_points.specs.ControlPoints.{startingPoint}
 use Rattle.dequantize.specs.Judge.{Description, Shaped, startX, startY, deltasAt, deltasOf, splineOf, judgeOf}
 use Rattle.dequantize.proofs.Judging.{deltas-fit}
 use Rattle.dequantize.proofs.Judgement.{fine-accepted}

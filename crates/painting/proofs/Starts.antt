@@ -4,11 +4,12 @@ use mathlib.Core.List.{List}
 use lib.IntN.{ℤ}
 use lib.Ieee.{Float}
 use Rattle.dequantize.specs.declared.Given.{Given}
-use Rattle.dequantize.specs.declared.control_points.Pair.{Pair}
-use Rattle.dequantize.specs.declared.control_points.Start.{Start}
-use Rattle.dequantize.specs.declared.control_points.Start.the-variants.{At}
-use Rattle.dequantize.specs.ControlPoints.{startingPoint, placeAt}
-use Rattle.dequantize.specs.Asked.{Passable, SplineAccepted}
+use Rattle.control_points.specs.declared.Pair.{Pair}
+use Rattle.control_points.specs.declared.Start.{Start}
+use Rattle.control_points.specs.declared.Start.the-variants.{At}
+use Rattle.control_points.specs.ControlPoints.{startingPoint, placeAt}
+use Rattle.control_points.specs.Asked.{Passable}
+use Rattle.dequantize.specs.Asked.{SplineAccepted}
 
 pub start-walk : (x y : Float) (ds c : List ℤ) (g : Given) → SplineAccepted x y ds c g → {r : Start} (start : Pair) → r ≡ startingPoint x y → r ≡ At start → Passable (placeAt start) ds
 start-walk x y ds c g a {r} start p q =

@@ -9,10 +9,10 @@ use lib.Seq.{sets}
 use lib.Ieee.{Float, nan}
 use Rattle.dequantize.specs.declared.Given.{Given}
 use Rattle.dequantize.specs.declared.Spline.{Spline}
-use Rattle.dequantize.specs.declared.control_points.Start.{Start}
-use Rattle.dequantize.specs.declared.control_points.Start.the-variants.{At, Out}
+use Rattle.control_points.specs.declared.Start.{Start}
+use Rattle.control_points.specs.declared.Start.the-variants.{At, Out}
 use Rattle.dequantize.specs.declared.judge.Judged.the-variants as Judged
-use Rattle.dequantize.specs.ControlPoints.{startingPoint}
+use Rattle.control_points.specs.ControlPoints.{startingPoint}
 use Rattle.dequantize.specs.Dequantize.{dequantizeOf}
 use Rattle.dequantize.specs.Judge.{Description, startX, startY, deltasOf, splineOf, judgeOf}
 use Rattle.segments.specs.declared.Segment.{Segment}

@@ -7,9 +7,9 @@ use mathlib.Core.Logic.{_⊎_}
 use Prim.Native.Nat.{ℕ, suc, _+_, _*_, _/_, _^_, _≤_, _<_, min}
 use lib.ListN.{length, getD}
 use Rattle.dequantize.specs.declared.Given.{Given}
-use Rattle.dequantize.specs.declared.control_points.Pair.{Pair}
-use Rattle.dequantize.specs.declared.control_points.Start.the-variants.{At}
-use Rattle.dequantize.specs.ControlPoints.{startingPoint}
+use Rattle.control_points.specs.declared.Pair.{Pair}
+use Rattle.control_points.specs.declared.Start.the-variants.{At}
+use Rattle.control_points.specs.ControlPoints.{startingPoint}
 use Rattle.dequantize.specs.Judge.{Description, startX, startY, deltasOf, splineOf}
 use Rattle.segments.specs.declared.Segment.{Segment}
 use Rattle.curve.specs.Curve as Curve

@@ -10,8 +10,8 @@ ghost use Rattle.curve.specs.Curve.{pathRoom};
 ghost use Rattle.walk.specs.Walk.{walkRoom};
 ghost use Rattle.dequantize.specs.Judge.{descriptionOf, Shaped};
 ghost use Rattle.painting.specs.Painting.{strandHere, Fills, Passed, paintOf, drawnOf, DrawnOn};
+use control_points::Start;
 use dequantize::Given;
-use dequantize::control_points::Start;
 use points::Filled;
 
 // How many segments there are, or the number of the spline that has no room.
@@ -38,7 +38,7 @@ fn draw_one(
     ensures { λ r. ⌜ Fills from (strandHere (now (starts .entry)) (now (deltas .entry)) (now (coefficients .entry)) k given «high_precision» (length (now (path .entry))) (length (now (walk .entry)))) r (now (out .entry)) (now (out .exit)) ⌝ }
 {
     let spline = dequantize::judge::spline_at(starts, deltas, coefficients, k, given);
-    match dequantize::control_points::starting_point(starts[2 * k], starts[2 * k + 1]) {
+    match control_points::starting_point(starts[2 * k], starts[2 * k + 1]) {
         Start::Out => Filled::Room,
         Start::At(start) => strand::draw_spline(
             start,

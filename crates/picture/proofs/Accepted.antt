@@ -27,9 +27,10 @@ use Rattle.rows.specs.Rows.{inRow, RowsOutcome, outcome, built}
 use Rattle.owners.specs.Owners.{ownedRoom, ownersOf}
 use Rattle.painting.specs.Painting.{strandOfSpline, Painted, All, NoRoomAt, afterStrand, paintFrom, paintOf}
 use Rattle.faint.specs.Faint.{faintIn}
-use Rattle.table.specs.Table.{BuildRooms, Setting, BuildOutcome, givenOf, refusedWith, zeros, verdictOf, afterRows, afterJudge, buildOf}
+use Rattle.table.specs.Table.{BuildRooms, Setting, BuildOutcome, givenOf, refusedWith, zeros, afterRows, afterJudge, buildOf}
+use Rattle.verdict.specs.Verdict.{verdictOf}
 use Rattle.table.specs.Refusals.{painted}
-use Rattle.table.proofs.Checks.{ready}
+use Rattle.verdict.proofs.Checks.{ready}
 use Rattle.table.specs.declared.BuildAnswer.the-variants.{Done}
 
 -- ---- the segments have room

@@ -18,14 +18,14 @@ use borrow.Author.Tests.{le-ltb}
 use Rattle.numbers.specs.Arith.{f}
 use Rattle.numbers.specs.Root.{sqrtOf}
 use Rattle.dequantize.specs.declared.Given.{Given}
-use Rattle.dequantize.specs.declared.control_points.Pair.{Pair}
-use Rattle.dequantize.specs.declared.control_points.Start.the-variants.{At}
-use Rattle.dequantize.specs.ControlPoints.{placeAt, laterPoints, controlPoints}
+use Rattle.control_points.specs.declared.Pair.{Pair}
+use Rattle.control_points.specs.declared.Start.the-variants.{At}
+use Rattle.control_points.specs.ControlPoints.{placeAt, laterPoints, controlPoints}
 use Rattle.dequantize.specs.Judge.{Description, deltasOf, splineOf, totalOf}
 use Rattle.dequantize.specs.Refusals.{AllPass}
 use Rattle.dequantize.proofs.Refusals.{all-fine}
 use Rattle.dequantize.proofs.Judgement.{fine-accepted}
-use Rattle.dequantize.proofs.Pairs.{in-range-mag, point-range}
+use Rattle.control_points.proofs.Pairs.{in-range-mag, point-range}
 use Rattle.segments.specs.declared.Segment.{Segment}
 use Rattle.curve.specs.declared.Point.{Point}
 use Rattle.curve.specs.Curve as Curve

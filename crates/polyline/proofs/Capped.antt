@@ -8,9 +8,9 @@ use lib.Dec.{eqb, leb}
 use lib.IntN.{ℤ, pos, negsuc}
 use lib.Signed.{mag}
 use borrow.Author.Tests.{le-leb, lt-leb, leb-true, leb-false}
-use Rattle.dequantize.specs.ControlPoints.{inRange, validPointPos}
-use Rattle.dequantize.proofs.Pairs.{in-range-mag, point-range}
-use Rattle.dequantize.specs.declared.control_points.Pair.{Pair}
+use Rattle.control_points.specs.ControlPoints.{inRange, validPointPos}
+use Rattle.control_points.proofs.Pairs.{in-range-mag, point-range}
+use Rattle.control_points.specs.declared.Pair.{Pair}
 use Rattle.polyline.specs.declared.Figure.{Figure}
 use Rattle.polyline.specs.declared.Spot.{Spot}
 use Rattle.polyline.specs.declared.Track.{Track}

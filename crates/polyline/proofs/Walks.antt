@@ -9,9 +9,9 @@ use lib.ListN.{length, length-append}
 use Rattle.codes.specs.declared.Code.{Code}
 use Rattle.codes.specs.declared.Code.the-variants.{Position, Coincide}
 use Rattle.codes.proofs.Decides.{both}
-use Rattle.dequantize.specs.ControlPoints.{validPointPos}
-use Rattle.dequantize.specs.declared.control_points.Pair.{Pair}
-use Rattle.dequantize.specs.declared.control_points.Place.{Place}
+use Rattle.control_points.specs.ControlPoints.{validPointPos}
+use Rattle.control_points.specs.declared.Pair.{Pair}
+use Rattle.control_points.specs.declared.Place.{Place}
 use Rattle.polyline.specs.declared.Figure.{Figure}
 use Rattle.polyline.specs.declared.Spot.{Spot}
 use Rattle.polyline.specs.declared.Track.{Track}

@@ -12,12 +12,12 @@ use Rattle.writer.specs.Write.{misshapen, WriteOutcome}
 use Rattle.writer.specs.Write as writing
 use Rattle.writer.specs.declared.Verdict.{Verdict}
 use Rattle.writer.specs.declared.Verdict.the-variants.{Fine, Fault}
-use Rattle.dequantize.specs.ControlPoints.{validPointPos, validDoubleDelta, samePoint, startingPoint, placeAt, movedOf, controlPoints}
+use Rattle.control_points.specs.ControlPoints.{validPointPos, validDoubleDelta, samePoint, startingPoint, placeAt, movedOf, controlPoints}
 use Rattle.dequantize.specs.Judge.{Description, descriptionOf, startX, startY, deltasOf}
-use Rattle.dequantize.specs.declared.control_points.Pair.{Pair}
-use Rattle.dequantize.specs.declared.control_points.Place.{Place}
-use Rattle.dequantize.specs.declared.control_points.Start.{Start}
-use Rattle.dequantize.specs.declared.control_points.Start.the-variants as S
+use Rattle.control_points.specs.declared.Pair.{Pair}
+use Rattle.control_points.specs.declared.Place.{Place}
+use Rattle.control_points.specs.declared.Start.{Start}
+use Rattle.control_points.specs.declared.Start.the-variants as S
 use Rattle.polyline.specs.declared.Gone.{Gone}
 use Rattle.polyline.specs.declared.Gone.the-variants.{On, Stop}
 use Rattle.polyline.specs.Read.{andThen}

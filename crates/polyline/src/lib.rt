@@ -1,7 +1,7 @@
 // Line drawings: the form of a points text, what it says, and what reading and writing one find. Definitions and their laws only.
 use codes::Code;
-use dequantize::control_points::Pair;
-use dequantize::control_points::Place;
+use control_points::Pair;
+use control_points::Place;
 
 // Where a points text stands inside a pair: before a number, after its minus, after a 0, or after digits that may go on. The number is y where the bool is true.
 pub enum Stage {

@@ -15,15 +15,15 @@ use Rattle.list.specs.Steps.{f32Of, zeroF32}
 use Rattle.writer.specs.declared.Verdict.{Verdict}
 use Rattle.writer.specs.declared.Verdict.the-variants.{Fine, Fault}
 use Rattle.writer.specs.declared.WriteAnswer.the-variants.{Done, Refused}
-use Rattle.dequantize.specs.ControlPoints.{plusOf, placeAt, movedOf, laterPoints, controlPoints, validDoubleDelta, validPointPos, samePoint, coincideFrom, adjacentCoincide}
-use Rattle.dequantize.specs.Asked.{passes, Passable}
-use Rattle.dequantize.specs.Refusals.{Inside}
-use Rattle.dequantize.specs.declared.control_points.Pair.{Pair}
-use Rattle.dequantize.specs.declared.control_points.Place.{Place}
-use Rattle.dequantize.proofs.Coincide.{same-point}
-use Rattle.dequantize.proofs.Ranges.{point-decides}
-use Rattle.dequantize.proofs.Starts.{start-valid}
-use Rattle.dequantize.proofs.Walks.{traced-walk, points-length}
+use Rattle.control_points.specs.ControlPoints.{plusOf, placeAt, movedOf, laterPoints, controlPoints, validDoubleDelta, validPointPos, samePoint, coincideFrom, adjacentCoincide}
+use Rattle.control_points.specs.Asked.{passes, Passable}
+use Rattle.control_points.specs.Refusals.{Inside}
+use Rattle.control_points.specs.declared.Pair.{Pair}
+use Rattle.control_points.specs.declared.Place.{Place}
+use Rattle.control_points.proofs.Coincide.{same-point}
+use Rattle.control_points.proofs.Ranges.{point-decides}
+use Rattle.control_points.proofs.Starts.{start-valid}
+use Rattle.control_points.proofs.Walks.{traced-walk, points-length}
 use Rattle.polyline.specs.declared.Gone.the-variants as gone
 use Rattle.polyline.specs.declared.Spot.{Spot}
 use Rattle.polyline.specs.declared.Track.the-variants.{Empty, At}

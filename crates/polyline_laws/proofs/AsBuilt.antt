@@ -14,13 +14,14 @@ use Rattle.codes.specs.declared.Code.the-variants.{Room, Distance, Area}
 use Rattle.codes.proofs.Decides.{Decides}
 use Rattle.writer.specs.declared.Verdict.the-variants.{Fine, Fault}
 use Rattle.writer.specs.declared.WriteAnswer.the-variants.{Refused}
-use Rattle.dequantize.specs.ControlPoints.{startingPoint, controlPoints, pairAt}
+use Rattle.control_points.specs.ControlPoints.{startingPoint, controlPoints, pairAt}
 use Rattle.dequantize.specs.Judge.{Description, descriptionOf, startX, startY, deltasOf}
-use Rattle.dequantize.specs.Refusals.{RoundsTo, Adjacent, deltaAt, controlPointAt, PairRefusal, delta-large, delta-outside, too-far, point-outside, SplinePasses, SplineRefusal, start-strays, pair-refused, area-above, points-meet}
+use Rattle.control_points.specs.Refusals.{RoundsTo, Adjacent, deltaAt, controlPointAt, PairRefusal, delta-large, delta-outside, too-far, point-outside}
+use Rattle.dequantize.specs.Refusals.{SplinePasses, SplineRefusal, start-strays, pair-refused, area-above, points-meet}
 use Rattle.dequantize.specs.declared.Given.{Given}
-use Rattle.dequantize.specs.declared.control_points.Pair.{Pair}
-use Rattle.dequantize.specs.declared.control_points.Start.the-variants as S
-use Rattle.dequantize.proofs.Ranges.{point-decides, double-delta-decides, starting-out}
+use Rattle.control_points.specs.declared.Pair.{Pair}
+use Rattle.control_points.specs.declared.Start.the-variants as S
+use Rattle.control_points.proofs.Ranges.{point-decides, double-delta-decides, starting-out}
 use Rattle.polyline.specs.Write.{splineText, writeVerdict, writePointsOf}
 use Rattle.polyline_laws.specs.Refusals.{StepPasses, There, Goes, pointsBy}
 use Rattle.polyline_laws.proofs.Answers.{wrote}

@@ -18,24 +18,24 @@ use Rattle.codes.specs.declared.Code.the-variants.{Delta, Position, Distance}
 use Rattle.codes.proofs.Decides.{both}
 use Rattle.list.specs.Steps.{f32Of}
 use Rattle.numbers.specs.Whole.{half, wholeBy, roundOf}
-use Rattle.dequantize.specs.ControlPoints.{inRange, orStop, onward, stepOf, traceFrom, traceOf, runAt, pairAt, plusOf, manhattanOf, roundedOf, startingPoint, placeAt, movedOf, laterPoints, controlPoints, validDoubleDelta, validPointPos, samePoint, coincideFrom, adjacentCoincide}
-use Rattle.dequantize.specs.Asked.{passes, Passable}
-use Rattle.dequantize.specs.Refusals.{Inside, Outside, Small, sumUpTo, deltaAt, farAt, PairPasses, PairRefusal, delta-large, delta-outside, too-far, point-outside}
-use Rattle.dequantize.specs.declared.control_points.Pair.{Pair}
-use Rattle.dequantize.specs.declared.control_points.Place.{Place}
-use Rattle.dequantize.specs.declared.control_points.Run.{Run}
-use Rattle.dequantize.specs.declared.control_points.Whole.the-variants as W
-use Rattle.dequantize.specs.declared.control_points.Start.the-variants as S
-use Rattle.dequantize.specs.declared.control_points.Traced.{Traced}
-use Rattle.dequantize.specs.declared.control_points.Traced.the-variants as traced
-use Rattle.dequantize.proofs.ByKind.{start-by-kind}
-use Rattle.dequantize.proofs.Pairs.{in-range-mag, point-range, abs-mag}
-use Rattle.dequantize.proofs.Ranges.{point-decides, double-delta-decides}
-use Rattle.dequantize.proofs.Starts.{start-valid}
-use Rattle.dequantize.proofs.Steps.{onto}
-use Rattle.dequantize.proofs.Coincide.{controlOf, coincides}
-use Rattle.dequantize.proofs.Walks.{traced-walk}
-use Rattle.dequantize.proofs.Tracing.{trace-stops}
+use Rattle.control_points.specs.ControlPoints.{inRange, orStop, onward, stepOf, traceFrom, traceOf, runAt, pairAt, plusOf, manhattanOf, roundedOf, startingPoint, placeAt, movedOf, laterPoints, controlPoints, validDoubleDelta, validPointPos, samePoint, coincideFrom, adjacentCoincide}
+use Rattle.control_points.specs.Asked.{passes, Passable}
+use Rattle.control_points.specs.Refusals.{Inside, Outside, Small, sumUpTo, deltaAt, farAt, PairPasses, PairRefusal, delta-large, delta-outside, too-far, point-outside}
+use Rattle.control_points.specs.declared.Pair.{Pair}
+use Rattle.control_points.specs.declared.Place.{Place}
+use Rattle.control_points.specs.declared.Run.{Run}
+use Rattle.control_points.specs.declared.Whole.the-variants as W
+use Rattle.control_points.specs.declared.Start.the-variants as S
+use Rattle.control_points.specs.declared.Traced.{Traced}
+use Rattle.control_points.specs.declared.Traced.the-variants as traced
+use Rattle.control_points.proofs.ByKind.{start-by-kind}
+use Rattle.control_points.proofs.Pairs.{in-range-mag, point-range, abs-mag}
+use Rattle.control_points.proofs.Ranges.{point-decides, double-delta-decides}
+use Rattle.control_points.proofs.Starts.{start-valid}
+use Rattle.control_points.proofs.Steps.{onto}
+use Rattle.control_points.proofs.Coincide.{controlOf, coincides}
+use Rattle.control_points.proofs.Walks.{traced-walk}
+use Rattle.control_points.proofs.Tracing.{trace-stops}
 use Rattle.polyline.specs.declared.Gone.{Gone}
 use Rattle.polyline.specs.declared.Gone.the-variants as gone
 use Rattle.polyline.specs.Read.{minusOf, doubleDelta}

@@ -13,12 +13,12 @@ use Rattle.codes.proofs.Decides.{Decides, less-than, either-decides}
 use Rattle.writer.specs.declared.Verdict.{Verdict}
 use Rattle.writer.specs.declared.Verdict.the-variants.{Fine, Fault}
 use Rattle.writer.specs.declared.WriteAnswer.the-variants.{Refused}
-use Rattle.dequantize.specs.ControlPoints.{validPointPos, samePoint, placeAt}
-use Rattle.dequantize.specs.Refusals.{Inside, Outside}
-use Rattle.dequantize.specs.declared.control_points.Pair.{Pair}
-use Rattle.dequantize.specs.declared.control_points.Place.{Place}
-use Rattle.dequantize.proofs.Ranges.{point-decides}
-use Rattle.dequantize.proofs.Coincide.{same-point}
+use Rattle.control_points.specs.ControlPoints.{validPointPos, samePoint, placeAt}
+use Rattle.control_points.specs.Refusals.{Inside, Outside}
+use Rattle.control_points.specs.declared.Pair.{Pair}
+use Rattle.control_points.specs.declared.Place.{Place}
+use Rattle.control_points.proofs.Ranges.{point-decides}
+use Rattle.control_points.proofs.Coincide.{same-point}
 use Rattle.polyline.specs.declared.Spot.{Spot}
 use Rattle.polyline.specs.declared.Track.{Track}
 use Rattle.polyline.specs.declared.Track.the-variants.{Empty, At}

@@ -9,7 +9,7 @@ use lib.Dec.{eqb, ltb}
 use lib.ListN.{length, length-append}
 use lib.IntN.{ℤ, pos, negsuc}
 use borrow.Author.Tests.{ne-eqb, eq-eqb, ltb-true, ltb-false}
-use Rattle.dequantize.specs.declared.control_points.Pair.{Pair}
+use Rattle.control_points.specs.declared.Pair.{Pair}
 use Rattle.polyline.specs.declared.Figure.{Figure}
 use Rattle.polyline.specs.declared.Spot.{Spot}
 use Rattle.polyline.specs.Form.{IsDigit, IsLeading, Digits, Number, nought, plain, minus, PairForm, pair, PointsForm, last, more}

@@ -18,13 +18,13 @@ use Rattle.writer.specs.Write.{WriteOutcome}
 use Rattle.writer.specs.declared.Verdict.{Verdict}
 use Rattle.writer.specs.declared.Verdict.the-variants.{Fine, Fault}
 use Rattle.writer.specs.declared.WriteAnswer.the-variants.{Done}
-use Rattle.dequantize.specs.ControlPoints.{startingPoint, controlPoints, validPointPos}
+use Rattle.control_points.specs.ControlPoints.{startingPoint, controlPoints, validPointPos}
 use Rattle.dequantize.specs.Judge.{Description, descriptionOf, startX, startY, deltasAt, deltasOf}
-use Rattle.dequantize.specs.declared.control_points.Pair.{Pair}
-use Rattle.dequantize.specs.declared.control_points.Place.{Place}
-use Rattle.dequantize.specs.declared.control_points.Start.the-variants as S
-use Rattle.dequantize.proofs.Coincide.{controlOf}
-use Rattle.dequantize.proofs.Starts.{start-valid}
+use Rattle.control_points.specs.declared.Pair.{Pair}
+use Rattle.control_points.specs.declared.Place.{Place}
+use Rattle.control_points.specs.declared.Start.the-variants as S
+use Rattle.control_points.proofs.Coincide.{controlOf}
+use Rattle.control_points.proofs.Starts.{start-valid}
 use Rattle.polyline.specs.declared.Gone.{Gone}
 use Rattle.polyline.specs.declared.Gone.the-variants.{On, Stop}
 use Rattle.polyline.specs.Read.{PointsOutcome, leaves, readPointsOf}

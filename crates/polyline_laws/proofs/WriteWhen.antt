@@ -20,21 +20,21 @@ use Rattle.writer.specs.Write as writing
 use Rattle.writer.specs.declared.Verdict.{Verdict}
 use Rattle.writer.specs.declared.Verdict.the-variants.{Fine, Fault}
 use Rattle.writer.specs.declared.WriteAnswer.the-variants.{Done, Refused}
-use Rattle.dequantize.specs.ControlPoints.{startingPoint, placeAt, controlPoints, validPointPos, samePoint, coincideFrom, adjacentCoincide, traceOf, pairAt}
+use Rattle.control_points.specs.ControlPoints.{startingPoint, placeAt, controlPoints, validPointPos, samePoint, coincideFrom, adjacentCoincide, traceOf, pairAt}
 use Rattle.dequantize.specs.Judge.{Description, descriptionOf, startX, startY, deltasOf}
-use Rattle.dequantize.specs.Refusals.{Inside, Outside, Small, Large, RoundsTo, Strays, nowhere, deltaAt, controlPointAt, Adjacent, PairPasses, PairRefusal}
-use Rattle.dequantize.specs.Refusals as building
-use Rattle.dequantize.specs.declared.control_points.Pair.{Pair}
-use Rattle.dequantize.specs.declared.control_points.Run.{Run}
-use Rattle.dequantize.specs.declared.control_points.Start.{Start}
-use Rattle.dequantize.specs.declared.control_points.Start.the-variants as S
-use Rattle.dequantize.specs.declared.control_points.Traced.{Traced}
-use Rattle.dequantize.specs.declared.control_points.Traced.the-variants.{On, Stop}
-use Rattle.dequantize.proofs.Coincide.{same-point, coincides}
-use Rattle.dequantize.proofs.Ranges.{starts-at, starting-at, starts-out, starting-out}
-use Rattle.dequantize.proofs.Starts.{start-valid}
-use Rattle.dequantize.proofs.Tracing.{trace-passed, trace-stops, refused-stops, passed-traces}
-use Rattle.dequantize.proofs.Walks.{allInRange, points-in-range, traced-walk}
+use Rattle.control_points.specs.Refusals.{Inside, Outside, Small, Large, RoundsTo, Strays, nowhere, deltaAt, controlPointAt, Adjacent, PairPasses, PairRefusal}
+use Rattle.control_points.specs.Refusals as building
+use Rattle.control_points.specs.declared.Pair.{Pair}
+use Rattle.control_points.specs.declared.Run.{Run}
+use Rattle.control_points.specs.declared.Start.{Start}
+use Rattle.control_points.specs.declared.Start.the-variants as S
+use Rattle.control_points.specs.declared.Traced.{Traced}
+use Rattle.control_points.specs.declared.Traced.the-variants.{On, Stop}
+use Rattle.control_points.proofs.Coincide.{same-point, coincides}
+use Rattle.control_points.proofs.Ranges.{starts-at, starting-at, starts-out, starting-out}
+use Rattle.control_points.proofs.Starts.{start-valid}
+use Rattle.control_points.proofs.Tracing.{trace-passed, trace-stops, refused-stops, passed-traces}
+use Rattle.control_points.proofs.Walks.{allInRange, points-in-range, traced-walk}
 use Rattle.polyline.specs.Read.{andThen}
 use Rattle.polyline.specs.Write.{pointsText, goneOf, settled, begun, splineVerdict, textAt, splineText, noSpline, writeVerdict, writePointsOf}
 use Rattle.polyline_laws.specs.Refusals.{StepPasses, StepRefusal, delta-large, delta-outside, point-outside, There, Goes, pointsBy, PointsWriteRefusal, shape, start, pair, coincide, room, PointsWritten}

@@ -12,13 +12,13 @@ use Rattle.codes.specs.declared.Code.{Code}
 use Rattle.codes.specs.declared.Code.the-variants.{Text, Position, Coincide, Room, Shape, Delta}
 use Rattle.shape.specs.Shape.{Shaped}
 use Rattle.list.specs.Steps.{f32Of}
-use Rattle.dequantize.specs.ControlPoints.{pairAt, startingPoint, controlPoints, adjacentCoincide, traceOf}
+use Rattle.control_points.specs.ControlPoints.{pairAt, startingPoint, controlPoints, adjacentCoincide, traceOf}
 use Rattle.dequantize.specs.Judge.{Description, descriptionOf, startX, startY, deltasOf}
-use Rattle.dequantize.specs.Refusals.{Inside, Outside, Small, Large, RoundsTo, Strays, nowhere, deltaAt, controlPointAt, Adjacent}
-use Rattle.dequantize.specs.declared.control_points.Pair.{Pair}
-use Rattle.dequantize.specs.declared.control_points.Run.{Run}
-use Rattle.dequantize.specs.declared.control_points.Start.the-variants.{At}
-use Rattle.dequantize.specs.declared.control_points.Traced.the-variants.{On}
+use Rattle.control_points.specs.Refusals.{Inside, Outside, Small, Large, RoundsTo, Strays, nowhere, deltaAt, controlPointAt, Adjacent}
+use Rattle.control_points.specs.declared.Pair.{Pair}
+use Rattle.control_points.specs.declared.Run.{Run}
+use Rattle.control_points.specs.declared.Start.the-variants.{At}
+use Rattle.control_points.specs.declared.Traced.the-variants.{On}
 use Rattle.polyline.specs.Form.{PointsForm}
 use Rattle.polyline.specs.Read.{minusOf, laterOf}
 use Rattle.polyline.specs.Write.{pointsText}

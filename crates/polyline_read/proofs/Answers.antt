@@ -18,9 +18,9 @@ use Rattle.writer.specs.declared.Verdict.the-variants.{Fine, Fault}
 use Rattle.writer.specs.declared.WriteAnswer.{WriteAnswer}
 use Rattle.writer.specs.declared.WriteAnswer.the-variants.{Done, Refused}
 use Rattle.writer.proofs.Checks.{neither}
-use Rattle.dequantize.specs.ControlPoints.{validPointPos}
-use Rattle.dequantize.specs.declared.control_points.Pair.{Pair}
-use Rattle.dequantize.specs.declared.control_points.Place.{Place}
+use Rattle.control_points.specs.ControlPoints.{validPointPos}
+use Rattle.control_points.specs.declared.Pair.{Pair}
+use Rattle.control_points.specs.declared.Place.{Place}
 use Rattle.polyline.specs.declared.Spot.{Spot}
 use Rattle.polyline.specs.declared.Track.{Track}
 use Rattle.polyline.specs.declared.Track.the-variants.{Empty, At}

@@ -10,11 +10,11 @@ use borrow.Author.Tests.{lt-ltb, le-leb, lt-leb, leb-false, eqb-true, eqb-false}
 use mir.Syntax.{w32}
 use mir.Val.{SFits, toZ, ofZ}
 use mir.Facts.{toZ-ofZ}
-use Rattle.dequantize.specs.ControlPoints.{validPointPos, samePoint, placeAt}
-use Rattle.dequantize.specs.declared.control_points.Pair.{Pair}
-use Rattle.dequantize.specs.declared.control_points.Place.{Place}
-use Rattle.dequantize.proofs.Coincide.{same-point}
-use Rattle.dequantize.proofs.Pairs.{in-range-mag, point-range}
+use Rattle.control_points.specs.ControlPoints.{validPointPos, samePoint, placeAt}
+use Rattle.control_points.specs.declared.Pair.{Pair}
+use Rattle.control_points.specs.declared.Place.{Place}
+use Rattle.control_points.proofs.Coincide.{same-point}
+use Rattle.control_points.proofs.Pairs.{in-range-mag, point-range}
 use Rattle.polyline.specs.declared.Figure.{Figure}
 use Rattle.polyline.specs.declared.Track.{Track}
 use Rattle.polyline.specs.declared.Track.the-variants.{Empty, At}

@@ -12,9 +12,9 @@ use lib.Seq.{drop-cons, sets, length-sets, getD-append-seam}
 use borrow.Author.Tests.{eq-eqb, ne-eqb, eqb-true, eqb-false}
 use Rattle.codes.specs.declared.Code.{Code}
 use Rattle.codes.specs.declared.Code.the-variants.{Position, Coincide}
-use Rattle.dequantize.specs.ControlPoints.{validPointPos, samePoint, placeAt}
-use Rattle.dequantize.specs.declared.control_points.Pair.{Pair}
-use Rattle.dequantize.specs.declared.control_points.Place.{Place}
+use Rattle.control_points.specs.ControlPoints.{validPointPos, samePoint, placeAt}
+use Rattle.control_points.specs.declared.Pair.{Pair}
+use Rattle.control_points.specs.declared.Place.{Place}
 use Rattle.writer.proofs.Stores.{sets-append}
 use Rattle.polyline.specs.declared.Figure.{Figure}
 use Rattle.polyline.specs.declared.Spot.{Spot}

@@ -13,8 +13,8 @@ use Rattle.writer.specs.declared.WriteAnswer.{WriteAnswer}
 use Rattle.writer.specs.declared.WriteAnswer.the-variants.{Done, Refused}
 use Rattle.writer.specs.declared.Verdict.{Verdict}
 use Rattle.writer.specs.declared.Verdict.the-variants.{Fine, Fault}
-use Rattle.dequantize.specs.ControlPoints.{validPointPos}
-use Rattle.dequantize.specs.declared.control_points.Pair.{Pair}
+use Rattle.control_points.specs.ControlPoints.{validPointPos}
+use Rattle.control_points.specs.declared.Pair.{Pair}
 use Rattle.polyline.specs.declared.Figure.{Figure}
 use Rattle.polyline.specs.declared.Spot.{Spot}
 use Rattle.polyline.specs.declared.Track.{Track}

@@ -21,13 +21,13 @@ use Rattle.writer.specs.declared.WriteAnswer.{WriteAnswer}
 use Rattle.writer.specs.declared.WriteAnswer.the-variants.{Done, Refused}
 use Rattle.writer.proofs.Checks.{agreed}
 use Rattle.writer.proofs.Stores.{zeros-after}
-use Rattle.dequantize.specs.ControlPoints.{startingPoint, controlPoints, placeAt, validPointPos}
-use Rattle.dequantize.specs.Asked.{Passable}
+use Rattle.control_points.specs.ControlPoints.{startingPoint, controlPoints, placeAt, validPointPos}
+use Rattle.control_points.specs.Asked.{Passable}
 use Rattle.dequantize.specs.Judge.{descriptionOf, startX, startY, deltasAt, deltasOf}
-use Rattle.dequantize.specs.declared.control_points.Pair.{Pair}
-use Rattle.dequantize.specs.declared.control_points.Start.{Start}
-use Rattle.dequantize.specs.declared.control_points.Start.the-variants as S
-use Rattle.dequantize.proofs.Starts.{start-valid}
+use Rattle.control_points.specs.declared.Pair.{Pair}
+use Rattle.control_points.specs.declared.Start.{Start}
+use Rattle.control_points.specs.declared.Start.the-variants as S
+use Rattle.control_points.proofs.Starts.{start-valid}
 use Rattle.polyline.specs.declared.Gone.{Gone}
 use Rattle.polyline.specs.declared.Gone.the-variants.{On, Stop}
 use Rattle.polyline.specs.Read.{andThen}

@@ -8,13 +8,13 @@ use lib.IntN.{ℤ}
 use lib.ListN.{length, drop, length-drop}
 use Rattle.codes.specs.declared.Code.{Code}
 use Rattle.codes.specs.declared.Code.the-variants.{Delta, Position, Coincide}
-use Rattle.dequantize.specs.ControlPoints.{validPointPos, validDoubleDelta, samePoint, plusOf, movedOf, placeAt, pairAt, startingPoint}
-use Rattle.dequantize.specs.Asked.{passes, Passable}
-use Rattle.dequantize.specs.declared.control_points.Pair.{Pair}
-use Rattle.dequantize.specs.declared.control_points.Place.{Place}
-use Rattle.dequantize.specs.declared.control_points.Start.{Start}
-use Rattle.dequantize.specs.declared.control_points.Start.the-variants as S
-use Rattle.dequantize.proofs.Steps.{pair-drop}
+use Rattle.control_points.specs.ControlPoints.{validPointPos, validDoubleDelta, samePoint, plusOf, movedOf, placeAt, pairAt, startingPoint}
+use Rattle.control_points.specs.Asked.{passes, Passable}
+use Rattle.control_points.specs.declared.Pair.{Pair}
+use Rattle.control_points.specs.declared.Place.{Place}
+use Rattle.control_points.specs.declared.Start.{Start}
+use Rattle.control_points.specs.declared.Start.the-variants as S
+use Rattle.control_points.proofs.Steps.{pair-drop}
 use Rattle.polyline.specs.declared.Gone.{Gone}
 use Rattle.polyline.specs.declared.Gone.the-variants.{On, Stop}
 use Rattle.polyline.specs.Write.{goneBy, onward, goneFrom, goneOf}

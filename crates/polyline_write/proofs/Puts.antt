@@ -7,11 +7,11 @@ use native.Mathlib.Omega.{arith}
 use lib.IntN.{ℤ}
 use lib.ListN.{length, set, drop, length-append, length-drop}
 use lib.Seq.{sets, length-sets}
-use Rattle.dequantize.specs.ControlPoints.{movedOf, placeAt, pairAt, laterPoints, controlPoints}
-use Rattle.dequantize.specs.Asked.{Passable}
-use Rattle.dequantize.specs.declared.control_points.Pair.{Pair}
-use Rattle.dequantize.specs.declared.control_points.Place.{Place}
-use Rattle.dequantize.proofs.Walks.{points-more, points-done, walk-more}
+use Rattle.control_points.specs.ControlPoints.{movedOf, placeAt, pairAt, laterPoints, controlPoints}
+use Rattle.control_points.specs.Asked.{Passable}
+use Rattle.control_points.specs.declared.Pair.{Pair}
+use Rattle.control_points.specs.declared.Place.{Place}
+use Rattle.control_points.proofs.Walks.{points-more, points-done, walk-more}
 use Rattle.writer.proofs.Stores.{sets-append}
 use Rattle.polyline.specs.Write.{numberText, pairText, laterText, pointsText}
 use Rattle.polyline_write.specs.declared.Put.the-variants.{Ends, Full}

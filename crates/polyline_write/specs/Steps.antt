@@ -14,11 +14,11 @@ use Rattle.writer.specs.declared.WriteAnswer.{WriteAnswer}
 use Rattle.writer.specs.declared.WriteAnswer.the-variants.{Done, Refused}
 use Rattle.writer.specs.declared.Verdict.{Verdict}
 use Rattle.writer.specs.declared.Verdict.the-variants.{Fine, Fault}
-use Rattle.dequantize.specs.ControlPoints.{validPointPos, startingPoint}
-use Rattle.dequantize.specs.declared.control_points.Pair.{Pair}
-use Rattle.dequantize.specs.declared.control_points.Place.{Place}
-use Rattle.dequantize.specs.declared.control_points.Start.{Start}
-use Rattle.dequantize.specs.declared.control_points.Start.the-variants as S
+use Rattle.control_points.specs.ControlPoints.{validPointPos, startingPoint}
+use Rattle.control_points.specs.declared.Pair.{Pair}
+use Rattle.control_points.specs.declared.Place.{Place}
+use Rattle.control_points.specs.declared.Start.{Start}
+use Rattle.control_points.specs.declared.Start.the-variants as S
 use Rattle.polyline.specs.declared.Gone.{Gone}
 use Rattle.polyline.specs.declared.Gone.the-variants.{On, Stop}
 use Rattle.polyline.specs.Read.{andThen}

@@ -2,12 +2,12 @@
 // The spline is judged as building does, but for its length and area, and by itself: no other spline's points are looked at.
 use buffers::clear_u8;
 use codes::Code;
+use control_points::Pair;
+use control_points::Place;
+use control_points::Start;
+use control_points::starting_point;
 use decimal::put_byte;
 use decimal::put_number;
-use dequantize::control_points::Pair;
-use dequantize::control_points::Place;
-use dequantize::control_points::Start;
-use dequantize::control_points::starting_point;
 use polyline::Gone;
 use polyline_read::same;
 use polyline_read::valid;
@@ -22,8 +22,8 @@ ghost use lib.Seq.{sets};
 ghost use lib.Ieee.{nan};
 ghost use Rattle.shape.specs.Shape.{pointsOf};
 ghost use Rattle.writer.specs.Write.{leaves};
-ghost use Rattle.dequantize.specs.ControlPoints.{belowDeltaLimit, validPointPos, validDoubleDelta, startingPoint, laterPoints, controlPoints, placeAt};
-ghost use Rattle.dequantize.specs.Asked.{Passable};
+ghost use Rattle.control_points.specs.ControlPoints.{belowDeltaLimit, validPointPos, validDoubleDelta, startingPoint, laterPoints, controlPoints, placeAt};
+ghost use Rattle.control_points.specs.Asked.{Passable};
 ghost use Rattle.polyline.specs.declared.Gone.{Gone};
 ghost use Rattle.polyline.specs.Write.{pairText, laterText, pointsText, goneBy, goneOf, textAt, writePointsOf};
 ghost use Rattle.polyline_write.specs.Steps.{Placed, begunAt, PutLeaves, oneVerdict, OneLeaves, partOf, Parted};

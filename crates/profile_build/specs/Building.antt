@@ -10,7 +10,8 @@ use Rattle.codes.specs.declared.Code.{Code}
 use Rattle.codes.specs.declared.Code.the-variants as Code
 use Rattle.dequantize.specs.Judge.{Description}
 use Rattle.table.specs.declared.BuildAnswer.{BuildAnswer}
-use Rattle.table.specs.Table.{BuildRooms, Setting, BuildOutcome, zeros, sized, buildOf}
+use Rattle.table.specs.Table.{BuildRooms, Setting, BuildOutcome, zeros, buildOf}
+use Rattle.verdict.specs.Verdict.{sized}
 use Rattle.profile.specs.declared.ProfileAnswer.{ProfileAnswer}
 use Rattle.profile.specs.Profile.{answerOf}
 use Rattle.profile_build.specs.declared.ProfileBuildAnswer.{ProfileBuildAnswer}

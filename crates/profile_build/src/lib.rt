@@ -1,7 +1,8 @@
 // Building by profile: SIZE, the check of the profile, then a build. A refusal leaves every lent cell zero.
 ghost use mathlib.Core.Path.{_≡_};
 ghost use Rattle.dequantize.specs.Judge.{descriptionOf};
-ghost use Rattle.table.specs.Table.{roomsOf, settingOf, sized};
+ghost use Rattle.table.specs.Table.{roomsOf, settingOf};
+ghost use Rattle.verdict.specs.Verdict.{sized};
 ghost use Rattle.profile_build.specs.Building.{ofBuild, checkOf, leaves, stoppedWith, toldOf, buildProfileOf};
 use codes::Code;
 use profile::ProfileAnswer;

@@ -11,15 +11,17 @@ use borrow.Author.Tests.{leb-true, leb-false, le-leb, lt-leb}
 use Rattle.codes.specs.declared.Code.{Code}
 use Rattle.codes.specs.declared.Code.the-variants as Code
 use Rattle.dequantize.specs.Judge.{Description}
+use Rattle.control_points.specs.Refusals as tracing
 use Rattle.dequantize.specs.Refusals as judging
 use Rattle.dequantize.specs.declared.Given.{Given}
-use Rattle.dequantize.specs.declared.control_points.Pair.{Pair}
+use Rattle.control_points.specs.declared.Pair.{Pair}
 use Rattle.table.specs.declared.BuildAnswer.{BuildAnswer}
-use Rattle.table.specs.Table.{BuildRooms, Setting, BuildOutcome, refusedWith, sized, buildOf}
+use Rattle.table.specs.Table.{BuildRooms, Setting, BuildOutcome, refusedWith, buildOf}
+use Rattle.verdict.specs.Verdict.{sized}
 use Rattle.table.specs.Refusals.{BuildRefusal}
 use Rattle.table.specs.Refusals as building
 use Rattle.table.proofs.Users.{refused, refused-exactly}
-use Rattle.table.proofs.Checks.{both}
+use Rattle.verdict.proofs.Checks.{both}
 use Rattle.profile.specs.declared.ProfileAnswer.{ProfileAnswer}
 use Rattle.profile.specs.Profile.{answerOf}
 use Rattle.profile_build.specs.declared.ProfileBuildAnswer.{ProfileBuildAnswer}
@@ -202,11 +204,11 @@ module _ (d : Description) (i : Setting) (e : ℕ) (r : BuildRooms) where
 -- ---- EDITION
 
 -- no spline is refused by EDITION, and no build
-pair-no-edition : {limit : ℕ} {start : Pair} {ds : List ℤ} {j : ℕ} {c : Code} → judging.PairRefusal limit start ds j c → c ≡ Code.Edition → ⊥
-pair-no-edition (judging.delta-large h) q = let z : _≡_ {A = ℕ} 0 1 = cc in omega arith
-pair-no-edition (judging.delta-outside h k) q = let z : _≡_ {A = ℕ} 0 1 = cc in omega arith
-pair-no-edition (judging.too-far h k m) q = let z : _≡_ {A = ℕ} 0 1 = cc in omega arith
-pair-no-edition (judging.point-outside h k m n) q = let z : _≡_ {A = ℕ} 0 1 = cc in omega arith
+pair-no-edition : {limit : ℕ} {start : Pair} {ds : List ℤ} {j : ℕ} {c : Code} → tracing.PairRefusal limit start ds j c → c ≡ Code.Edition → ⊥
+pair-no-edition (tracing.delta-large h) q = let z : _≡_ {A = ℕ} 0 1 = cc in omega arith
+pair-no-edition (tracing.delta-outside h k) q = let z : _≡_ {A = ℕ} 0 1 = cc in omega arith
+pair-no-edition (tracing.too-far h k m) q = let z : _≡_ {A = ℕ} 0 1 = cc in omega arith
+pair-no-edition (tracing.point-outside h k m n) q = let z : _≡_ {A = ℕ} 0 1 = cc in omega arith
 
 spline-no-edition : {d : Description} {g : Given} {k : ℕ} {c : Code} → judging.SplineRefusal d g k c → c ≡ Code.Edition → ⊥
 spline-no-edition (judging.start-strays h) q = let z : _≡_ {A = ℕ} 0 1 = cc in omega arith

@@ -12,11 +12,11 @@ use lib.Seq.{length-take-le}
 use lib.Ieee.{Float}
 use Rattle.dequantize.specs.declared.Given.{Given}
 use Rattle.dequantize.specs.declared.Spline.{Spline}
-use Rattle.dequantize.specs.declared.control_points.Pair.{Pair}
-use Rattle.dequantize.specs.declared.control_points.Start.{Start}
-use Rattle.dequantize.specs.declared.control_points.Start.the-variants.{At}
+use Rattle.control_points.specs.declared.Pair.{Pair}
+use Rattle.control_points.specs.declared.Start.{Start}
+use Rattle.control_points.specs.declared.Start.the-variants.{At}
 use Rattle.dequantize.specs.Coefficients.{table}
-use Rattle.dequantize.specs.ControlPoints.{startingPoint}
+use Rattle.control_points.specs.ControlPoints.{startingPoint}
 use Rattle.dequantize.specs.Dequantize.{dequantizeOf}
 use Rattle.dequantize.proofs.Tables.{length-table}
 use Rattle.numbers.specs.Arith.{f}

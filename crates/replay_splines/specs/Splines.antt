@@ -9,13 +9,13 @@ use lib.Ieee.{binary32, ofBits, ofInt}
 use Rattle.codes.specs.Codes.{numberOf}
 use Rattle.dequantize.specs.declared.Given.{Given}
 use Rattle.dequantize.specs.declared.Spline.{Spline}
-use Rattle.dequantize.specs.declared.control_points.Pair.{Pair}
-use Rattle.dequantize.specs.declared.control_points.Run.{Run}
-use Rattle.dequantize.specs.declared.control_points.Start.{Start}
-use Rattle.dequantize.specs.declared.control_points.Start.the-variants.{At, Out}
-use Rattle.dequantize.specs.declared.control_points.Traced.the-variants.{On}
+use Rattle.control_points.specs.declared.Pair.{Pair}
+use Rattle.control_points.specs.declared.Run.{Run}
+use Rattle.control_points.specs.declared.Start.{Start}
+use Rattle.control_points.specs.declared.Start.the-variants.{At, Out}
+use Rattle.control_points.specs.declared.Traced.the-variants.{On}
 use Rattle.dequantize.specs.Coefficients.{table}
-use Rattle.dequantize.specs.ControlPoints.{traceOf}
+use Rattle.control_points.specs.ControlPoints.{traceOf}
 use Rattle.numbers.specs.Arith.{f}
 use Rattle.curve.specs.declared.Curved.the-variants.{Points}
 use Rattle.curve.specs.Curve.{pathOf, curvedOf, curvedOn}

@@ -3,16 +3,16 @@ ghost use mathlib.Core.Path.{_≡_};
 ghost use mathlib.Core.Bool.{true};
 ghost use Prim.Native.Nat.{_+_, _/_, _≤_};
 ghost use lib.ListN.{length};
-ghost use Rattle.dequantize.specs.ControlPoints.{validPointPos, startingPoint};
+ghost use Rattle.control_points.specs.ControlPoints.{validPointPos, startingPoint};
 ghost use Rattle.dequantize.specs.Dequantize.{dequantizeOf};
 ghost use Rattle.stored.specs.Stored.{floatIn};
 ghost use Rattle.replay_splines.specs.Splines.{IsPoint, LeadsTo, PointsAgree, PointsFrom, RowsAgree, TakenAgrees, DequantizeAgrees, Sized, PathAgrees, CurveAgrees, givenIn, deltasIn, coefficientsIn};
+use control_points::Pair;
+use control_points::Start;
+use control_points::Traced;
 use curve::Curved;
 use dequantize::Given;
 use dequantize::Spline;
-use dequantize::control_points::Pair;
-use dequantize::control_points::Start;
-use dequantize::control_points::Traced;
 
 // ---- the control points
 
@@ -30,7 +30,7 @@ fn leads_to(start: Pair, deltas: &[i32], limit: u64, x: u32, y: u32) -> bool
     requires { ⌜ validPointPos start ≡ true ⌝ }
     ensures { λ r. ⌜ (r ≡ true → LeadsTo limit start (now (deltas .entry)) x y) ⌝ }
 {
-    match dequantize::control_points::trace(start, deltas, limit) {
+    match control_points::trace(start, deltas, limit) {
         Traced::Stop(_) => false,
         Traced::On(run) => is_point(run.point, x, y),
     }
@@ -63,7 +63,7 @@ fn points_agree(start: Pair, deltas: &[i32], limit: u64, points: &[u32]) -> bool
 fn points_agree_from(x: f32, y: f32, deltas: &[i32], limit: u64, points: &[u32]) -> bool
     ensures { λ r. ⌜ (r ≡ true → PointsFrom limit (startingPoint x y) (now (deltas .entry)) (now (points .entry))) ⌝ }
 {
-    match dequantize::control_points::starting_point(x, y) {
+    match control_points::starting_point(x, y) {
         Start::Out => false,
         Start::At(start) => points_agree(start, deltas, limit, points),
     }
@@ -222,7 +222,7 @@ fn is_path(start: Pair, deltas: &[i32], output: &[u32]) -> bool
     requires { ⌜ validPointPos start ≡ true ⌝ }
     ensures { λ r. ⌜ (r ≡ true → PathAgrees start (now (deltas .entry)) (now (output .entry))) ⌝ }
 {
-    match dequantize::control_points::trace(start, deltas, 1099511627776) {
+    match control_points::trace(start, deltas, 1099511627776) {
         Traced::Stop(_) => false,
         Traced::On(_) => {
             let mut path = [0.0f32; 256];
@@ -253,7 +253,7 @@ fn is_curve(x: f32, y: f32, deltas: &[i32], points: &[u32], output: &[u32]) -> b
     requires { ⌜ length (now points) / 2 ≡ length (now deltas) / 2 + 1 ⌝ }
     ensures { λ r. ⌜ (r ≡ true → CurveAgrees (now (points .entry)) (now (output .entry))) ⌝ }
 {
-    match dequantize::control_points::starting_point(x, y) {
+    match control_points::starting_point(x, y) {
         Start::Out => false,
         Start::At(start) => is_curve_from(start, deltas, points, output),
     }

@@ -10,7 +10,7 @@ use lib.IntN.{ℤ}
 use lib.Ieee.{Float, nan, le}
 use borrow.Author.Tests.{le-leb, lt-leb}
 use Rattle.numbers.specs.Arith.{f}
-use Rattle.dequantize.specs.declared.control_points.Pair.{Pair}
+use Rattle.control_points.specs.declared.Pair.{Pair}
 use Rattle.dequantize.specs.declared.Spline.{Spline}
 use Rattle.curve.specs.Curve as Curve
 use Rattle.curve.specs.Curve.{pathOf}

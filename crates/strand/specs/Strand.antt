@@ -7,7 +7,7 @@ use lib.IntN.{ℤ}
 use lib.ListN.{length, getD}
 use lib.Ieee.{Float, nan, le}
 use Rattle.numbers.specs.Arith.{f}
-use Rattle.dequantize.specs.declared.control_points.Pair.{Pair}
+use Rattle.control_points.specs.declared.Pair.{Pair}
 use Rattle.dequantize.specs.declared.Spline.{Spline}
 use Rattle.segments.specs.declared.Segment.{Segment}
 use Rattle.curve.specs.Curve as Curve

@@ -3,14 +3,14 @@ ghost use mathlib.Core.Path.{_≡_};
 ghost use Prim.Native.Nat.{_*_, _/_, _≤_};
 ghost use lib.ListN.{length};
 ghost use Rattle.points.specs.Points.{segmentRoom, filledOf, FilledOn};
-ghost use Rattle.dequantize.specs.ControlPoints.{placeAt};
-ghost use Rattle.dequantize.specs.Asked.{Passable};
+ghost use Rattle.control_points.specs.ControlPoints.{placeAt};
+ghost use Rattle.control_points.specs.Asked.{Passable};
 ghost use Rattle.curve.specs.Curve.{pathRoom};
 ghost use Rattle.walk.specs.Walk.{walkIn, walkRoom};
 ghost use Rattle.strand.specs.Strand.{flatSegments, afterWalk, strandOf, strandFilled, segmentsOf};
+use control_points::Pair;
 use curve::Curved;
 use dequantize::Spline;
-use dequantize::control_points::Pair;
 use points::Filled;
 use walk::Walked;
 

@@ -5,7 +5,7 @@ use native.Mathlib.Omega.{arith}
 use borrow.Author.Needs.{needs}
 use lib.ListN.{length}
 use Rattle.buffers.proofs.Filling.{filled-none, filled-more, filled-all}
-use Rattle.dequantize.specs.ControlPoints.{placeAt}
+use Rattle.control_points.specs.ControlPoints.{placeAt}
 use Rattle.curve.specs.Curve.{pointOf, pathOf, flat, pathRoom}
 use Rattle.curve.proofs.Paths.{two, length-path, path-one, curved-room, curved-points}
 use Rattle.curve.proofs.curve.Statement.{statement}

@@ -1,7 +1,7 @@
 -- `curve::first_turn`: the start may be moved by the first double delta, and the place that it leads to is in the range.
 use borrow.Author.Needs.{needs}
-use Rattle.dequantize.specs.ControlPoints.{placeAt}
-use Rattle.dequantize.proofs.Walks.{walk-more}
+use Rattle.control_points.specs.ControlPoints.{placeAt}
+use Rattle.control_points.proofs.Walks.{walk-more}
 use Rattle.curve.proofs.first_turn.Statement.{statement}
 use Rattle.curve.proofs.first_turn.Tie as tie
 

@@ -1,6 +1,6 @@
 -- `curve::next_place`: a walk that was traced can move on.
 use borrow.Author.Needs.{needs}
-use Rattle.dequantize.proofs.Walks.{walk-moves}
+use Rattle.control_points.proofs.Walks.{walk-moves}
 use Rattle.curve.proofs.next_place.Statement.{statement}
 use Rattle.curve.proofs.next_place.Tie as tie
 

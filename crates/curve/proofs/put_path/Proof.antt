@@ -5,7 +5,7 @@ use native.Mathlib.Omega.{arith}
 use borrow.Author.Needs.{needs}
 use lib.ListN.{length}
 use Rattle.buffers.proofs.Filling.{Filled, filled-none}
-use Rattle.dequantize.proofs.Walks.{walk-more}
+use Rattle.control_points.proofs.Walks.{walk-more}
 use Rattle.curve.proofs.Turning.{Under, first-under, next-under, turnPath, path-begin, filled-turn, filled-last}
 use Rattle.curve.proofs.put_path.Statement.{statement}
 use Rattle.curve.proofs.put_path.Tie as tie

@@ -7,7 +7,7 @@ use lib.IntN.{pos}
 use mir.Syntax.{w32}
 use mir.Facts.{toZ-ofZ}
 use Rattle.list.proofs.Signed.{below, not-below}
-use Rattle.dequantize.proofs.Pairs.{in-range-mag}
+use Rattle.control_points.proofs.Pairs.{in-range-mag}
 use Rattle.decimal.proofs.Backs.{less, minus-word, minus-text, plain-text}
 use borrow.Author.Needs.{needs}
 use Rattle.decimal.proofs.put_number.Statement.{statement}

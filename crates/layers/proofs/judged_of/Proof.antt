@@ -2,7 +2,7 @@
 use mathlib.Core.Path.{sym, _∙_}
 use borrow.Author.Needs.{needs}
 use borrow.Author.Tests.{not-true, not-false}
-use Rattle.table.proofs.Checks.{agreed}
+use Rattle.verdict.proofs.Checks.{agreed}
 use Rattle.layers.proofs.judged_of.Statement.{statement}
 use Rattle.layers.proofs.judged_of.Tie as tie
 

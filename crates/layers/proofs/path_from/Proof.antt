@@ -1,6 +1,6 @@
 -- `path_from` meets its contract: control points that the trace has passed may be gone through again, which is what `curve` asks for.
 use mathlib.Core.Path.{sym, _∙_}
-use Rattle.dequantize.proofs.Walks.{traced-walk}
+use Rattle.control_points.proofs.Walks.{traced-walk}
 use Rattle.layers.specs.Exported.{pathFrom}
 use borrow.Author.Needs.{needs}
 use Rattle.layers.proofs.path_from.Statement.{statement}

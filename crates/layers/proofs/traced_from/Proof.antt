@@ -1,6 +1,6 @@
 -- `traced_from` meets its contract, by what the start gave.
 use mathlib.Core.Path.{sym, _∙_}
-use Rattle.dequantize.proofs.Starts.{start-valid}
+use Rattle.control_points.proofs.Starts.{start-valid}
 use borrow.Author.Needs.{needs}
 use Rattle.layers.proofs.traced_from.Statement.{statement}
 use Rattle.layers.proofs.traced_from.Tie as tie

@@ -1,7 +1,7 @@
 -- `polyline_read::minus` meets its contract: one law on differences of numbers that fit, at x and at y.
 use mathlib.Core.Path.{_≡_}
 use lib.IntN.{ℤ}
-use Rattle.dequantize.specs.declared.control_points.Pair.{Pair}
+use Rattle.control_points.specs.declared.Pair.{Pair}
 use Rattle.polyline.specs.Read.{minusOf}
 use Rattle.polyline_read.proofs.Numbers.{minus-fits, minus-is}
 use Rattle.polyline_read.proofs.minus.Statement.{statement}

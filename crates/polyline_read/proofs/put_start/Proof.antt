@@ -4,7 +4,7 @@ use native.Mathlib.Omega.{arith}
 use denote.Ref.{now}
 use mir.Syntax.{w32, w64}
 use mir.Facts.{toZ-ofZ}
-use Rattle.dequantize.proofs.Pairs.{in-range-mag, point-range}
+use Rattle.control_points.proofs.Pairs.{in-range-mag, point-range}
 use borrow.Author.Needs.{needs}
 use Rattle.polyline_read.proofs.put_start.Statement.{statement}
 use Rattle.polyline_read.proofs.put_start.Tie as tie

@@ -4,7 +4,7 @@ use mathlib.Core.Bool.{true, false}
 use native.Mathlib.Omega.{arith}
 use mir.Syntax.{w32}
 use mir.Facts.{toZ-ofZ}
-use Rattle.dequantize.specs.ControlPoints.{inRange, validPointPos}
+use Rattle.control_points.specs.ControlPoints.{inRange, validPointPos}
 use borrow.Author.Needs.{needs}
 use Rattle.polyline_read.proofs.valid.Statement.{statement}
 use Rattle.polyline_read.proofs.valid.Tie as tie

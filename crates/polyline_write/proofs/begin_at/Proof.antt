@@ -1,7 +1,7 @@
 -- `polyline_write::begin_at` meets its contract: in each arm the start, and where the points led to, are known.
 use mathlib.Core.Path.{sym, _∙_}
 use denote.Ref.{now}
-use Rattle.dequantize.proofs.Starts.{start-valid}
+use Rattle.control_points.proofs.Starts.{start-valid}
 use Rattle.polyline_write.proofs.Goes.{begun-out, begun-stop, begun-meets, begun-at}
 use borrow.Author.Needs.{needs}
 use Rattle.polyline_write.proofs.begin_at.Statement.{statement}

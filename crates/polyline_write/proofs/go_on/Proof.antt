@@ -1,7 +1,7 @@
 -- `polyline_write::go_on` meets its contract: each test is the definition's at the same place.
 use mathlib.Core.Path.{sym, _∙_}
 use borrow.Author.Tests.{not-true, not-false}
-use Rattle.dequantize.proofs.Pairs.{double-delta-fine, point-fine}
+use Rattle.control_points.proofs.Pairs.{double-delta-fine, point-fine}
 use Rattle.polyline_write.proofs.Goes.{gone-delta, gone-far, gone-out, gone-on}
 use borrow.Author.Needs.{needs}
 use Rattle.polyline_write.proofs.go_on.Statement.{statement}

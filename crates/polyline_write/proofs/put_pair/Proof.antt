@@ -4,7 +4,7 @@ use native.Mathlib.Omega.{arith}
 use denote.Ref.{now}
 use mir.Syntax.{w32}
 use mir.Facts.{toZ-ofZ}
-use Rattle.dequantize.proofs.Pairs.{point-range}
+use Rattle.control_points.proofs.Pairs.{point-range}
 use Rattle.polyline_write.proofs.Puts.{pair-put}
 use borrow.Author.Needs.{needs}
 use Rattle.polyline_write.proofs.put_pair.Statement.{statement}

@@ -2,7 +2,7 @@
 use mathlib.Core.Path.{_≡_}
 use native.Mathlib.Omega.{arith}
 use denote.Ref.{now}
-use Rattle.dequantize.specs.ControlPoints.{placeAt}
+use Rattle.control_points.specs.ControlPoints.{placeAt}
 use Rattle.polyline_write.proofs.Puts.{points-put}
 use borrow.Author.Needs.{needs}
 use Rattle.polyline_write.proofs.put_points.Statement.{statement}

@@ -4,7 +4,7 @@ use Prim.Native.Nat.{_-_, _/_}
 use native.Mathlib.Omega.{arith}
 use denote.Ref.{now}
 use lib.ListN.{length}
-use Rattle.dequantize.proofs.Walks.{walk-moves, walk-more}
+use Rattle.control_points.proofs.Walks.{walk-moves, walk-more}
 use Rattle.polyline_write.proofs.Puts.{Rest, rest-begin, rest-more, rest-full, rest-ends}
 use borrow.Author.Needs.{needs}
 use Rattle.polyline_write.proofs.put_rest.Statement.{statement}

@@ -4,7 +4,7 @@ use mathlib.Core.Bool.{true, false}
 use native.Mathlib.Omega.{arith}
 use mir.Syntax.{w32}
 use mir.Facts.{toZ-ofZ}
-use Rattle.dequantize.specs.ControlPoints.{belowDeltaLimit, validDoubleDelta}
+use Rattle.control_points.specs.ControlPoints.{belowDeltaLimit, validDoubleDelta}
 use borrow.Author.Needs.{needs}
 use Rattle.polyline_write.proofs.small.Statement.{statement}
 use Rattle.polyline_write.proofs.small.Tie as tie

@@ -1,6 +1,6 @@
 -- The double deltas were traced, so that their path may be had.
 use mathlib.Core.Path.{sym, _∙_}
-use Rattle.dequantize.proofs.Walks.{traced-walk}
+use Rattle.control_points.proofs.Walks.{traced-walk}
 use Rattle.replay_splines.proofs.Agreeing.{path-agrees}
 use borrow.Author.Needs.{needs}
 use Rattle.stored.proofs.Begun.{no-true}

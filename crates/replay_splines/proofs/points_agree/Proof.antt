@@ -4,7 +4,7 @@ use mathlib.Core.Bool.{true}
 use Prim.Native.Nat.{_-_, _/_}
 use native.Mathlib.Omega.{arith}
 use lib.ListN.{length}
-use Rattle.dequantize.specs.ControlPoints.{validPointPos}
+use Rattle.control_points.specs.ControlPoints.{validPointPos}
 use borrow.Author.Tests.{not-false}
 use Rattle.replay_splines.proofs.Agreeing.{led-length, Led, led-none, led-more, led-all}
 use borrow.Author.Needs.{needs}

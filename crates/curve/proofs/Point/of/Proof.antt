@@ -10,8 +10,8 @@ use lib.Ieee.{binary32, inFloat}
 use mir.Syntax.{w32}
 use mir.Val.{toZ, ofZ}
 use mir.Facts.{toZ-ofZ}
-use Rattle.dequantize.specs.ControlPoints.{inRange}
-use Rattle.dequantize.proofs.Pairs.{in-range-mag, point-range}
+use Rattle.control_points.specs.ControlPoints.{inRange}
+use Rattle.control_points.proofs.Pairs.{in-range-mag, point-range}
 use Rattle.curve.proofs.Point.of.Statement.{statement}
 use Rattle.curve.proofs.Point.of.Tie as tie
 
