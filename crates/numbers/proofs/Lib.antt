@@ -1,36 +1,11 @@
--- The laws that the proofs of this crate cite.
+-- The laws that the proofs of this crate, and of those over it, cite.
 pub mod Zero
 pub mod Powers
 pub mod Order
 pub mod Unique
 pub mod Units
-pub mod Wholes
 pub mod Shift
 pub mod Near
-pub mod Pattern
-pub mod Narrowing
-pub mod Roots
-pub mod RootOf
-pub mod Laid
 pub mod Signs
-pub mod Above
 pub mod Products
-pub mod Signed
-pub mod Placed
-pub mod RootBy
-pub mod RootOfWhole
-pub mod Grid
-pub mod Values
-pub mod NearestEven
-pub mod Nearness
-pub mod OneNearest
-pub mod Hypot
-pub mod Steps
-pub mod Rounds
-pub mod OneKind
-pub mod ByKind
 pub mod Logs
-pub mod WholeParts
-pub mod RoundedKind
-pub mod Conversions
-pub mod Ieee754

@@ -2,13 +2,13 @@
 use mathlib.Core.Path.{_≡_, refl, sym, ap, _∙_, subst}
 use mathlib.Core.Logic.{inl, inr}
 use mathlib.Core.Bool.{Bool, true, false, cond, true≢false}
-use Prim.Native.Nat.{ℕ, suc, _+_, _-_, _*_, _/_, _%_, _^_, _≤_, _<_, compare}
+use Prim.Native.Nat.{ℕ, zero, suc, _+_, _-_, _*_, _/_, _%_, _^_, _≤_, _<_, compare}
 use native.Mathlib.Nat.{le-of-lt, lt-of-le-of-lt, eq-or-lt-of-le, zero-lt-suc, mul-one, one-mul, mul-comm, mul-assoc, mul-mul-mul-comm, mul-pos, mul-div-cancel, div-one}
 use native.Mathlib.Omega.{arith}
 use lib.IntN.{pos}
 use lib.Dec.{T, ltb, ltb→lt, le→leb}
 use lib.Pow.{pow-add, pow-pos, pow-lt, pow-mono, shl-lt}
-use lib.Ieee.{Float, nan, inf, fin, Format, prec, emax, low, up, down, size, nearest, odd, units, round, mul, ofInt, inFloat}
+use lib.Ieee.{Float, nan, inf, fin, Format, prec, emax, low, up, down, size, nearest, odd, units, round, neg, mul, ofInt, inFloat}
 use lib.Ieee.Digits.{size-le}
 use lib.Ieee.Fits.{two, two-le-pos, odd-fits, down-pos, round-is, kept-lt}
 use lib.Ieee.Exact.{HasValue, odd-sign}
@@ -24,6 +24,23 @@ ofInt-is f n = refl
 pub castable : (f : Format) (n : ℕ) → n ≤ 2 ^ prec f → T (inFloat f (pos n))
 unfolding inFloat
 castable f n h = le→leb n (2 ^ prec f) h
+
+-- ---- the sign
+neg-odd : (d q k l : ℕ) → neg (odd d false q k l) ≡ odd d true q k l
+unfolding neg odd
+neg-odd d zero k l = refl
+neg-odd d (suc q) k l = refl
+
+neg-units : (f : Format) (q k : ℕ) → neg (units f false q k) ≡ units f true q k
+unfolding units neg
+neg-units f q k = go (ltb (q * 2 ^ k) (2 ^ (low f + suc (emax f))))
+  where
+    go : (b : Bool) → neg (cond b (odd (suc (prec f)) false q k (low f)) (inf false)) ≡ cond b (odd (suc (prec f)) true q k (low f)) (inf true)
+    go true = neg-odd (suc (prec f)) q k (low f)
+    go false = refl
+
+pub neg-round : (f : Format) (n d : ℕ) → neg (round f false n d) ≡ round f true n d
+neg-round f n d = ap neg (round-is f false n d) ∙ neg-units f _ _ ∙ sym (round-is f true n d)
 
 -- ---- a product of two values that are not negative
 pub product : (f : Format) (x y : Float) (a c b d : ℕ) → 0 < c → 0 < d → HasValue x false a c → HasValue y false b d → mul f x y ≡ round f false (a * b) (c * d)

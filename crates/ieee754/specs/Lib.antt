@@ -1,0 +1,3 @@
+-- The definitions of the crate `ieee754`.
+pub mod Ieee754
+pub mod Readings

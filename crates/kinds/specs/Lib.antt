@@ -1,0 +1,2 @@
+-- The words of the contracts. Definitions only.
+pub mod Kind

@@ -1,0 +1,4 @@
+-- The words of the contracts. Definitions only.
+pub mod Root
+pub mod RootBy
+pub mod Length
