@@ -5,7 +5,7 @@ use mathlib.Core.List.{List}
 use Prim.Native.Nat.{ℕ}
 use lib.IntN.{ℤ}
 use lib.Ieee.{Float}
-use Rattle.numbers.specs.Ln.{lnOf}
+use Rattle.approximations.specs.Ln.{lnOf}
 use Rattle.list.specs.List.{ListRooms}
 use Rattle.reader.specs.Read.{ReadOutcome, readOutcome}
 use Rattle.writer.specs.Write.{WriteOutcome, writeOf}

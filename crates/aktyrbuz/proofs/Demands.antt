@@ -40,7 +40,7 @@ use Rattle.picture.proofs.Tables.{built-table}
 use Rattle.picture.proofs.Keeping.{kept-lists, draw-fine, reach-fine}
 use Rattle.picture.proofs.Pictures as pictures
 use Rattle.picture.proofs.Makes.{built-are}
-use Rattle.numbers.proofs.Ieee754.{ieee754}
+use Rattle.ieee754.proofs.Ieee754.{ieee754}
 use Rattle.segments.proofs.Expressions.{as-spline-rs}
 use Rattle.dequantize.specs.Judge.{Description}
 use Rattle.table.proofs.Segments as making

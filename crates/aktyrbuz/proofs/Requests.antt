@@ -59,8 +59,8 @@ use Rattle.picture.specs.Owners.{segmentsIn, ownedBy, Ascending, Skipped}
 use Rattle.picture.proofs.Owners.{Owned, makes-ascend, ascending-front, makes-owned-by, none-owned, segments-found}
 use Rattle.picture.proofs.Skips.{skipped-makes-none, no-deltas-skipped}
 use Rattle.numbers.specs.Arith.{0·0, _⊕_, _⊖_}
-use Rattle.numbers.specs.Whole.{wholeBy}
-use Rattle.numbers.specs.Kind.{kindBy}
+use Rattle.wholes.specs.Whole.{wholeBy}
+use Rattle.kinds.specs.Kind.{kindBy}
 use Rattle.control_points.proofs.ByKind.{start-by-kind}
 use Rattle.estimate.proofs.ByKind.{estimate-by-kind}
 use Rattle.segments.proofs.ByBound.{rows-by-kind, columns-by-kind}
@@ -120,8 +120,8 @@ use Rattle.desks.specs.Hide as hide-table
 use Rattle.desks.proofs.Hides as hiding
 use Rattle.draw.proofs.Parts as parts
 use Rattle.rows.specs.Rows as listing
-use Rattle.numbers.specs.declared.KindI64.the-variants as I64
-use Rattle.numbers.specs.declared.KindU64.the-variants as U64
+use Rattle.kinds.specs.declared.KindI64.the-variants as I64
+use Rattle.kinds.specs.declared.KindU64.the-variants as U64
 use Rattle.table.specs.Table as building
 use Rattle.table.proofs.Segments as making
 use Rattle.reader.specs.Read as reading

@@ -9,7 +9,7 @@ use lib.IntN.{ℤ}
 use lib.Ieee.{Float}
 use contract.Lifetimes.{Lfts}
 use denote.Ref.{now}
-use Rattle.numbers.proofs.ln.Reads as ln
+use Rattle.approximations.proofs.ln.Reads as ln
 use Rattle.list.specs.List.{ListRooms}
 use Rattle.reader.specs.Read as reading
 use Rattle.reader.proofs.read.Reads as read

@@ -12,10 +12,10 @@ use lib.Ieee.{Float, nan, fin, binary32, ofInt}
 use Rattle.buffers.specs.Padded.{padded}
 use Rattle.codes.specs.Codes.{numberOf}
 use Rattle.codes.specs.declared.Code.{Code}
-use Rattle.numbers.specs.Whole.{roundOf}
-use Rattle.numbers.specs.Length.{lengthOf}
-use Rattle.numbers.specs.Ln.{lnOf}
-use Rattle.numbers.specs.Ieee754.{Ieee754}
+use Rattle.wholes.specs.Whole.{roundOf}
+use Rattle.roots.specs.Length.{lengthOf}
+use Rattle.approximations.specs.Ln.{lnOf}
+use Rattle.ieee754.specs.Ieee754.{Ieee754}
 use Rattle.shape.specs.Shape.{pointsOf}
 use Rattle.list.specs.List.{ListRooms, unpackSigned}
 use Rattle.list.specs.Steps.{zeroF32}
@@ -31,7 +31,7 @@ use Rattle.dequantize.specs.Coefficients.{invAdjustedQuant}
 use Rattle.dequantize.specs.Judge.{Description}
 use Rattle.segments.specs.declared.Segment.{Segment}
 use Rattle.segments.specs.Segment.{segmentAt}
-use Rattle.numbers.specs.declared.KindI64.the-variants as I64
+use Rattle.kinds.specs.declared.KindI64.the-variants as I64
 use Rattle.segments.specs.Ranges.{rowEnd, hasRow, hasColumn}
 use Rattle.segments.specs.Readings.{spot}
 use Rattle.segments.specs.Expressions.{AsSplineRs}

@@ -96,8 +96,8 @@ use Rattle.polyline_laws.specs.Refusals.{PointsReadRefusal, PointsAccepted, The
 use Rattle.aktyrbuz.specs.PolylineCalls.{PointsReadCall, PointsWriteCall}
 use Rattle.draw.specs.Image as drawing
 use Rattle.rows.specs.Rows as listing
-use Rattle.numbers.specs.declared.KindI64.the-variants as I64
-use Rattle.numbers.specs.declared.KindU64.the-variants as U64
+use Rattle.kinds.specs.declared.KindI64.the-variants as I64
+use Rattle.kinds.specs.declared.KindU64.the-variants as U64
 use Rattle.table.specs.Table as building
 use Rattle.reader.specs.Read as reading
 use Rattle.writer.specs.Write as writing

@@ -2,7 +2,7 @@
 // Every call but the logarithm returns its code's number and fills five numbers: the place, then the counts, then zeros.
 ghost use mathlib.Core.Path.{_≡_};
 ghost use lib.ListN.{length};
-ghost use Rattle.numbers.specs.Ln.{lnOf};
+ghost use Rattle.approximations.specs.Ln.{lnOf};
 ghost use Rattle.reader.specs.Read.{readOutcome, roomsOf};
 ghost use Rattle.writer.specs.Write.{writeOf};
 ghost use Rattle.dequantize.specs.Judge.{descriptionOf};
@@ -33,7 +33,7 @@ use told::told_write;
 pub extern "C" fn aktyrbuz_ln(x: f32) -> f32
     ensures { λ r. ⌜ r ≡ lnOf x ⌝ }
 {
-    numbers::ln(x)
+    approximations::ln(x)
 }
 
 #[no_mangle]

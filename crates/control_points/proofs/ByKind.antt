@@ -7,11 +7,11 @@ use lib.IntN.{ℤ, pos, negℤ}
 use lib.Signed.{ltZ}
 use lib.Ieee.{Float, nan, inf, fin, Format, binary32, prec, emax, low, up, down, isNan, round, units, odd, toSigned}
 use lib.Ieee.Fits.{round-is}
-use Rattle.numbers.specs.Whole.{half, wholeBy, roundOf}
-use Rattle.numbers.specs.Kind.{kindBy, cutI32, saturatedI32, within}
-use Rattle.numbers.specs.declared.KindI32.{KindI32}
-use Rattle.numbers.specs.declared.KindI32.the-variants as I32
-use Rattle.numbers.proofs.ByKind.{saturated-i32}
+use Rattle.wholes.specs.Whole.{half, wholeBy, roundOf}
+use Rattle.kinds.specs.Kind.{kindBy, cutI32, saturatedI32, within}
+use Rattle.kinds.specs.declared.KindI32.{KindI32}
+use Rattle.kinds.specs.declared.KindI32.the-variants as I32
+use Rattle.kinds.proofs.ByKind.{saturated-i32}
 use Rattle.control_points.specs.ControlPoints.{coordinateBy, roundedOf}
 use Rattle.control_points.specs.ByKind.{taken, StartByKind}
 use Rattle.control_points.specs.declared.Whole.the-variants as W

@@ -6,8 +6,8 @@ use lib.IntN.{pos, negsuc}
 use lib.Ieee.{fin, ofBits, ofInt, sub, lt, round}
 use Rattle.codes.specs.declared.Code.the-variants.{Delta, Position, Distance}
 use Rattle.numbers.specs.Magnitude.{absOf}
-use Rattle.numbers.specs.Whole.{wholeBy}
-use Rattle.numbers.specs.Kind.{kindBy}
+use Rattle.wholes.specs.Whole.{wholeBy}
+use Rattle.kinds.specs.Kind.{kindBy}
 use Rattle.control_points.specs.ControlPoints.{startingPoint, roundedOf, traceOf, traceFrom, stepOf, runAt, plusOf, validDoubleDelta, validPointPos, manhattanOf, samePoint, near}
 use Rattle.control_points.specs.declared.Pair.{Pair}
 use Rattle.control_points.specs.declared.Start.the-variants.{At, Out}

@@ -5,7 +5,7 @@ use Prim.Native.Nat.{ℕ}
 use native.Mathlib.Omega.{arith}
 use lib.IntN.{ℤ}
 use lib.Ieee.{Float, binary32, isNan, toSigned}
-use Rattle.numbers.specs.Whole.{roundOf}
+use Rattle.wholes.specs.Whole.{roundOf}
 use Rattle.control_points.specs.ControlPoints.{inRange, roundedOf, joined, startingPoint, validPointPos}
 use Rattle.control_points.specs.declared.Pair.{Pair}
 use Rattle.control_points.specs.declared.Whole.{Whole}

@@ -3,7 +3,7 @@ use mathlib.Core.Path.{_≡_}
 use mathlib.Core.Bool.{cond}
 use lib.IntN.{ℤ}
 use lib.Ieee.{Float, binary32, isNan, toSigned}
-use Rattle.numbers.specs.Whole.{roundOf}
+use Rattle.wholes.specs.Whole.{roundOf}
 use Rattle.control_points.specs.ControlPoints.{inRange, roundedOf}
 use Rattle.control_points.specs.declared.Whole.{Whole}
 use Rattle.control_points.specs.declared.Whole.the-variants as W

@@ -9,10 +9,10 @@ use lib.IntN.{ℤ, pos, negsuc, natAbs, _+ℤ_}
 use lib.Signed.{leZ, ltZ}
 use lib.Ieee.{Float, binary32, lt, ofInt}
 use Rattle.numbers.specs.Arith.{f, _⊖_}
-use Rattle.numbers.specs.Whole.{roundOf}
-use Rattle.numbers.specs.Kind.{cutI32}
-use Rattle.numbers.specs.declared.KindI32.{KindI32}
-use Rattle.numbers.specs.declared.KindI32.the-variants as I32
+use Rattle.wholes.specs.Whole.{roundOf}
+use Rattle.kinds.specs.Kind.{cutI32}
+use Rattle.kinds.specs.declared.KindI32.{KindI32}
+use Rattle.kinds.specs.declared.KindI32.the-variants as I32
 use Rattle.numbers.specs.Magnitude.{absOf}
 use Rattle.codes.specs.declared.Code.{Code}
 use Rattle.codes.specs.declared.Code.the-variants.{Delta, Position, Distance}

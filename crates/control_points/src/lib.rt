@@ -7,7 +7,7 @@ ghost use lib.ListN.{length};
 ghost use Rattle.control_points.specs.ControlPoints.{inRange, belowDeltaLimit, validPointPos, validDoubleDelta, plusOf, manhattanOf, pairAt, roundedOf, startingPoint, movedOf, placeAt, stepOf, traceOf};
 ghost use Rattle.control_points.specs.Asked.{Fine, Held, Moves};
 use codes::Code;
-use numbers::KindI32;
+use kinds::KindI32;
 
 // A double delta, a delta or a point, of whole numbers.
 pub struct Pair {
@@ -73,7 +73,7 @@ pub fn unsigned_abs(v: i32) -> u64
 fn rounded(x: f32) -> Whole
     ensures { λ r. ⌜ r ≡ roundedOf x ⌝ }
 {
-    match numbers::rounded_to_i32(x) {
+    match kinds::rounded_to_i32(x) {
         KindI32::Exact(z) => {
             if in_range(z) {
                 Whole::At(z)

@@ -9,9 +9,9 @@ use lib.IntN.{ℤ, pos, negsuc, negℤ, natAbs, _+ℤ_, _-ℤ_, +ℤ-comm, +ℤ-
 use lib.ListN.{length, drop, length-drop}
 use lib.Seq.{sets}
 use lib.Ieee.{Float, binary32, add, sub, ofInt}
-use Rattle.numbers.specs.Root.{sqrtOf}
-use Rattle.numbers.specs.Length.{hypotOf}
-use Rattle.numbers.proofs.Hypot.{hypot-is-length}
+use Rattle.roots.specs.Root.{sqrtOf}
+use Rattle.roots.specs.Length.{hypotOf}
+use Rattle.ieee754.proofs.Hypot.{hypot-is-length}
 use Rattle.buffers.specs.Onto.{onto}
 use Rattle.buffers.proofs.Filling.{Filled, filled-more, filled-all}
 use Rattle.control_points.specs.ControlPoints.{validPointPos, plusOf, placeAt, movedOf, laterPoints, controlPoints}

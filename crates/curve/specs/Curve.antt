@@ -7,7 +7,7 @@ use lib.Dec.{leb}
 use lib.IntN.{ℤ}
 use lib.ListN.{length}
 use lib.Ieee.{Float, binary32, ofInt}
-use Rattle.numbers.specs.Root.{sqrtOf}
+use Rattle.roots.specs.Root.{sqrtOf}
 use Rattle.buffers.specs.Onto.{onto}
 use Rattle.control_points.specs.ControlPoints.{controlPoints}
 use Rattle.control_points.specs.declared.Pair.{Pair}

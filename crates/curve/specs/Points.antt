@@ -1,7 +1,7 @@
 -- `Point`: a pair of f32, added, subtracted and multiplied by a number, and its length. Definitions only.
 use lib.Ieee.{Float, binary32}
 use Rattle.numbers.specs.Arith.{_⊕_, _⊖_, _⊗_}
-use Rattle.numbers.specs.Length.{hypotOf}
+use Rattle.roots.specs.Length.{hypotOf}
 use Rattle.curve.specs.declared.Point.{Point}
 
 abbrev pub addPoint : Point → Point → Point

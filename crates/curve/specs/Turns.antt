@@ -3,8 +3,8 @@ use mathlib.Core.List.{List}
 use Prim.Native.Nat.{ℕ}
 use lib.IntN.{ℤ}
 use lib.Ieee.{Float, binary32}
-use Rattle.numbers.specs.Root.{sqrtOf}
-use Rattle.numbers.specs.Length.{lengthOf}
+use Rattle.roots.specs.Root.{sqrtOf}
+use Rattle.roots.specs.Length.{lengthOf}
 use Rattle.control_points.specs.ControlPoints.{pairAt, movedOf}
 use Rattle.control_points.specs.declared.Pair.{Pair}
 use Rattle.control_points.specs.declared.Place.{Place}

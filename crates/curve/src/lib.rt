@@ -158,7 +158,7 @@ struct Turn {
 fn root_length(delta: Pair) -> f32
     ensures { λ r. ⌜ r ≡ rootLength delta ⌝ }
 {
-    numbers::root(numbers::length(delta.x, delta.y))
+    roots::root(roots::length(delta.x, delta.y))
 }
 
 // The place that the double delta k leads to.

@@ -240,7 +240,7 @@ pub fn draw(
             let at = y as usize;
             let b = row_starts[at] as usize;
             let e = row_starts[at + 1] as usize;
-            let table = numbers::ROOTS;
+            let table = roots::ROOTS;
             DrawAnswer::Done(draw_entries(
                 segments,
                 owners,

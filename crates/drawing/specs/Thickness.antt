@@ -6,7 +6,7 @@ use lib.IntN.{ℤ}
 use lib.Ieee.{Float, binary32, ofInt, toUnsigned}
 use Rattle.numbers.specs.Arith.{f, _⊗_}
 use Rattle.numbers.specs.Magnitude.{absOf}
-use Rattle.numbers.specs.Whole.{roundOf}
+use Rattle.wholes.specs.Whole.{roundOf}
 use Rattle.dequantize.specs.Coefficients.{invAdjustedQuant}
 
 -- sigma's of CHANNEL_WEIGHT

@@ -26,7 +26,7 @@ enum Step {
 
 // A coordinate, as the value that a list holds for it.
 fn packed(v: f32) -> u64 {
-    list::pack_signed(numbers::saturating_f32_to_i32(v)) as u64
+    list::pack_signed(kinds::saturating_f32_to_i32(v)) as u64
 }
 
 fn packed_delta(v: i32) -> u64 {

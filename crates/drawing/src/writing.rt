@@ -36,7 +36,7 @@ fn thickness(mean: f32) -> u64
     ensures { λ r. ⌜ r ≡ hundredthsOf mean ⌝ }
 {
     let width = numbers::abs(mean);
-    numbers::saturating_f32_to_u64(numbers::round(200.0 * width))
+    kinds::saturating_f32_to_u64(wholes::round(200.0 * width))
 }
 
 // The first sigma coefficient of a spline; 0 where there is none.

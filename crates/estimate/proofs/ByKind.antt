@@ -2,7 +2,7 @@
 use mathlib.Core.Path.{ap, fun-ext}
 use Prim.Native.Nat.{ℕ}
 use lib.Ieee.{Float}
-use Rattle.numbers.proofs.ByKind.{saturated-u64}
+use Rattle.kinds.proofs.ByKind.{saturated-u64}
 use Rattle.estimate.specs.Estimate.{estimateBy}
 use Rattle.estimate.specs.ByKind.{EstimateByKind}
 

@@ -7,9 +7,9 @@ use lib.IntN.{ℤ, pos, natAbs}
 use lib.ListN.{getD}
 use lib.Ieee.{Float, binary32, ofInt}
 use Rattle.numbers.specs.Arith.{1·0, _⊗_, _⊘_}
-use Rattle.numbers.specs.Whole.{ceilOf}
-use Rattle.numbers.specs.Kind.{cutU64, saturatedU64}
-use Rattle.numbers.specs.Root.{sqrtOf}
+use Rattle.wholes.specs.Whole.{ceilOf}
+use Rattle.kinds.specs.Kind.{cutU64, saturatedU64}
+use Rattle.roots.specs.Root.{sqrtOf}
 use Rattle.numbers.specs.Magnitude.{absOf, minOf, maxOf}
 use Rattle.numbers.specs.Saturating.{satAdd, satMul, ceilLog2}
 

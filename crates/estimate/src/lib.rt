@@ -4,13 +4,13 @@ ghost use Prim.Native.Nat.{_+_, _≤_, _<_};
 ghost use lib.ListN.{length};
 ghost use Rattle.estimate.specs.Estimate.{toU64, greater, shareAt, rowColor, tintedOf, logColor, weightLimit, weightAt, widthEstimate, estimateOf};
 use control_points::unsigned_abs;
-use numbers::KindU64;
+use kinds::KindU64;
 
 // An f32 as a u64: no number and what is below the range count 0, and what is above it the largest u64.
 fn whole(x: f32) -> u64
     ensures { λ r. ⌜ r ≡ toU64 x ⌝ }
 {
-    match numbers::cut_to_u64(x) {
+    match kinds::cut_to_u64(x) {
         KindU64::Exact(n) => n,
         KindU64::NotNumber => 0,
         KindU64::Below => 0,
@@ -29,7 +29,7 @@ fn share(c: &[i32], k: usize, quant: f32) -> f32
     requires { ⌜ k < length (now c) ⌝ }
     ensures { λ r. ⌜ r ≡ shareAt (now (c .entry)) quant k ⌝ }
 {
-    numbers::ceil(quant * numbers::nearest_u64_to_f32(unsigned_abs(c[k])))
+    wholes::ceil(quant * to_f32::nearest_u64_to_f32(unsigned_abs(c[k])))
 }
 
 fn color(c: &[i32], from: usize, quant: f32) -> u64
@@ -50,7 +50,7 @@ fn tinted(color: u64, k: f32, y: u64) -> u64
 {
     numbers::saturating_add(
         color,
-        numbers::saturating_mul(whole(numbers::ceil(numbers::abs(k))), y),
+        numbers::saturating_mul(whole(wholes::ceil(numbers::abs(k))), y),
     )
 }
 
@@ -64,8 +64,8 @@ fn log_color(x: u64, y: u64, b: u64, y_to_x: f32, y_to_b: f32) -> u64
 fn weight_limit(limit: u64, log: u64, manhattan: u64) -> f32
     ensures { λ r. ⌜ r ≡ weightLimit limit log manhattan ⌝ }
 {
-    let area = numbers::nearest_u64_to_f32(limit) / numbers::nearest_u64_to_f32(log);
-    numbers::ceil(numbers::root(area / numbers::nearest_u64_to_f32(greater(manhattan, 1))))
+    let area = to_f32::nearest_u64_to_f32(limit) / to_f32::nearest_u64_to_f32(log);
+    wholes::ceil(roots::root(area / to_f32::nearest_u64_to_f32(greater(manhattan, 1))))
 }
 
 fn weight(c: &[i32], k: usize, quant: f32, most: f32) -> u64

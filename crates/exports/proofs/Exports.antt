@@ -8,7 +8,7 @@ use lib.Dec.{ltb}
 use lib.ListN.{length}
 use denote.Ref.{now}
 use Rattle.codes.specs.declared.Code.the-variants.{Room}
-use Rattle.numbers.specs.Ln.{lnOf}
+use Rattle.approximations.specs.Ln.{lnOf}
 use Rattle.list.specs.List.{ListRooms, Got, got, stop, Described, described, limitOf, readOf}
 use Rattle.reader.specs.Read.{ReadOutcome, outcome, readOutcome, roomsOf}
 use Rattle.reader.specs.Read as reading

@@ -11,8 +11,8 @@ use lib.Ieee.{Float, nan, inf, fin, binary32, up, down, round, sum, add, sub, ne
 use lib.Ieee.Fits.{down-pos}
 use lib.Ieee.Exact.{HasValue}
 use lib.Ieee.Scale.{round-same}
-use Rattle.numbers.specs.Whole.{roundOf}
-use Rattle.numbers.specs.Ieee754.{signed}
+use Rattle.wholes.specs.Whole.{roundOf}
+use Rattle.ieee754.specs.Ieee754.{signed}
 use Rattle.near.proofs.Settled.{settled}
 
 -- ±h as the first and as the last of a range, against the value (P - M) / Q

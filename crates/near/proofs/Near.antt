@@ -16,11 +16,11 @@ use lib.Ieee.Bits.{is-true, is-false}
 use lib.Ieee.Fits.{and-i, and-l, and-r, down-pos}
 use lib.Ieee.Exact.{HasValue}
 use lib.Ieee.Digits.{back}
-use Rattle.numbers.specs.Whole.{roundOf}
-use Rattle.numbers.specs.Ieee754.{signed, Cut}
+use Rattle.wholes.specs.Whole.{roundOf}
+use Rattle.ieee754.specs.Ieee754.{signed, Cut}
 use Rattle.numbers.proofs.Powers.{pow-back}
 use Rattle.numbers.proofs.Zero.{yes}
-use Rattle.numbers.proofs.Conversions.{conversions}
+use Rattle.ieee754.proofs.Conversions.{conversions}
 use Rattle.segments.specs.Ranges.{hasRow, hasColumn}
 use Rattle.segments.specs.Expressions.{oneMoreI64, oneMoreUsize, asI64, asUsize}
 use Rattle.segments.proofs.Expressions.{as-spline-rs}

@@ -7,7 +7,7 @@ use lib.Dec.{lit≤, le→leb}
 use lib.IntN.{pos, negsuc}
 use lib.Signed.{leZ-yes}
 use lib.Ieee.{nan, fin, add, sub, toSigned, toUnsigned}
-use Rattle.numbers.specs.Whole.{wholeBy}
+use Rattle.wholes.specs.Whole.{wholeBy}
 use Rattle.segments.specs.Ranges.{hasRow, hasColumn}
 use Rattle.segments.specs.Readings.{spot}
 use Rattle.segments.specs.declared.Segment.{Segment}

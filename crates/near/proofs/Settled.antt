@@ -10,11 +10,11 @@ use lib.Pow.{pow-pos}
 use lib.Ieee.{Float, nan, inf, fin, binary32, up, down, round, fits, units}
 use lib.Ieee.Fits.{down-pos}
 use lib.Ieee.Exact.{HasValue, units-val}
-use Rattle.numbers.specs.Whole.{roundOf}
-use Rattle.numbers.specs.Ieee754.{tooLarge, NearestFraction}
-use Rattle.numbers.proofs.Values.{units-held}
-use Rattle.numbers.proofs.NearestEven.{round-nearest}
-use Rattle.numbers.proofs.WholeParts.{whole-parts}
+use Rattle.wholes.specs.Whole.{roundOf}
+use Rattle.ieee754.specs.Ieee754.{tooLarge, NearestFraction}
+use Rattle.ieee754.proofs.Values.{units-held}
+use Rattle.ieee754.proofs.NearestEven.{round-nearest}
+use Rattle.ieee754.proofs.WholeParts.{whole-parts}
 
 -- ---- R is off by at most a half
 

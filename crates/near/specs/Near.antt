@@ -9,7 +9,7 @@ use lib.Signed.{_≤ℤ_}
 use lib.Ieee.{Float, binary32, fits}
 use lib.Ieee.Exact.{HasValue}
 use lib.Ieee.Scale.{finite}
-use Rattle.numbers.specs.Ieee754.{signed}
+use Rattle.ieee754.specs.Ieee754.{signed}
 use Rattle.segments.specs.Ranges.{hasRow, hasColumn}
 use Rattle.segments.specs.declared.Segment.{Segment}
 

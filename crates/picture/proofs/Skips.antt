@@ -16,7 +16,7 @@ use lib.Ieee.Scale.{round-same}
 use lib.Ieee.Fits.{down-pos}
 use borrow.Author.Tests.{le-ltb}
 use Rattle.numbers.specs.Arith.{f}
-use Rattle.numbers.specs.Root.{sqrtOf}
+use Rattle.roots.specs.Root.{sqrtOf}
 use Rattle.dequantize.specs.declared.Given.{Given}
 use Rattle.control_points.specs.declared.Pair.{Pair}
 use Rattle.control_points.specs.declared.Start.the-variants.{At}

@@ -8,7 +8,7 @@ use lib.ListN.{length}
 use lib.Seq.{sets}
 use lib.Ieee.{Float, binary32, toUnsigned}
 use Rattle.numbers.specs.Arith.{f, _⊗_}
-use Rattle.numbers.specs.Whole.{roundOf}
+use Rattle.wholes.specs.Whole.{roundOf}
 use Rattle.buffers.specs.Onto.{onto}
 use Rattle.buffers.proofs.Fronts.{sets-more}
 use Rattle.buffers.proofs.Filling.{Filled, filled-none, filled-more, filled-all}

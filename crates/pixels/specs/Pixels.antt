@@ -4,7 +4,7 @@ use Prim.Native.Nat.{ℕ, zero, suc, _/_, _%_, min}
 use lib.ListN.{getD}
 use lib.Ieee.{Float, nan, binary32, toBits, toUnsigned}
 use Rattle.numbers.specs.Arith.{f, _⊕_, _⊖_, _⊗_}
-use Rattle.numbers.specs.Whole.{roundOf}
+use Rattle.wholes.specs.Whole.{roundOf}
 
 abbrev 255·0 : Float
 255·0 = f 0x437f0000

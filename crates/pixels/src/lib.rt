@@ -12,7 +12,7 @@ ghost use Rattle.pixels.specs.Pixels.{toneOf, tonesOf, bytesOf, floatOf,
 fn tone(v: f32) -> u8
     ensures { λ r. ⌜ r ≡ toneOf v ⌝ }
 {
-    let t = numbers::saturating_f32_to_u64(numbers::round(v * 255.0));
+    let t = kinds::saturating_f32_to_u64(wholes::round(v * 255.0));
     if t < 255 { t as u8 } else { 255 }
 }
 

@@ -17,7 +17,7 @@ use Rattle.codes.specs.declared.Code.{Code}
 use Rattle.codes.specs.declared.Code.the-variants.{Delta, Position, Distance}
 use Rattle.codes.proofs.Decides.{both}
 use Rattle.list.specs.Steps.{f32Of}
-use Rattle.numbers.specs.Whole.{half, wholeBy, roundOf}
+use Rattle.wholes.specs.Whole.{half, wholeBy, roundOf}
 use Rattle.control_points.specs.ControlPoints.{inRange, orStop, onward, stepOf, traceFrom, traceOf, runAt, pairAt, plusOf, manhattanOf, roundedOf, startingPoint, placeAt, movedOf, laterPoints, controlPoints, validDoubleDelta, validPointPos, samePoint, coincideFrom, adjacentCoincide}
 use Rattle.control_points.specs.Asked.{passes, Passable}
 use Rattle.control_points.specs.Refusals.{Inside, Outside, Small, sumUpTo, deltaAt, farAt, PairPasses, PairRefusal, delta-large, delta-outside, too-far, point-outside}

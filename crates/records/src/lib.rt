@@ -115,7 +115,7 @@ fn draw_alone(
     }
     let segment = segment_of(whole);
     let columns = segment.columns();
-    let table = numbers::ROOTS;
+    let table = roots::ROOTS;
     DrawAnswer::Done(
         draw::draw_columns(
             segment,

@@ -1,7 +1,7 @@
 // Reads the stored answers of the oracle from the files beside it, checks each file's frame, and says how many cases of each kind it holds
 // and whether the port agrees with them.
 mod agree;
-mod kinds;
+mod case_names;
 mod lists;
 mod number_leaves;
 
@@ -20,7 +20,7 @@ fn say(path: &[u8], what: &[u8]) {
 // How many cases of a kind a whole file holds, if any.
 fn report_held(kind: u32, held: u32) {
     io::write_all(1, b"  ");
-    kinds::print_name(kind);
+    case_names::print_name(kind);
     io::write_all(1, b" ");
     io::print_decimal(1, held as u64);
     io::write_all(1, b" cases");
@@ -55,7 +55,7 @@ fn report_kinds(words: &[u32])
     requires { ⌜ IsWhole (now words) ⌝ }
 {
     let mut kind = 0;
-    while kind < kinds::KINDS {
+    while kind < case_names::KINDS {
         report_kind(words, kind);
         kind += 1;
     }

@@ -19,10 +19,10 @@ use dequantize::Spline;
 fn is_point(point: Pair, x: u32, y: u32) -> bool
     ensures { λ r. ⌜ (r ≡ true → IsPoint point x y) ⌝ }
 {
-    if !stored::is_float(numbers::nearest_i32_to_f32(point.x), x) {
+    if !stored::is_float(to_f32::nearest_i32_to_f32(point.x), x) {
         return false;
     }
-    stored::is_float(numbers::nearest_i32_to_f32(point.y), y)
+    stored::is_float(to_f32::nearest_i32_to_f32(point.y), y)
 }
 
 // Whether the control point that the double deltas lead to is that of two words.
@@ -202,9 +202,9 @@ fn double_delta(points: &[f32], i: usize) -> i32 {
     }
     let delta = points[i + 2] - points[i];
     if i < 2 {
-        return numbers::saturating_f32_to_i32(delta);
+        return kinds::saturating_f32_to_i32(delta);
     }
-    numbers::saturating_f32_to_i32(delta - (points[i] - points[i - 2]))
+    kinds::saturating_f32_to_i32(delta - (points[i] - points[i - 2]))
 }
 
 fn double_deltas(points: &[f32], out: &mut [i32])

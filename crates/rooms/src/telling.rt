@@ -20,7 +20,7 @@ fn say_counts(source: Source, splines: u64, points: u64, adjustment: i32) -> u8
 
 // A coordinate, as the value that a list holds for it.
 fn packed(v: f32) -> u64 {
-    list::pack_signed(numbers::saturating_f32_to_i32(v)) as u64
+    list::pack_signed(kinds::saturating_f32_to_i32(v)) as u64
 }
 
 fn say_spline(k: usize, x: f32, y: f32, points: u32) -> u8

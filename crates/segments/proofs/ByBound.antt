@@ -12,13 +12,13 @@ use lib.Ieee.{Float, nan, inf, fin, binary32, up, down, fits}
 use lib.Ieee.Fits.{down-pos, and-l, and-r, add-fits, sub-fits}
 use lib.Ieee.Exact.{HasValue}
 use Rattle.numbers.specs.Arith.{_⊕_, _⊖_}
-use Rattle.numbers.specs.Whole.{half, wholeBy, roundOf}
-use Rattle.numbers.specs.Kind.{within, kindBy, cutI64, cutU64}
-use Rattle.numbers.specs.declared.KindI64.{KindI64}
-use Rattle.numbers.specs.declared.KindI64.the-variants as I64
-use Rattle.numbers.specs.declared.KindU64.{KindU64}
-use Rattle.numbers.specs.declared.KindU64.the-variants as U64
-use Rattle.numbers.proofs.WholeParts.{round-value}
+use Rattle.wholes.specs.Whole.{half, wholeBy, roundOf}
+use Rattle.kinds.specs.Kind.{within, kindBy, cutI64, cutU64}
+use Rattle.kinds.specs.declared.KindI64.{KindI64}
+use Rattle.kinds.specs.declared.KindI64.the-variants as I64
+use Rattle.kinds.specs.declared.KindU64.{KindU64}
+use Rattle.kinds.specs.declared.KindU64.the-variants as U64
+use Rattle.wholes.proofs.Quotients.{round-value}
 use Rattle.segments.specs.Ranges.{rowBegins, rowLasts, columnBegins, columnLasts, hasRow, hasColumn}
 use Rattle.segments.specs.Bounds.{Bound, under, at, over, rounded, orZero, beginsBy, lastsTo, RowsByKind, ColumnsByKind}
 use Rattle.segments.specs.Expressions.{boundOf}

@@ -13,11 +13,11 @@ use lib.Ieee.{Float, nan, inf, fin, binary32, up, down, fits, toSigned, toUnsign
 use lib.Ieee.Fits.{down-pos, and-l, and-r, add-fits, sub-fits}
 use lib.Ieee.Exact.{HasValue}
 use Rattle.numbers.specs.Arith.{_⊕_, _⊖_}
-use Rattle.numbers.specs.Whole.{half, wholeBy, roundOf}
-use Rattle.numbers.proofs.Wholes.{half-id, digits}
+use Rattle.wholes.specs.Whole.{half, wholeBy, roundOf}
+use Rattle.wholes.proofs.Wholes.{half-id, digits}
 use Rattle.segments.specs.Bounds.{Bound, under, at, over, rounded, orZero, beginsBy, lastsTo}
 use Rattle.segments.specs.Expressions.{boundOf, oneMoreI64, oneMoreUsize, asI64, asUsize, AsSplineRs}
-use Rattle.numbers.proofs.WholeParts.{half-le}
+use Rattle.wholes.proofs.Quotients.{half-le}
 use Rattle.segments.proofs.ByBound.{one-r, joined, rows-by-kind, columns-by-kind}
 
 -- ---- a bound held to the range

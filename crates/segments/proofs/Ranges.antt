@@ -14,12 +14,12 @@ use lib.Ieee.Casts.{toSigned-in}
 use mir.Syntax.{w64}
 use mir.Val.{Fits, SFits}
 use Rattle.numbers.specs.Arith.{_⊕_, _⊖_}
-use Rattle.numbers.specs.Kind.{cutI64, saturatedI64}
-use Rattle.numbers.proofs.ByKind.{saturated-i64}
-use Rattle.numbers.specs.declared.KindI64.{KindI64}
-use Rattle.numbers.specs.declared.KindI64.the-variants as I64
-use Rattle.numbers.specs.declared.KindU64.{KindU64}
-use Rattle.numbers.specs.declared.KindU64.the-variants as U64
+use Rattle.kinds.specs.Kind.{cutI64, saturatedI64}
+use Rattle.kinds.proofs.ByKind.{saturated-i64}
+use Rattle.kinds.specs.declared.KindI64.{KindI64}
+use Rattle.kinds.specs.declared.KindI64.the-variants as I64
+use Rattle.kinds.specs.declared.KindU64.{KindU64}
+use Rattle.kinds.specs.declared.KindU64.the-variants as U64
 use Rattle.segments.specs.Ranges.{clip, clipPast, rowEnd, columnEnd, rowBegins, rowLasts, columnBegins, columnLasts, hasRow, hasColumn, rowFirstBy, rowPastBy, columnFirstBy, columnPastBy, rowFirstOf, rowPastOf, columnFirstOf, columnPastOf, rowFirst, rowPast, columnFirst, columnPast}
 use Rattle.segments.specs.declared.Segment.{Segment}
 

@@ -7,7 +7,7 @@ use lib.Dec.{leb, ltb}
 use lib.IntN.{ℤ, pos, negsuc, negℤ}
 use lib.Ieee.{Float, nan, inf, fin, up, down}
 use Rattle.numbers.specs.Arith.{_⊕_, _⊖_}
-use Rattle.numbers.specs.Whole.{half}
+use Rattle.wholes.specs.Whole.{half}
 use Rattle.segments.specs.Ranges.{hasRow, hasColumn}
 use Rattle.segments.specs.declared.Segment.{Segment}
 

@@ -7,7 +7,7 @@ use lib.IntN.{ℤ, pos, negℤ, _+ℤ_}
 use lib.Signed.{leZ, ltZ}
 use lib.Ieee.{Float, nan, inf, fin, binary32, up, down, fits, toSigned, toUnsigned}
 use Rattle.numbers.specs.Arith.{_⊕_, _⊖_}
-use Rattle.numbers.specs.Whole.{roundOf}
+use Rattle.wholes.specs.Whole.{roundOf}
 use Rattle.segments.specs.Ranges.{hasRow, hasColumn}
 use Rattle.segments.specs.Bounds.{Bound, under, at, over, rounded}
 use Rattle.segments.specs.declared.Segment.{Segment}

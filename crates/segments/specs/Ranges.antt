@@ -6,12 +6,12 @@ use lib.Dec.{leb}
 use lib.IntN.{ℤ, pos, negsuc}
 use lib.Ieee.{Float, binary32}
 use Rattle.numbers.specs.Arith.{_⊕_, _⊖_}
-use Rattle.numbers.specs.Whole.{roundOf}
-use Rattle.numbers.specs.Kind.{cutI64, cutU64}
-use Rattle.numbers.specs.declared.KindI64.{KindI64}
-use Rattle.numbers.specs.declared.KindI64.the-variants as I64
-use Rattle.numbers.specs.declared.KindU64.{KindU64}
-use Rattle.numbers.specs.declared.KindU64.the-variants as U64
+use Rattle.wholes.specs.Whole.{roundOf}
+use Rattle.kinds.specs.Kind.{cutI64, cutU64}
+use Rattle.kinds.specs.declared.KindI64.{KindI64}
+use Rattle.kinds.specs.declared.KindI64.the-variants as I64
+use Rattle.kinds.specs.declared.KindU64.{KindU64}
+use Rattle.kinds.specs.declared.KindU64.the-variants as U64
 use Rattle.segments.specs.declared.Segment.{Segment}
 use Rattle.segments.specs.declared.Range.{Range}
 

@@ -4,8 +4,8 @@ use mathlib.Core.Bool.{true, false}
 use Prim.Native.Nat.{ℕ}
 use lib.IntN.{pos, negsuc}
 use lib.Ieee.{Float, nan, inf, fin, round, add, sub}
-use Rattle.numbers.specs.Whole.{wholeBy}
-use Rattle.numbers.specs.Kind.{kindBy}
+use Rattle.wholes.specs.Whole.{wholeBy}
+use Rattle.kinds.specs.Kind.{kindBy}
 use Rattle.segments.specs.Ranges.{rowFirstOf, rowPastOf, columnFirstOf, columnPastOf, rowsOf, columnsOf}
 use Rattle.segments.specs.declared.Segment.{Segment}
 use Rattle.segments.specs.declared.Range.{Range}

@@ -6,8 +6,8 @@ use lib.ListN.{getD}
 use lib.Ieee.{Float, nan, binary32, neg, eq}
 use Rattle.numbers.specs.Arith.{f, 0·0, 0·25, 1·0, _⊖_, _⊗_, _⊘_}
 use Rattle.numbers.specs.Magnitude.{absOf, topOf, isInfinite}
-use Rattle.numbers.specs.Root.{sqrtOf}
-use Rattle.numbers.specs.Ln.{lnOf}
+use Rattle.roots.specs.Root.{sqrtOf}
+use Rattle.approximations.specs.Ln.{lnOf}
 use Rattle.segments.specs.declared.Segment.{Segment}
 use Rattle.segments.specs.declared.Added.{Added}
 use Rattle.segments.specs.declared.Added.the-variants.{Made, Nothing}

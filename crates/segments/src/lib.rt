@@ -5,8 +5,8 @@ ghost use lib.ListN.{length};
 ghost use lib.Seq.{sets};
 ghost use Rattle.segments.specs.Segment.{skipped, maxColor, distanceExp, maxDistance, addSegment, segmentAt, eightOf};
 ghost use Rattle.segments.specs.Ranges.{clip, clipPast, rowFirstOf, rowPastOf, columnFirstOf, columnPastOf, rowsOf, columnsOf};
-use numbers::KindI64;
-use numbers::KindU64;
+use kinds::KindI64;
+use kinds::KindU64;
 
 pub struct Segment {
     pub center_x: f32,
@@ -68,7 +68,7 @@ fn max_distance(sigma: f32, max_color: f32, high_precision: bool) -> f32
     ensures { λ r. ⌜ r ≡ maxDistance sigma «max_color» «high_precision» ⌝ }
 {
     let faintest = -2.3025851 * distance_exp(high_precision);
-    numbers::root(-2.0 * sigma * sigma * (faintest - numbers::ln(max_color)))
+    roots::root(-2.0 * sigma * sigma * (faintest - approximations::ln(max_color)))
 }
 
 pub fn add_segment(
@@ -124,7 +124,7 @@ fn clip_past(z: i64) -> u32
 fn row_first(x: f32) -> u32
     ensures { λ r. ⌜ r ≡ rowFirstOf x ⌝ }
 {
-    match numbers::rounded_to_i64(x) {
+    match kinds::rounded_to_i64(x) {
         KindI64::Exact(z) => clip(z),
         KindI64::NotNumber => 0,
         KindI64::Below => 0,
@@ -136,7 +136,7 @@ fn row_first(x: f32) -> u32
 fn row_past(x: f32) -> u32
     ensures { λ r. ⌜ r ≡ rowPastOf x ⌝ }
 {
-    match numbers::rounded_to_i64(x) {
+    match kinds::rounded_to_i64(x) {
         KindI64::Exact(z) => clip_past(z),
         KindI64::NotNumber => 1,
         KindI64::Below => 0,
@@ -148,7 +148,7 @@ fn row_past(x: f32) -> u32
 pub fn column_first(x: f32) -> u32
     ensures { λ r. ⌜ r ≡ columnFirstOf x ⌝ }
 {
-    match numbers::rounded_to_u64(x) {
+    match kinds::rounded_to_u64(x) {
         KindU64::Exact(n) => cut(n),
         KindU64::NotNumber => 0,
         KindU64::Below => 0,
@@ -160,7 +160,7 @@ pub fn column_first(x: f32) -> u32
 pub fn column_past(x: f32) -> u32
     ensures { λ r. ⌜ r ≡ columnPastOf x ⌝ }
 {
-    match numbers::rounded_to_u64(x) {
+    match kinds::rounded_to_u64(x) {
         KindU64::Exact(n) => cut(n) + 1,
         KindU64::NotNumber => 1,
         KindU64::Below => 1,

@@ -6,7 +6,7 @@ use native.Mathlib.Omega.{arith}
 use lib.ListN.{length, getD, take, drop}
 use lib.Ieee.{Float, nan, binary32}
 use borrow.Author.Tests.{lt-ltb}
-use Rattle.numbers.specs.Root.{sqrtOf}
+use Rattle.roots.specs.Root.{sqrtOf}
 use Rattle.segments.specs.declared.Segment.{Segment}
 use Rattle.shade.specs.Edit.{edit, firstCells}
 use Rattle.shade.specs.Shade.{sqd, dy2, intensityAt, shade, shaded, shadedByIntensity, shadedBySquare}

@@ -16,7 +16,7 @@ use lib.Ieee.Back.{whole-unique}
 use borrow.Author.Tests.{lt-ltb, le-ltb, ne-eqb}
 use Rattle.numbers.specs.Arith.{f, _⊕_, _⊖_, _⊗_, _⊘_}
 use Rattle.numbers.specs.Magnitude.{absOf, signOf, withSign}
-use Rattle.numbers.specs.Erf.{erfCore, fastErff}
+use Rattle.approximations.specs.Erf.{erfCore, fastErff}
 use Rattle.numbers.proofs.Zero.{yes, no, null, under, not-under}
 use Rattle.numbers.proofs.Signs.{abs-minus}
 use Rattle.shade.specs.Alike.{Nulls, Alike}

@@ -4,8 +4,8 @@ use Prim.Native.Nat.{ℕ, zero, suc}
 use lib.IntN.{pos}
 use lib.Ieee.{Float, binary32, ofInt, neg}
 use Rattle.numbers.specs.Arith.{f, 0·5, _⊕_, _⊖_, _⊗_}
-use Rattle.numbers.specs.Root.{sqrtOf}
-use Rattle.numbers.specs.Erf.{fastErff}
+use Rattle.roots.specs.Root.{sqrtOf}
+use Rattle.approximations.specs.Erf.{fastErff}
 use Rattle.segments.specs.declared.Segment.{Segment}
 
 abbrev «0·353_553_38» : Float

@@ -7,8 +7,8 @@ ghost use Prim.Native.Nat.{_+_, _≤_, _<_, _^_};
 ghost use lib.ListN.{length, getD};
 ghost use lib.IntN.{pos};
 ghost use lib.Ieee.{nan, neg, binary32, ofInt};
-ghost use Rattle.numbers.specs.Root.{sqrtOf};
-ghost use Rattle.numbers.specs.Erf.{erfCore, fastErff};
+ghost use Rattle.roots.specs.Root.{sqrtOf};
+ghost use Rattle.approximations.specs.Erf.{erfCore, fastErff};
 ghost use Rattle.shade.specs.Alike.{Alike};
 ghost use Rattle.shade.specs.Edit.{edit, firstCells};
 ghost use Rattle.shade.specs.Shade.{sqd, intensityAt, shadedByIntensity, shadedBySquare, shaded};
@@ -42,7 +42,7 @@ fn roots(v: &mut [f32; 32], m: usize, table: &[u64; 128])
 {
     let mut k: usize = 0;
     while k < m {
-        v[k] = numbers::root_by(v[k], table);
+        v[k] = roots::root_by(v[k], table);
         k += 1;
     }
 }
@@ -59,7 +59,7 @@ fn erf(x: f32) -> f32
     ensures { λ r. ⌜ Alike r (fastErff x) ⌝ }
 {
     let negative = x < 0.0;
-    turned(negative, numbers::erf_core(turned(negative, x)))
+    turned(negative, approximations::erf_core(turned(negative, x)))
 }
 
 // What a segment adds at a distance, before its colours.

@@ -1,7 +1,7 @@
 // `gauge why`: one segment, its trace, where it sits, and by which kind each of its four ends.
 ghost use Prim.Native.Nat.{_≤_};
-use numbers::KindI64;
-use numbers::KindU64;
+use kinds::KindI64;
+use kinds::KindU64;
 
 // A number with two decimals, after its name.
 fn say_decimal(negative: bool, hundredths: u64) -> u8
@@ -18,7 +18,7 @@ fn say_decimal(negative: bool, hundredths: u64) -> u8
 fn say_size(v: f32) -> u8
     ensures { λ r. ⌜ r ≤ 3 ⌝ }
 {
-    match numbers::rounded_to_u64(100.0 * numbers::abs(v)) {
+    match kinds::rounded_to_u64(100.0 * numbers::abs(v)) {
         KindU64::Exact(hundredths) => say_decimal(v < 0.0, hundredths),
         KindU64::NotNumber => words::out(b" not a number\n", &[]),
         _ => words::out(b" beyond every row and column\n", &[]),
@@ -39,7 +39,7 @@ fn say_number(name: &[u8], v: f32) -> u8
 fn say_exact(text: &[u8], size: f32) -> u8
     ensures { λ r. ⌜ r ≤ 3 ⌝ }
 {
-    match numbers::rounded_to_u64(size) {
+    match kinds::rounded_to_u64(size) {
         KindU64::Exact(n) => words::out(text, &[n]),
         _ => words::out(text, &[0]),
     }
@@ -84,7 +84,7 @@ fn say_whole(negative: bool, end: f32) -> u8
 fn say_row_kind(end: f32) -> u8
     ensures { λ r. ⌜ r ≤ 3 ⌝ }
 {
-    match numbers::rounded_to_i64(end) {
+    match kinds::rounded_to_i64(end) {
         KindI64::Exact(n) => say_whole(n < 0, end),
         KindI64::NotNumber => say_no_number(),
         KindI64::Below => say_below(),
@@ -96,7 +96,7 @@ fn say_row_kind(end: f32) -> u8
 fn say_column_kind(end: f32) -> u8
     ensures { λ r. ⌜ r ≤ 3 ⌝ }
 {
-    match numbers::rounded_to_u64(end) {
+    match kinds::rounded_to_u64(end) {
         KindU64::Exact(n) => words::out(b" exactly #\n", &[n]),
         KindU64::NotNumber => say_no_number(),
         KindU64::Below => say_below_taken(),

@@ -10,7 +10,7 @@ use lib.ListN.{length, getD, List·getD-append}
 use lib.Seq.{getD-append-seam}
 use lib.Ieee.{Float, nan}
 use Rattle.numbers.specs.Arith.{f, _⊕_, _⊗_}
-use Rattle.numbers.specs.Cos.{fastCos}
+use Rattle.approximations.specs.Cos.{fastCos}
 use Rattle.dequantize.specs.Coefficients.{table}
 use Rattle.dequantize.proofs.Tables.{length-table}
 use Rattle.transform.specs.Transform.{dctMultiplier, cosineAt, sumOf, dotOf, continuousIdct}

@@ -5,7 +5,7 @@ use lib.IntN.{pos}
 use lib.ListN.{getD}
 use lib.Ieee.{Float, nan, binary32, ofInt}
 use Rattle.numbers.specs.Arith.{f, 0·5, _⊕_, _⊗_, _⊘_}
-use Rattle.numbers.specs.Cos.{fastCos}
+use Rattle.approximations.specs.Cos.{fastCos}
 use Rattle.dequantize.specs.declared.Spline.{Spline}
 use Rattle.transform.specs.declared.Sums.{Sums}
 

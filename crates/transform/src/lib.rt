@@ -77,7 +77,7 @@ fn cosines(from: usize, t: f32) -> [f32; 8]
     let mut eight = [0.0; 8];
     let mut j = 0;
     while j < 8 {
-        eight[j] = numbers::fast_cos(multipliers[j] * tandhalf);
+        eight[j] = approximations::fast_cos(multipliers[j] * tandhalf);
         j += 1;
     }
     eight

@@ -6,7 +6,7 @@ use Prim.Native.Nat.{ℕ, zero, suc, _<_}
 use native.Mathlib.Omega.{arith}
 use lib.IntN.{pos, negsuc}
 use lib.Ieee.{Float, fin, add, sub, mul, div, le, ofInt, ofBits}
-use Rattle.numbers.specs.Root.{sqrtOf}
+use Rattle.roots.specs.Root.{sqrtOf}
 use Rattle.curve.specs.declared.Point.{Point}
 use Rattle.walk.specs.declared.Stretch.the-variants.{Emits}
 use Rattle.walk.specs.Walk.{Ended, More, PointToDraw, toDraw, before, distanceOf, pointAt, stretchIn, stretchOf, walkFrom, walkIn, walkLength}

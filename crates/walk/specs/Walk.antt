@@ -8,7 +8,7 @@ use lib.ListN.{length, getD}
 use lib.IntN.{pos, _-ℤ_}
 use lib.Ieee.{Float, nan, binary32, le, ofInt}
 use Rattle.numbers.specs.Arith.{0·0, 1·0, _⊕_, _⊖_, _⊗_, _⊘_}
-use Rattle.numbers.specs.Root.{sqrtOf}
+use Rattle.roots.specs.Root.{sqrtOf}
 use Rattle.buffers.specs.Onto.{onto}
 use Rattle.curve.specs.declared.Point.{Point}
 use Rattle.curve.specs.Points.{addPoint, subPoint, mulPoint}

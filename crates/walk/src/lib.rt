@@ -21,7 +21,7 @@ pub enum Walked {
 fn distance(delta: Point) -> f32
     ensures { λ r. ⌜ r ≡ distanceOf delta ⌝ }
 {
-    numbers::root(delta.x * delta.x + delta.y * delta.y)
+    roots::root(delta.x * delta.x + delta.y * delta.y)
 }
 
 // Point i of a path of two numbers a point.

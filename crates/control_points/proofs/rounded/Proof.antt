@@ -8,10 +8,10 @@ use lib.Ieee.Casts.{toSigned-in}
 use mir.Syntax.{w32}
 use mir.Val.{SFits, toZ, ofZ}
 use mir.Facts.{toZ-ofZ}
-use Rattle.numbers.specs.Whole.{roundOf}
-use Rattle.numbers.specs.Kind.{cutI32, saturatedI32}
-use Rattle.numbers.specs.declared.KindI32.the-variants as I32
-use Rattle.numbers.proofs.ByKind.{saturated-i32}
+use Rattle.wholes.specs.Whole.{roundOf}
+use Rattle.kinds.specs.Kind.{cutI32, saturatedI32}
+use Rattle.kinds.specs.declared.KindI32.the-variants as I32
+use Rattle.kinds.proofs.ByKind.{saturated-i32}
 use Rattle.control_points.specs.ControlPoints.{coordinateBy, inRange, roundedOf}
 use Rattle.control_points.specs.declared.Whole.the-variants as W
 use Rattle.control_points.proofs.rounded.Statement.{statement}

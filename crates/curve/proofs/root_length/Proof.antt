@@ -5,7 +5,7 @@ use borrow.Author.Needs.{needs}
 use mir.Syntax.{w32}
 use mir.Facts.{toZ-ofZ}
 use lib.Ieee.{binary32}
-use Rattle.numbers.specs.Root.{sqrtOf}
+use Rattle.roots.specs.Root.{sqrtOf}
 use Rattle.curve.specs.Turns.{rootLength}
 use Rattle.curve.proofs.root_length.Statement.{statement}
 use Rattle.curve.proofs.root_length.Tie as tie

@@ -1,7 +1,7 @@
 -- Each arm is the definition's case of the kind.
 use mathlib.Core.Path.{ap, sym, _∙_}
 use borrow.Author.Needs.{needs}
-use Rattle.numbers.specs.Kind.{saturatedU64}
+use Rattle.kinds.specs.Kind.{saturatedU64}
 use Rattle.estimate.proofs.whole.Statement.{statement}
 use Rattle.estimate.proofs.whole.Tie as tie
 

@@ -2,8 +2,8 @@
 use mathlib.Core.Path.{_≡_, refl}
 use lib.Ieee.{ofBits, toBits, ofInt, add, sub, mul, div, lt, neg}
 use Rattle.numbers.specs.Arith.{f}
-use Rattle.numbers.specs.Narrow.{narrow}
-use Rattle.numbers.specs.Ln.{lnOf, lnAbove, lnAt}
+use Rattle.to_f32.specs.Narrow.{narrow}
+use Rattle.approximations.specs.Ln.{lnOf, lnAbove, lnAt}
 use Rattle.segments.specs.Segment.{maxDistance}
 use borrow.Author.Needs.{needs}
 use Rattle.segments.proofs.max_distance.Statement.{statement}

@@ -4,8 +4,8 @@ use borrow.Author.Needs.{needs}
 use lib.Ieee.{binary32}
 use mir.Facts.{toZ-ofZ}
 use mir.Syntax.{w64}
-use Rattle.numbers.specs.Whole.{roundOf}
-use Rattle.numbers.specs.declared.KindI64.the-variants as I64
+use Rattle.wholes.specs.Whole.{roundOf}
+use Rattle.kinds.specs.declared.KindI64.the-variants as I64
 use Rattle.segments.specs.Ranges.{clipPast, rowEnd, rowPastBy, rowPastOf}
 use Rattle.segments.proofs.Ranges.{exact-fits}
 use Rattle.segments.proofs.row_past.Statement.{statement}

@@ -4,7 +4,7 @@ use Prim.Native.Nat.{_-_, _≤_}
 use native.Mathlib.Omega.{arith}
 use lib.ListN.{length, length-set}
 use lib.Ieee.{binary32}
-use Rattle.numbers.specs.Root.{sqrtOf}
+use Rattle.roots.specs.Root.{sqrtOf}
 use Rattle.shade.specs.Edit.{edit, firstCells}
 use Rattle.shade.proofs.Edits.{edit-none, edit-until, stored}
 use Rattle.shade.proofs.roots.Statement.{statement}

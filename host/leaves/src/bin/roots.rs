@@ -28,7 +28,7 @@ fn word(i: u64) -> u64 {
 fn stored() -> Option<Vec<u64>> {
     let path = concat!(
         env!("CARGO_MANIFEST_DIR"),
-        "/../../crates/numbers/src/by_table.rt"
+        "/../../crates/roots/src/by_table.rt"
     );
     let text = std::fs::read_to_string(path).ok()?;
     let from = text.find("pub const ROOTS")?;
