@@ -79,7 +79,7 @@ pub has-columns : (s : Segment) (r : Range) (x : ℕ) → r ≡ columnsOf s → 
 unfolding columnsOf
 has-columns s r x e h = ap (λ (q : Range). between (q .first) (q .past) x) e ∙ sym (has-column s x h)
 
-count-cong : (p q : ℕ → Bool) (x0 n : ℕ) → ((k : ℕ) → k < n → p (x0 + k) ≡ q (x0 + k)) → count p x0 n ≡ count q x0 n
+pub count-cong : (p q : ℕ → Bool) (x0 n : ℕ) → ((k : ℕ) → k < n → p (x0 + k) ≡ q (x0 + k)) → count p x0 n ≡ count q x0 n
 count-cong p q x0 zero h = refl
 count-cong p q x0 (suc n) h = rw (h n (omega arith)) (ap (λ (m : ℕ). cond (q (x0 + n)) 1 0 + m) (count-cong p q x0 n (λ k l. h k (omega arith))))
 

@@ -85,6 +85,24 @@ rest-next s c segs y x0 n i e l xs ys all h k p q =
     ∙ ap (λ (es : List ℕ). rest c segs y x0 n (shown s es) xs) (sym (slice-next i e l h k))
     ∙ p
 
+-- ---- two entries at a time
+
+module _ (s : Sight) (segs : List Float) (x0 n i e : ℕ) (l : List ℕ) (h : i + 1 < e) (k : e ≤ length l) where
+  pub total-next-two : (total r all : ℕ) → total + updates segs x0 n (shown s (slice i e l)) ≡ all → r ≡ updates segs x0 n (shown s (getD l i 0 ∷ [])) + updates segs x0 n (shown s (getD l (i + 1) 0 ∷ [])) → total + r + updates segs x0 n (shown s (slice (i + 2) e l)) ≡ all
+  total-next-two total r all p q =
+      let u = updates segs x0 n (shown s (getD l i 0 ∷ [])) in
+      let w = updates segs x0 n (shown s (getD l (i + 1) 0 ∷ [])) in
+      let two : i + 2 ≡ i + 1 + 1 = omega arith in
+      omega (arith, q, ap (λ (m : ℕ). updates segs x0 n (shown s (slice m e l))) two, total-next s segs x0 n (i + 1) e l (total + u) w all h k (total-next s segs x0 n i e l total u all (omega arith) k p refl) refl)
+
+  pub rest-next-two : (c y : ℕ) (xs ys all : List Float) → rest c segs y x0 n (shown s (slice i e l)) xs ≡ all → ys ≡ rest c segs y x0 n (shown s (getD l (i + 1) 0 ∷ [])) (rest c segs y x0 n (shown s (getD l i 0 ∷ [])) xs) → rest c segs y x0 n (shown s (slice (i + 2) e l)) ys ≡ all
+  rest-next-two c y xs ys all p q =
+      let two : i + 2 ≡ i + 1 + 1 = omega arith in
+      ap (λ (m : ℕ). rest c segs y x0 n (shown s (slice m e l)) ys) two
+      ∙ rest-next s c segs y x0 n (i + 1) e l (rest c segs y x0 n (shown s (getD l i 0 ∷ [])) xs) ys all h k (rest-next s c segs y x0 n i e l xs _ all (omega arith) k p refl) q
+
+-- ---- none left
+
 nothing-drawn : (n : ℕ) (xs : List Float) → xs ≡ edit (firstCells n (λ j v. v)) xs
 nothing-drawn n xs = is-edit (firstCells n (λ j v. v)) xs xs refl (λ j m. sym (same-cond (ltb j n) (getD xs j nan)))
 

@@ -1,5 +1,6 @@
 -- The laws of the crate `draw`.
 pub mod Columns
+pub mod Pairs
 pub mod Entries
 pub mod Checks
 pub mod Refusals

@@ -13,10 +13,10 @@ use Rattle.shade.specs.Shade.{sqd, dy2, intensityAt, shade, shaded, shad
 use Rattle.shade.proofs.Edits.{length-edit, getD-edit, edit-cong, stored-part}
 
 -- a cell after a pass over the first m
-passed : (f : ℕ → Float → Float) (m : ℕ) (v w : List Float) (i : ℕ) → m ≤ length v → i < m → w ≡ edit (firstCells m f) v → getD w i nan ≡ f i (getD v i nan)
+pub passed : (f : ℕ → Float → Float) (m : ℕ) (v w : List Float) (i : ℕ) → m ≤ length v → i < m → w ≡ edit (firstCells m f) v → getD w i nan ≡ f i (getD v i nan)
 passed f m v w i h k p = ap (λ (u : List Float). getD u i nan) p ∙ getD-edit (firstCells m f) v i (omega arith) ∙ rw (lt-ltb i m k)
 
-as-long : (f : ℕ → Float → Float) (m : ℕ) (v w : List Float) → w ≡ edit (firstCells m f) v → length w ≡ length v
+pub as-long : (f : ℕ → Float → Float) (m : ℕ) (v w : List Float) → w ≡ edit (firstCells m f) v → length w ≡ length v
 as-long f m v w p = ap length p ∙ length-edit (firstCells m f) v
 
 -- squares in v1, the roots of the first m in v2, intensities in v3, and the segment added by these

@@ -1,8 +1,11 @@
 -- `draw_segment_inner`: what one segment adds at one pixel, operation by operation. Definitions only.
 -- A multiply-add is a rounded product, then a rounded sum.
-use Prim.Native.Nat.{ℕ, zero, suc}
+use mathlib.Core.Path.{_≡_}
+use mathlib.Core.List.{List}
+use Prim.Native.Nat.{ℕ, zero, suc, _<_}
+use lib.ListN.{getD}
 use lib.IntN.{pos}
-use lib.Ieee.{Float, binary32, ofInt, neg}
+use lib.Ieee.{Float, nan, binary32, ofInt, neg}
 use Rattle.numbers.specs.Arith.{f, 0·5, _⊕_, _⊖_, _⊗_}
 use Rattle.roots.specs.Root.{sqrtOf}
 use Rattle.approximations.specs.Erf.{fastErff}
@@ -54,3 +57,7 @@ shadedByIntensity s local c v = colorOf s c ⊗ local ⊕ v
 
 abbrev pub shadedBySquare : Segment → Float → ℕ → ℕ → Float → Float
 shadedBySquare s dy2 x c v = shadedByIntensity s (intensityAt s (sqrtOf binary32 (sqd (s .«center_x») dy2 x))) c v
+
+-- the first m cells hold f
+unfoldable pub Holds : ℕ → (ℕ → Float) → List Float → Type 0
+Holds m f v = (k : ℕ) → k < m → getD v k nan ≡ f k

@@ -10,8 +10,8 @@ ghost use lib.Ieee.{nan, neg, binary32, ofInt};
 ghost use Rattle.roots.specs.Root.{sqrtOf};
 ghost use Rattle.approximations.specs.Erf.{erfCore, fastErff};
 ghost use Rattle.shade.specs.Alike.{Alike};
-ghost use Rattle.shade.specs.Edit.{edit, firstCells};
-ghost use Rattle.shade.specs.Shade.{sqd, intensityAt, shadedByIntensity, shadedBySquare, shaded};
+ghost use Rattle.shade.specs.Edit.{edit, firstCells, inside};
+ghost use Rattle.shade.specs.Shade.{sqd, dy2, intensityAt, shadedByIntensity, shadedBySquare, shaded, Holds};
 use segments::Segment;
 
 // A row or a column as a float, by way of a signed number, for which the machine has a vector instruction.
@@ -36,7 +36,7 @@ fn squares(v: &mut [f32; 32], m: usize, x: u32, center_x: f32, dy2: f32)
 }
 
 // The roots of the first m numbers.
-fn roots(v: &mut [f32; 32], m: usize, table: &[u64; 128])
+pub fn roots(v: &mut [f32; 32], m: usize, table: &[u64; 128])
     requires { ⌜ (m ≤ 32) × (length (now v) ≡ 32) ⌝ }
     ensures { λ _. ⌜ now (v .exit) ≡ edit (firstCells m (λ k w. sqrtOf binary32 w)) (now (v .entry)) ⌝ }
 {
@@ -85,7 +85,7 @@ fn intensities(segment: Segment, v: &mut [f32; 32], m: usize)
 }
 
 // Adds a segment to at most 32 pixels, by the intensities there.
-fn add(segment: Segment, locals: &[f32; 32], r0: &mut [f32], r1: &mut [f32], r2: &mut [f32])
+pub fn add(segment: Segment, locals: &[f32; 32], r0: &mut [f32], r1: &mut [f32], r2: &mut [f32])
     requires { ⌜ (length (now r0) ≤ 32) × (length (now r1) ≡ length (now r0)) × (length (now r2) ≡ length (now r0)) ⌝ }
     ensures { λ _. ⌜ now (r0 .exit) ≡ edit (λ k v. shadedByIntensity segment (getD (now (locals .entry)) k nan) 0 v) (now (r0 .entry)) ⌝ }
     ensures { λ _. ⌜ now (r1 .exit) ≡ edit (λ k v. shadedByIntensity segment (getD (now (locals .entry)) k nan) 1 v) (now (r1 .entry)) ⌝ }
@@ -131,6 +131,27 @@ fn block(
     roots(&mut v, m, table);
     intensities(segment, &mut v, l);
     add(segment, &v, r0, r1, r2);
+}
+
+// The squares of the distances of m columns of row y from x on.
+pub fn squares_at(segment: Segment, y: u32, x: u32, m: usize, v: &mut [f32; 32])
+    requires { ⌜ (m ≤ 32) × (length (now v) ≡ 32) × (x + m ≤ 2 ^ 23) × (y ≤ 2 ^ 23) ⌝ }
+    ensures { λ _. ⌜ length (now (v .exit)) ≡ 32 ⌝ }
+    ensures { λ _. ⌜ Holds m (λ k. sqd (segment .«center_x») (dy2 (segment .«center_y») y) (x + k)) (now (v .exit)) ⌝ }
+{
+    let dy = float_of(y) - segment.center_y;
+    let dy2 = dy * dy;
+    let l = fours(m);
+    squares(v, l, x, segment.center_x, dy2);
+}
+
+// The first m distances as intensities.
+pub fn intensities_at(segment: Segment, m: usize, v: &mut [f32; 32])
+    requires { ⌜ (m ≤ 32) × (length (now v) ≡ 32) ⌝ }
+    ensures { λ _. ⌜ Holds m (λ k. intensityAt segment (getD (now (v .entry)) k nan)) (now (v .exit)) ⌝ }
+{
+    let l = fours(m);
+    intensities(segment, v, l);
 }
 
 // Where the block that begins at a ends, of the blocks of n pixels.
