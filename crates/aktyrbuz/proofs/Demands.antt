@@ -12,8 +12,8 @@ use Rattle.codes.specs.declared.Code.the-variants.{Room}
 use Rattle.list.specs.List.{limitOf}
 use Rattle.reader.proofs.Promises.{refused-exactly, given-exactly}
 use Rattle.writer.specs.Write.{WriteOutcome, firstFault, contentChecks, check, valuesOf, outcome, writeOf}
-use Rattle.writer.specs.declared.Verdict.{Verdict}
-use Rattle.writer.specs.declared.Verdict.the-variants.{Fine, Fault}
+use Rattle.write_judge.specs.declared.Verdict.{Verdict}
+use Rattle.write_judge.specs.declared.Verdict.the-variants.{Fine, Fault}
 use Rattle.writer.specs.declared.WriteAnswer.{WriteAnswer}
 use Rattle.roundtrip.proofs.RoundTrip.{written-then-read, read-then-written}
 use Rattle.desks.specs.Desks.{Sight}

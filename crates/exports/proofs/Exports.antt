@@ -14,8 +14,8 @@ use Rattle.reader.specs.Read.{ReadOutcome, outcome, readOutcome, roomsOf}
 use Rattle.reader.specs.Read as reading
 use Rattle.writer.specs.Write.{WriteOutcome, check, firstFault, contentChecks, valuesOf, writeOf}
 use Rattle.writer.specs.Write as writing
-use Rattle.writer.specs.declared.Verdict.{Verdict}
-use Rattle.writer.specs.declared.Verdict.the-variants.{Fine, Fault}
+use Rattle.write_judge.specs.declared.Verdict.{Verdict}
+use Rattle.write_judge.specs.declared.Verdict.the-variants.{Fine, Fault}
 use Rattle.dequantize.specs.declared.judge.Judged.{Judged}
 use Rattle.dequantize.specs.declared.judge.Judged.the-variants as judged
 use Rattle.dequantize.specs.Judge.{Description, descriptionOf}

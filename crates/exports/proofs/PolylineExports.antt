@@ -6,8 +6,8 @@ use lib.IntN.{ℤ}
 use lib.Ieee.{Float}
 use denote.Ref.{now}
 use Rattle.dequantize.specs.Judge.{descriptionOf}
-use Rattle.writer.specs.declared.Verdict.{Verdict}
-use Rattle.writer.specs.declared.Verdict.the-variants.{Fine, Fault}
+use Rattle.write_judge.specs.declared.Verdict.{Verdict}
+use Rattle.write_judge.specs.declared.Verdict.the-variants.{Fine, Fault}
 use Rattle.writer.specs.Write as writing
 use Rattle.polyline.specs.declared.Spot.{Spot}
 use Rattle.polyline.specs.Spots.{spotsOf}

@@ -9,8 +9,8 @@ use lib.Ieee.{Float}
 use Rattle.codes.specs.declared.Code.the-variants.{Room, Position, Coincide}
 use Rattle.list.specs.Steps.{f32Of, zeroF32}
 use Rattle.writer.specs.Write.{WriteTold, toldOf}
-use Rattle.writer.specs.declared.Verdict.{Verdict}
-use Rattle.writer.specs.declared.Verdict.the-variants.{Fine, Fault}
+use Rattle.write_judge.specs.declared.Verdict.{Verdict}
+use Rattle.write_judge.specs.declared.Verdict.the-variants.{Fine, Fault}
 use Rattle.writer.specs.declared.WriteAnswer.{WriteAnswer}
 use Rattle.writer.specs.declared.WriteAnswer.the-variants.{Done, Refused}
 use Rattle.control_points.specs.ControlPoints.{validPointPos, samePoint, placeAt}

@@ -4,8 +4,8 @@ use mathlib.Core.List.{List, [], _∷_}
 use Prim.Native.Nat.{ℕ, suc}
 use lib.Dec.{eqb, leb}
 use Rattle.codes.specs.declared.Code.the-variants.{Text}
-use Rattle.writer.specs.declared.Verdict.{Verdict}
-use Rattle.writer.specs.declared.Verdict.the-variants.{Fine, Fault}
+use Rattle.write_judge.specs.declared.Verdict.{Verdict}
+use Rattle.write_judge.specs.declared.Verdict.the-variants.{Fine, Fault}
 use Rattle.polyline.specs.declared.Stage.{Stage}
 use Rattle.polyline.specs.declared.Stage.the-variants.{Fresh, Minus, Nought, Digits}
 use Rattle.polyline.specs.declared.Step.{Step}

@@ -10,8 +10,8 @@ use Rattle.codes.specs.declared.Code.{Code}
 use Rattle.codes.specs.declared.Code.the-variants.{Room, Shape, Delta, Position, Coincide}
 use Rattle.writer.specs.Write.{misshapen, WriteOutcome}
 use Rattle.writer.specs.Write as writing
-use Rattle.writer.specs.declared.Verdict.{Verdict}
-use Rattle.writer.specs.declared.Verdict.the-variants.{Fine, Fault}
+use Rattle.write_judge.specs.declared.Verdict.{Verdict}
+use Rattle.write_judge.specs.declared.Verdict.the-variants.{Fine, Fault}
 use Rattle.control_points.specs.ControlPoints.{validPointPos, validDoubleDelta, samePoint, startingPoint, placeAt, movedOf, controlPoints}
 use Rattle.dequantize.specs.Judge.{Description, descriptionOf, startX, startY, deltasOf}
 use Rattle.control_points.specs.declared.Pair.{Pair}

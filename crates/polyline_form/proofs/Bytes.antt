@@ -10,7 +10,7 @@ use lib.ListN.{length, getD, drop, drop-of-length-le}
 use lib.Seq.{drop-cons}
 use borrow.Author.Tests.{eq-eqb, ne-eqb, le-leb, lt-leb}
 use Rattle.codes.specs.declared.Code.the-variants.{Text}
-use Rattle.writer.specs.declared.Verdict.the-variants.{Fine, Fault}
+use Rattle.write_judge.specs.declared.Verdict.the-variants.{Fine, Fault}
 use Rattle.polyline.specs.declared.Stage.{Stage}
 use Rattle.polyline.specs.declared.Stage.the-variants.{Fresh, Minus, Nought, Digits}
 use Rattle.polyline.specs.declared.Step.{Step}

@@ -3,7 +3,7 @@
 use codes::Code;
 use polyline::Stage;
 use polyline::Step;
-use writer::Verdict;
+use write_judge::Verdict;
 ghost use mathlib.Core.Path.{_≡_};
 ghost use Rattle.polyline.specs.declared.Stage.{Stage};
 ghost use Rattle.polyline.specs.Stages.{leadOf, beginOf, endOf, nextOf, mayEnd, textOf};

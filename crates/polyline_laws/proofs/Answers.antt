@@ -15,8 +15,8 @@ use Rattle.codes.specs.declared.Code.{Code}
 use Rattle.codes.specs.declared.Code.the-variants.{Text, Position, Coincide, Room}
 use Rattle.list.specs.Steps.{zeroF32}
 use Rattle.writer.specs.Write as writing
-use Rattle.writer.specs.declared.Verdict.{Verdict}
-use Rattle.writer.specs.declared.Verdict.the-variants.{Fine, Fault}
+use Rattle.write_judge.specs.declared.Verdict.{Verdict}
+use Rattle.write_judge.specs.declared.Verdict.the-variants.{Fine, Fault}
 use Rattle.writer.specs.declared.WriteAnswer.the-variants.{Refused}
 use Rattle.dequantize.specs.Judge.{descriptionOf}
 use Rattle.polyline.specs.declared.Spot.{Spot}

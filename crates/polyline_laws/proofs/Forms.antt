@@ -9,8 +9,8 @@ use lib.ListN.{length, take}
 use borrow.Author.Tests.{eq-eqb, ne-eqb, eqb-true, eqb-false, le-leb, lt-leb, leb-true, leb-false}
 use Rattle.codes.proofs.Decides.{both}
 use Rattle.codes.specs.declared.Code.the-variants.{Text}
-use Rattle.writer.specs.declared.Verdict.{Verdict}
-use Rattle.writer.specs.declared.Verdict.the-variants.{Fine, Fault}
+use Rattle.write_judge.specs.declared.Verdict.{Verdict}
+use Rattle.write_judge.specs.declared.Verdict.the-variants.{Fine, Fault}
 use Rattle.polyline.specs.declared.Stage.{Stage}
 use Rattle.polyline.specs.declared.Stage.the-variants as S
 use Rattle.polyline.specs.declared.Step.{Step}

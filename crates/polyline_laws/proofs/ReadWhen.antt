@@ -10,8 +10,8 @@ use lib.ListN.{length, getD}
 use Rattle.codes.specs.declared.Code.{Code}
 use Rattle.codes.specs.declared.Code.the-variants.{Text, Position, Coincide, Room}
 use Rattle.codes.proofs.Decides.{Decides, less-than, either-decides}
-use Rattle.writer.specs.declared.Verdict.{Verdict}
-use Rattle.writer.specs.declared.Verdict.the-variants.{Fine, Fault}
+use Rattle.write_judge.specs.declared.Verdict.{Verdict}
+use Rattle.write_judge.specs.declared.Verdict.the-variants.{Fine, Fault}
 use Rattle.writer.specs.declared.WriteAnswer.the-variants.{Refused}
 use Rattle.control_points.specs.ControlPoints.{validPointPos, samePoint, placeAt}
 use Rattle.control_points.specs.Refusals.{Inside, Outside}

@@ -15,8 +15,8 @@ use Rattle.shape.specs.Shape.{pointsOf, Shaped}
 use Rattle.list.specs.Steps.{f32Of, zeroF32}
 use Rattle.writer.specs.Write as writing
 use Rattle.writer.specs.Write.{WriteOutcome}
-use Rattle.writer.specs.declared.Verdict.{Verdict}
-use Rattle.writer.specs.declared.Verdict.the-variants.{Fine, Fault}
+use Rattle.write_judge.specs.declared.Verdict.{Verdict}
+use Rattle.write_judge.specs.declared.Verdict.the-variants.{Fine, Fault}
 use Rattle.writer.specs.declared.WriteAnswer.the-variants.{Done}
 use Rattle.control_points.specs.ControlPoints.{startingPoint, controlPoints, validPointPos}
 use Rattle.dequantize.specs.Judge.{Description, descriptionOf, startX, startY, deltasAt, deltasOf}

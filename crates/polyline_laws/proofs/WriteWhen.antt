@@ -17,8 +17,8 @@ use Rattle.shape.specs.Shape.{Shaped, shaped}
 use Rattle.shape.proofs.Shape.{is-shaped, shaped-is, not-shaped}
 use Rattle.writer.specs.Write.{misshapen, WriteOutcome, leaves}
 use Rattle.writer.specs.Write as writing
-use Rattle.writer.specs.declared.Verdict.{Verdict}
-use Rattle.writer.specs.declared.Verdict.the-variants.{Fine, Fault}
+use Rattle.write_judge.specs.declared.Verdict.{Verdict}
+use Rattle.write_judge.specs.declared.Verdict.the-variants.{Fine, Fault}
 use Rattle.writer.specs.declared.WriteAnswer.the-variants.{Done, Refused}
 use Rattle.control_points.specs.ControlPoints.{startingPoint, placeAt, controlPoints, validPointPos, samePoint, coincideFrom, adjacentCoincide, traceOf, pairAt}
 use Rattle.dequantize.specs.Judge.{Description, descriptionOf, startX, startY, deltasOf}

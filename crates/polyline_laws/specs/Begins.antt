@@ -4,7 +4,7 @@ use mathlib.Core.List.{List, _++_}
 use Prim.Native.Nat.{ℕ, suc, _≤_, _<_}
 use lib.ListN.{length, take}
 use Rattle.codes.specs.declared.Code.the-variants.{Text}
-use Rattle.writer.specs.declared.Verdict.the-variants.{Fine, Fault}
+use Rattle.write_judge.specs.declared.Verdict.the-variants.{Fine, Fault}
 use Rattle.polyline.specs.Form.{PointsForm}
 use Rattle.polyline.specs.Stages.{textOf}
 

@@ -13,11 +13,11 @@ use borrow.Author.Tests.{lt-ltb, le-ltb, ltb-false}
 use Rattle.codes.specs.declared.Code.{Code}
 use Rattle.codes.specs.declared.Code.the-variants.{Room}
 use Rattle.list.specs.Steps.{zeroF32}
-use Rattle.writer.specs.declared.Verdict.{Verdict}
-use Rattle.writer.specs.declared.Verdict.the-variants.{Fine, Fault}
+use Rattle.write_judge.specs.declared.Verdict.{Verdict}
+use Rattle.write_judge.specs.declared.Verdict.the-variants.{Fine, Fault}
 use Rattle.writer.specs.declared.WriteAnswer.{WriteAnswer}
 use Rattle.writer.specs.declared.WriteAnswer.the-variants.{Done, Refused}
-use Rattle.writer.proofs.Checks.{neither}
+use Rattle.write_judge.proofs.Checks.{neither}
 use Rattle.control_points.specs.ControlPoints.{validPointPos}
 use Rattle.control_points.specs.declared.Pair.{Pair}
 use Rattle.control_points.specs.declared.Place.{Place}

@@ -15,7 +15,7 @@ use Rattle.codes.specs.declared.Code.the-variants.{Position, Coincide}
 use Rattle.control_points.specs.ControlPoints.{validPointPos, samePoint, placeAt}
 use Rattle.control_points.specs.declared.Pair.{Pair}
 use Rattle.control_points.specs.declared.Place.{Place}
-use Rattle.writer.proofs.Stores.{sets-append}
+use Rattle.write_steps.proofs.Stores.{sets-append}
 use Rattle.polyline.specs.declared.Figure.{Figure}
 use Rattle.polyline.specs.declared.Spot.{Spot}
 use Rattle.polyline.specs.declared.Track.{Track}

@@ -11,8 +11,8 @@ use lib.Ieee.{Float}
 use lib.Signed.{mag}
 use Rattle.writer.specs.declared.WriteAnswer.{WriteAnswer}
 use Rattle.writer.specs.declared.WriteAnswer.the-variants.{Done, Refused}
-use Rattle.writer.specs.declared.Verdict.{Verdict}
-use Rattle.writer.specs.declared.Verdict.the-variants.{Fine, Fault}
+use Rattle.write_judge.specs.declared.Verdict.{Verdict}
+use Rattle.write_judge.specs.declared.Verdict.the-variants.{Fine, Fault}
 use Rattle.control_points.specs.ControlPoints.{validPointPos}
 use Rattle.control_points.specs.declared.Pair.{Pair}
 use Rattle.polyline.specs.declared.Figure.{Figure}

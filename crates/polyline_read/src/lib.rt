@@ -11,7 +11,7 @@ use polyline::Spot;
 use polyline::Track;
 use polyline_form::judge_form;
 use read_steps::start_of;
-use writer::Verdict;
+use write_judge::Verdict;
 use writer::WriteAnswer;
 ghost use mathlib.Core.Path.{_≡_};
 ghost use mathlib.Core.Bool.{Bool};

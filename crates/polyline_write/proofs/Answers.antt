@@ -15,12 +15,12 @@ use Rattle.codes.specs.declared.Code.the-variants.{Shape, Room, Position, Coinc
 use Rattle.shape.specs.Shape.{pointsOf, shaped}
 use Rattle.writer.specs.Write.{misshapen, leaves}
 use Rattle.writer.specs.Write as writing
-use Rattle.writer.specs.declared.Verdict.{Verdict}
-use Rattle.writer.specs.declared.Verdict.the-variants.{Fine, Fault}
+use Rattle.write_judge.specs.declared.Verdict.{Verdict}
+use Rattle.write_judge.specs.declared.Verdict.the-variants.{Fine, Fault}
 use Rattle.writer.specs.declared.WriteAnswer.{WriteAnswer}
 use Rattle.writer.specs.declared.WriteAnswer.the-variants.{Done, Refused}
-use Rattle.writer.proofs.Checks.{agreed}
-use Rattle.writer.proofs.Stores.{zeros-after}
+use Rattle.write_judge.proofs.Checks.{agreed}
+use Rattle.write_steps.proofs.Stores.{zeros-after}
 use Rattle.control_points.specs.ControlPoints.{startingPoint, controlPoints, placeAt, validPointPos}
 use Rattle.control_points.specs.Asked.{Passable}
 use Rattle.dequantize.specs.Judge.{descriptionOf, startX, startY, deltasAt, deltasOf}

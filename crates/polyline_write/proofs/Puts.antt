@@ -12,7 +12,7 @@ use Rattle.control_points.specs.Asked.{Passable}
 use Rattle.control_points.specs.declared.Pair.{Pair}
 use Rattle.control_points.specs.declared.Place.{Place}
 use Rattle.control_points.proofs.Walks.{points-more, points-done, walk-more}
-use Rattle.writer.proofs.Stores.{sets-append}
+use Rattle.write_steps.proofs.Stores.{sets-append}
 use Rattle.polyline.specs.Write.{numberText, pairText, laterText, pointsText}
 use Rattle.polyline_write.specs.declared.Put.the-variants.{Ends, Full}
 use Rattle.polyline_write.specs.Steps.{PutLeaves}

@@ -21,10 +21,10 @@ use Rattle.reader.specs.Read.{ReadOutcome, readOutcome}
 use Rattle.reader.specs.Read as reading
 use Rattle.reader.specs.declared.ReadAnswer.{ReadAnswer}
 use Rattle.writer.specs.Write.{Check, check, firstFault, contentChecks, wholeOf, valuesOf, WriteOutcome, leaves, outcome, writeOf}
-use Rattle.writer.specs.declared.Verdict.{Verdict}
-use Rattle.writer.specs.declared.Verdict.the-variants.{Fine, Fault}
+use Rattle.write_judge.specs.declared.Verdict.{Verdict}
+use Rattle.write_judge.specs.declared.Verdict.the-variants.{Fine, Fault}
 use Rattle.writer.specs.declared.WriteAnswer.{WriteAnswer}
-use Rattle.writer.proofs.Checks.{passes, fine-before, both-fine, agreed, content-fine}
+use Rattle.write_judge.proofs.Checks.{passes, fine-before, both-fine, agreed, content-fine}
 use Rattle.write_laws.specs.Floats.{Floats}
 use Rattle.write_laws.proofs.Accepts.{fine-valid, valid-fine, wholes-back, floats-back}
 use Rattle.roundtrip.specs.Enough.{Enough}

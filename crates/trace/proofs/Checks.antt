@@ -11,9 +11,9 @@ use lib.ListN.{length, take, drop, set, getD, length-drop, drop-of-length-le}
 use lib.Seq.{drop-cons, length-take-le, getD-take, getD-drop, take-suc, set-at}
 use Rattle.codes.specs.declared.Code.{Code}
 use Rattle.writer.specs.Write.{Check, check, firstFault}
-use Rattle.writer.specs.declared.Verdict.{Verdict}
-use Rattle.writer.specs.declared.Verdict.the-variants.{Fine, Fault}
-use Rattle.writer.proofs.Checks.{fails, passes, passed}
+use Rattle.write_judge.specs.declared.Verdict.{Verdict}
+use Rattle.write_judge.specs.declared.Verdict.the-variants.{Fine, Fault}
+use Rattle.write_judge.proofs.Checks.{fails, passes, passed}
 use Rattle.trace.specs.Trace.{part, numberChecks}
 
 module _ {A : Type 0} (test : A → Bool) (c : Code) where

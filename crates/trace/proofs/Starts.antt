@@ -15,7 +15,7 @@ use borrow.Author.Tests.{lt-ltb, le-ltb, le-leb, lt-leb, ltb-false, leb-false, e
 use Rattle.list.specs.List.{posLimit}
 use Rattle.list.specs.Steps.{f32Of}
 use Rattle.writer.specs.Write.{wholeOf}
-use Rattle.writer.proofs.Checks.{neither}
+use Rattle.write_judge.proofs.Checks.{neither}
 use Rattle.trace.specs.Write.{misfit}
 
 -- ---- a float that is no misfit

@@ -9,8 +9,8 @@ use Rattle.shape.specs.Shape.{pointsOf}
 use Rattle.list.specs.List.{ListRooms, Got, got, stop, Described, described, lacking}
 use Rattle.reader.specs.Read.{ReadOutcome, outcome}
 use Rattle.writer.specs.Write.{Check, check, firstFault}
-use Rattle.writer.specs.declared.Verdict.{Verdict}
-use Rattle.writer.specs.declared.Verdict.the-variants.{Fine, Fault}
+use Rattle.write_judge.specs.declared.Verdict.{Verdict}
+use Rattle.write_judge.specs.declared.Verdict.the-variants.{Fine, Fault}
 use Rattle.little.specs.Little.{numbersIn, signedIn}
 use Rattle.trace.specs.Trace.{Layout, version1, startsFrom, deltasFrom, coefficientsFrom, numbersOf, part, outside, wild, numberChecks}
 

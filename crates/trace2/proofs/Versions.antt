@@ -16,9 +16,9 @@ use Rattle.list.specs.List.{ListRooms, Got, got, stop, Described, described}
 use Rattle.reader.specs.Read.{ReadOutcome, outcome}
 use Rattle.writer.specs.Write.{Check, check, firstFault, misshapen, wholeOf, WriteOutcome}
 use Rattle.writer.specs.Write as writing
-use Rattle.writer.specs.declared.Verdict.{Verdict}
-use Rattle.writer.specs.declared.Verdict.the-variants.{Fine, Fault}
-use Rattle.writer.proofs.Checks.{fails, passes, faults-before, fine-before}
+use Rattle.write_judge.specs.declared.Verdict.{Verdict}
+use Rattle.write_judge.specs.declared.Verdict.the-variants.{Fine, Fault}
+use Rattle.write_judge.proofs.Checks.{fails, passes, faults-before, fine-before}
 use Rattle.little.specs.Little.{numbersIn}
 use Rattle.trace.specs.Trace.{version1, numbersOf, fileOf}
 use Rattle.trace.specs.Read.{splinesIn, pointsIn, versionChecks, offsetChecks, bodyChecks, readChecks, tight, wholeChecks, describedIn, judged, readTrace, readTraceOf}

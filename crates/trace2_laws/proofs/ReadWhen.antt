@@ -15,9 +15,9 @@ use Rattle.reader.specs.Read.{ReadOutcome, outcome}
 use Rattle.reader.specs.Refusals.{ReadRefused}
 use Rattle.reader.specs.declared.ReadAnswer.{ReadAnswer}
 use Rattle.writer.specs.Write.{Check, check, firstFault}
-use Rattle.writer.specs.declared.Verdict.{Verdict}
-use Rattle.writer.specs.declared.Verdict.the-variants.{Fine, Fault}
-use Rattle.writer.proofs.Checks.{fails, passes, passed, faults-before, fine-before, both-fine}
+use Rattle.write_judge.specs.declared.Verdict.{Verdict}
+use Rattle.write_judge.specs.declared.Verdict.the-variants.{Fine, Fault}
+use Rattle.write_judge.proofs.Checks.{fails, passes, passed, faults-before, fine-before, both-fine}
 use Rattle.little.specs.Little.{numbersIn}
 use Rattle.trace.specs.Read.{splinesIn, pointsIn, offsetChecks, bodyChecks, tight, describedIn}
 use Rattle.trace_laws.specs.Behind.{number, S, P, LaidBy, TamedBy, OffsetRefusal, BodyRefusal}

@@ -15,10 +15,10 @@ use Rattle.codes.specs.declared.Code.the-variants.{Room, Shape, Header, Edition
 use Rattle.shape.specs.Shape.{pointsOf, Shaped}
 use Rattle.list.specs.List.{described}
 use Rattle.writer.specs.Write.{Check, check, firstFault, misshapen, wholeOf, WriteOutcome, outcome}
-use Rattle.writer.specs.declared.Verdict.{Verdict}
-use Rattle.writer.specs.declared.Verdict.the-variants.{Fine, Fault}
+use Rattle.write_judge.specs.declared.Verdict.{Verdict}
+use Rattle.write_judge.specs.declared.Verdict.the-variants.{Fine, Fault}
 use Rattle.writer.specs.declared.WriteAnswer.{WriteAnswer}
-use Rattle.writer.proofs.Checks.{fails, passes, passed, faults-before, fine-before, both-fine}
+use Rattle.write_judge.proofs.Checks.{fails, passes, passed, faults-before, fine-before, both-fine}
 use Rattle.write_laws.specs.Refusals.{WriteRefused}
 use Rattle.trace.specs.Trace.{version1, numbersOf, fileOf}
 use Rattle.trace.specs.Write.{headerChecks, valueChecks}

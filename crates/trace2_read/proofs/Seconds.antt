@@ -16,9 +16,9 @@ use Rattle.reader.specs.Read.{ReadOutcome, leaves, roomsOf, outcome}
 use Rattle.reader.specs.Rest.{ListLeft, Wiped}
 use Rattle.reader.specs.declared.ReadAnswer.{ReadAnswer}
 use Rattle.writer.specs.Write.{Check, check, firstFault}
-use Rattle.writer.specs.declared.Verdict.{Verdict}
-use Rattle.writer.specs.declared.Verdict.the-variants.{Fine, Fault}
-use Rattle.writer.proofs.Checks.{fails, passes, passed, faults-before, fine-before, both-fine}
+use Rattle.write_judge.specs.declared.Verdict.{Verdict}
+use Rattle.write_judge.specs.declared.Verdict.the-variants.{Fine, Fault}
+use Rattle.write_judge.proofs.Checks.{fails, passes, passed, faults-before, fine-before, both-fine}
 use Rattle.little.specs.Little.{numbersIn}
 use Rattle.little.proofs.Little.{numbers-length}
 use Rattle.trace.specs.Read.{splinesIn, pointsIn, offsetChecks, bodyChecks, tight, describedIn, readTraceOf}

@@ -12,7 +12,7 @@ use trace_read::load_parts;
 use trace_read::trace_read;
 use trace2::FileAnswer;
 use trace2::unknown;
-use writer::Verdict;
+use write_judge::Verdict;
 ghost use mathlib.Core.Path.{_≡_};
 ghost use mathlib.Core.Bool.{Bool};
 ghost use mathlib.Core.List.{[], _∷_, _++_};

@@ -16,9 +16,9 @@ use Rattle.codes.specs.declared.Code.the-variants.{Room, Shape, Header, Edition
 use Rattle.shape.specs.Shape.{pointsOf, shaped}
 use Rattle.list.specs.List.{described}
 use Rattle.writer.specs.Write.{Check, check, firstFault, misshapen, wholeOf, leaves}
-use Rattle.writer.specs.declared.Verdict.the-variants.{Fine, Fault}
+use Rattle.write_judge.specs.declared.Verdict.the-variants.{Fine, Fault}
 use Rattle.writer.specs.declared.WriteAnswer.the-variants.{Done, Refused}
-use Rattle.writer.proofs.Checks.{fails, passes, passed}
+use Rattle.write_judge.proofs.Checks.{fails, passes, passed}
 use Rattle.trace.specs.Trace.{numbersOf, fileOf}
 use Rattle.trace.specs.Write.{headerChecks, valueChecks, writeChecks, writeTraceOf}
 use Rattle.trace_write.proofs.Puts.{Judged, judged, size-is, file-size, left-fault, left-room, left-done}

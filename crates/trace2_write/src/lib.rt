@@ -10,7 +10,7 @@ use trace_write::put_signed;
 use trace_write::put_starts;
 use trace_write::trace_write;
 use trace2::unknown;
-use writer::Verdict;
+use write_judge::Verdict;
 use writer::WriteAnswer;
 ghost use mathlib.Core.Path.{_≡_};
 ghost use mathlib.Core.Bool.{Bool};

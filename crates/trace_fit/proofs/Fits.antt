@@ -18,8 +18,8 @@ use Rattle.shape.specs.Shape.{pointsOf, shaped}
 use Rattle.shape.proofs.Shape.{shaped-is}
 use Rattle.list.specs.List.{posLimit}
 use Rattle.writer.specs.Write.{Check, check, firstFault, misshapen, unfit}
-use Rattle.writer.specs.declared.Verdict.the-variants.{Fine, Fault}
-use Rattle.writer.proofs.Checks.{fails, passes, passed, faults-before, fine-before}
+use Rattle.write_judge.specs.declared.Verdict.the-variants.{Fine, Fault}
+use Rattle.write_judge.proofs.Checks.{fails, passes, passed, faults-before, fine-before}
 use Rattle.trace.specs.Trace.{startsFrom, deltasFrom, coefficientsFrom, wild, numberChecks}
 use Rattle.trace.specs.Write.{misfit, unheld, headerChecks, valueChecks, writeChecks}
 

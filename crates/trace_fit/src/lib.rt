@@ -2,9 +2,9 @@
 // s and p are the splines and the points, h is how many numbers the header has, and `from` is the number at which a part begins.
 use codes::Code;
 use shape::shape_good;
-use writer::Verdict;
-use writer::unfit_start;
-use writer::wild_at;
+use write_judge::Verdict;
+use write_judge::unfit_start;
+use write_judge::wild_at;
 ghost use mathlib.Core.Path.{_≡_};
 ghost use Prim.Native.Nat.{_+_, _*_, _≤_, _<_, _^_};
 ghost use lib.ListN.{length};

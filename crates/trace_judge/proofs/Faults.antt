@@ -15,8 +15,8 @@ use Rattle.codes.specs.declared.Code.the-variants.{Short, Coord, Delta, Trail, 
 use Rattle.shape.specs.Shape.{pointsOf}
 use Rattle.list.specs.List.{posLimit, deltaLimit}
 use Rattle.writer.specs.Write.{Check, check, firstFault}
-use Rattle.writer.specs.declared.Verdict.the-variants.{Fine, Fault}
-use Rattle.writer.proofs.Checks.{fails, passes, faults-before, fine-before}
+use Rattle.write_judge.specs.declared.Verdict.the-variants.{Fine, Fault}
+use Rattle.write_judge.proofs.Checks.{fails, passes, faults-before, fine-before}
 use Rattle.little.specs.Little.{numbersIn, signedIn}
 use Rattle.little.proofs.Little.{numbers-length}
 use Rattle.trace.specs.Trace.{Layout, version1, startsFrom, deltasFrom, coefficientsFrom, numbersOf, part, numberChecks}

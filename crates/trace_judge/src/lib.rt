@@ -2,7 +2,7 @@
 // Sizes and offsets are told in 64 bits from counts of 32, so that nothing wraps; s and p are the splines and the points of the header, h is how many numbers it has.
 use codes::Code;
 use little::number_at;
-use writer::Verdict;
+use write_judge::Verdict;
 ghost use mathlib.Core.Path.{_≡_};
 ghost use mathlib.Core.Bool.{not};
 ghost use Prim.Native.Nat.{_+_, _*_, _≤_, _<_, _^_};

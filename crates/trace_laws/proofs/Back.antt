@@ -20,10 +20,10 @@ use Rattle.reader.specs.Read.{ReadOutcome}
 use Rattle.reader.specs.Read as reading
 use Rattle.reader.specs.declared.ReadAnswer.{ReadAnswer}
 use Rattle.writer.specs.Write.{Check, check, firstFault, wholeOf, WriteOutcome, leaves, outcome}
-use Rattle.writer.specs.declared.Verdict.{Verdict}
-use Rattle.writer.specs.declared.Verdict.the-variants.{Fine, Fault}
+use Rattle.write_judge.specs.declared.Verdict.{Verdict}
+use Rattle.write_judge.specs.declared.Verdict.the-variants.{Fine, Fault}
 use Rattle.writer.specs.declared.WriteAnswer.{WriteAnswer}
-use Rattle.writer.proofs.Checks.{passes, passed, fine-before, both-fine, agree}
+use Rattle.write_judge.proofs.Checks.{passes, passed, fine-before, both-fine, agree}
 use Rattle.write_laws.specs.Floats.{Floats}
 use Rattle.roundtrip.specs.Enough.{Enough}
 use Rattle.little.specs.Little.{bytesOf, numbersIn, unsignedOf, signedIn, Bytes, Numbers, Signeds}

@@ -13,8 +13,8 @@ use Rattle.codes.specs.declared.Code.{Code}
 use Rattle.codes.specs.declared.Code.the-variants.{Short, Coord, Delta, Trail, Room, Shape, Header}
 use Rattle.shape.specs.Shape.{pointsOf}
 use Rattle.writer.specs.Write.{Check, check, firstFault}
-use Rattle.writer.specs.declared.Verdict.{Verdict}
-use Rattle.writer.specs.declared.Verdict.the-variants.{Fine, Fault}
+use Rattle.write_judge.specs.declared.Verdict.{Verdict}
+use Rattle.write_judge.specs.declared.Verdict.the-variants.{Fine, Fault}
 use Rattle.write_laws.specs.Refusals.{NoneOf}
 use Rattle.little.specs.Little.{numbersIn, signedIn}
 use Rattle.trace.specs.Trace.{version1, startsFrom, deltasFrom, coefficientsFrom, numbersOf, part, numberChecks}

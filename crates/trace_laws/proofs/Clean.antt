@@ -15,8 +15,8 @@ use Rattle.shape.specs.Shape.{pointsOf, Shaped}
 use Rattle.shape.proofs.Shape.{is-shaped, shaped-is, not-shaped}
 use Rattle.list.specs.List.{ListRooms, lacking, posLimit, deltaLimit}
 use Rattle.writer.specs.Write.{Check, check, firstFault, misshapen}
-use Rattle.writer.specs.declared.Verdict.the-variants.{Fine, Fault}
-use Rattle.writer.proofs.Checks.{neither, passes, passed, fine-before, both-fine, agreed}
+use Rattle.write_judge.specs.declared.Verdict.the-variants.{Fine, Fault}
+use Rattle.write_judge.proofs.Checks.{neither, passes, passed, fine-before, both-fine, agreed}
 use Rattle.write_laws.specs.Refusals.{NoneOf}
 use Rattle.little.specs.Little.{numbersIn, signedIn}
 use Rattle.trace.specs.Trace.{version1, startsFrom, deltasFrom, coefficientsFrom, numbersOf, part, wild, numberChecks}

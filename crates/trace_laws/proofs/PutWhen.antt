@@ -13,9 +13,9 @@ use Rattle.codes.specs.declared.Code.{Code}
 use Rattle.codes.specs.declared.Code.the-variants.{Coord, Delta, Room, Shape, Header}
 use Rattle.shape.specs.Shape.{pointsOf, Shaped, shaped}
 use Rattle.writer.specs.Write.{Check, check, firstFault, misshapen, wholeOf, WriteOutcome, outcome}
-use Rattle.writer.specs.declared.Verdict.{Verdict}
-use Rattle.writer.specs.declared.Verdict.the-variants.{Fine, Fault}
-use Rattle.writer.proofs.Checks.{neither, fails, passes, passed, faults-before, fine-before, both-fine}
+use Rattle.write_judge.specs.declared.Verdict.{Verdict}
+use Rattle.write_judge.specs.declared.Verdict.the-variants.{Fine, Fault}
+use Rattle.write_judge.proofs.Checks.{neither, fails, passes, passed, faults-before, fine-before, both-fine}
 use Rattle.write_laws.specs.Refusals.{NoneOf, WriteRefused}
 use Rattle.trace.specs.Trace.{version1, startsFrom, deltasFrom, coefficientsFrom, numbersOf, fileOf, wild, numberChecks}
 use Rattle.trace.specs.Write.{misfit, unheld, headerChecks, valueChecks, writeChecks, writeTraceOf}

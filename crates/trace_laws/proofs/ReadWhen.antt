@@ -18,8 +18,8 @@ use Rattle.reader.specs.Read.{ReadOutcome, outcome}
 use Rattle.reader.specs.Refusals.{ReadRefused}
 use Rattle.reader.specs.declared.ReadAnswer.{ReadAnswer}
 use Rattle.writer.specs.Write.{Check, check, firstFault}
-use Rattle.writer.specs.declared.Verdict.{Verdict}
-use Rattle.writer.specs.declared.Verdict.the-variants.{Fine, Fault}
+use Rattle.write_judge.specs.declared.Verdict.{Verdict}
+use Rattle.write_judge.specs.declared.Verdict.the-variants.{Fine, Fault}
 use Rattle.write_laws.specs.Refusals.{NoneOf}
 use Rattle.little.specs.Little.{numbersIn, signedIn}
 use Rattle.trace.specs.Trace.{version1, startsFrom, deltasFrom, coefficientsFrom, numbersOf, part, numberChecks}

@@ -24,9 +24,9 @@ use Rattle.reader.specs.Rest.{ListLeft, Wiped}
 use Rattle.reader.specs.declared.ReadAnswer.{ReadAnswer}
 use Rattle.reader.proofs.Whole.{done, refused}
 use Rattle.writer.specs.Write.{Check, check, firstFault}
-use Rattle.writer.specs.declared.Verdict.{Verdict}
-use Rattle.writer.specs.declared.Verdict.the-variants.{Fine, Fault}
-use Rattle.writer.proofs.Checks.{neither, fails, passes, passed, faults-before, fine-before, both-fine}
+use Rattle.write_judge.specs.declared.Verdict.{Verdict}
+use Rattle.write_judge.specs.declared.Verdict.the-variants.{Fine, Fault}
+use Rattle.write_judge.proofs.Checks.{neither, fails, passes, passed, faults-before, fine-before, both-fine}
 use Rattle.little.specs.Little.{numbersIn, signedIn}
 use Rattle.little.proofs.Little.{numbers-length}
 use Rattle.trace.specs.Trace.{version1, startsFrom, deltasFrom, coefficientsFrom, numbersOf, part, numberChecks}

@@ -11,7 +11,7 @@ use Rattle.list.specs.List.{ListRooms}
 use Rattle.list.specs.Steps.{f32Of}
 use Rattle.read_steps.specs.Steps.{Front}
 use Rattle.writer.specs.Write.{firstFault}
-use Rattle.writer.specs.declared.Verdict.the-variants.{Fine}
+use Rattle.write_judge.specs.declared.Verdict.the-variants.{Fine}
 use Rattle.little.specs.Little.{numbersIn, signedIn}
 use Rattle.trace.specs.Trace.{startsFrom, deltasFrom, coefficientsFrom, numbersOf, part, numberChecks}
 use Rattle.trace.specs.Read.{splinesIn, pointsIn, misplaced}

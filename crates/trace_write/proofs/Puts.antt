@@ -15,10 +15,10 @@ use Rattle.codes.specs.declared.Code.the-variants.{Coord, Room, Shape}
 use Rattle.shape.specs.Shape.{pointsOf}
 use Rattle.list.specs.List.{described}
 use Rattle.writer.specs.Write.{Check, check, firstFault, misshapen, wholeOf, WriteOutcome, leaves, outcome}
-use Rattle.writer.specs.declared.Verdict.the-variants.{Fine, Fault}
+use Rattle.write_judge.specs.declared.Verdict.the-variants.{Fine, Fault}
 use Rattle.writer.specs.declared.WriteAnswer.the-variants.{Done, Refused}
-use Rattle.writer.proofs.Checks.{fails, passes, passed, faults-before, fine-before, both-fine, agreed}
-use Rattle.writer.proofs.Stores.{sets-append, zeros-after}
+use Rattle.write_judge.proofs.Checks.{fails, passes, passed, faults-before, fine-before, both-fine, agreed}
+use Rattle.write_steps.proofs.Stores.{sets-append, zeros-after}
 use Rattle.little.specs.Little.{fourOf, bytesOf, unsignedOf}
 use Rattle.little.proofs.Little.{bytes-length, bytes-append}
 use Rattle.trace.specs.Trace.{Layout, version1, headerOf, fileOf, startsFrom, coefficientsFrom, numbersOf, numberChecks}

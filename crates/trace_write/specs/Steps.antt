@@ -8,7 +8,7 @@ use lib.Ieee.{Float}
 use Rattle.codes.specs.declared.Code.the-variants.{Coord}
 use Rattle.shape.specs.Shape.{pointsOf}
 use Rattle.writer.specs.Write.{firstFault, wholeOf}
-use Rattle.writer.specs.declared.Verdict.the-variants.{Fine}
+use Rattle.write_judge.specs.declared.Verdict.the-variants.{Fine}
 use Rattle.little.specs.Little.{unsignedOf}
 use Rattle.trace.specs.Trace.{startsFrom, coefficientsFrom, numbersOf, numberChecks}
 use Rattle.trace.specs.Write.{misfit}

@@ -16,9 +16,10 @@ use Rattle.shape.specs.Shape.{pointsOf}
 use Rattle.list.specs.List.{posLimit, deltaLimit, beyond, Near, Tame, Valid}
 use Rattle.list.specs.Steps.{f32Of}
 use Rattle.writer.specs.Write.{firstFault, unfit, unfitAs, startChecks, deltaChecks, splineChecks, contentChecks, wholeOf}
-use Rattle.writer.specs.declared.Verdict.the-variants.{Fine}
-use Rattle.writer.proofs.Checks.{neither, passed, fine-before, both-fine, agree, agreed, well-counted, counted, content-rest, content-fine}
-use Rattle.writer.proofs.Starts.{fit-any, fit-small, fit-back, whole-fit, first-signed}
+use Rattle.write_judge.specs.declared.Verdict.the-variants.{Fine}
+use Rattle.write_judge.proofs.Checks.{neither, passed, fine-before, both-fine, agree, agreed, well-counted, counted, content-rest, content-fine}
+use Rattle.write_judge.proofs.Starts.{fit-any, whole-fit}
+use Rattle.write_steps.proofs.Values.{fit-small, fit-back, first-signed}
 use Rattle.write_laws.specs.Floats.{Floats}
 
 -- ---- starts

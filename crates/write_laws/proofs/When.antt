@@ -17,10 +17,10 @@ use Rattle.codes.specs.declared.Code.the-variants.{Splines, Coord, Points, Delt
 use Rattle.shape.specs.Shape.{pointsOf}
 use Rattle.list.specs.List.{deltaLimit, beyond, limitOf, Tame}
 use Rattle.writer.specs.Write.{Check, check, firstFault, misshapen, miscounted, unfitAs, startChecks, deltaChecks, splineChecks, contentChecks, valuesOf, outcome, writeOf}
-use Rattle.writer.specs.declared.Verdict.{Verdict}
-use Rattle.writer.specs.declared.Verdict.the-variants.{Fine, Fault}
+use Rattle.write_judge.specs.declared.Verdict.{Verdict}
+use Rattle.write_judge.specs.declared.Verdict.the-variants.{Fine, Fault}
 use Rattle.writer.specs.declared.WriteAnswer.the-variants.{Done, Refused}
-use Rattle.writer.proofs.Checks.{fails, passes, passed, faults-before, fine-before, both-fine, agreed, content-shape, content-count, content-start, content-rest, content-fine}
+use Rattle.write_judge.proofs.Checks.{fails, passes, passed, faults-before, fine-before, both-fine, agreed, content-shape, content-count, content-start, content-rest, content-fine}
 use Rattle.write_laws.specs.Refusals.{pointsBefore}
 use Rattle.write_laws.proofs.Table.{unfitPair, FitPairs, wildPair, valuesBefore, SplineRefusal, points, delta, Given, shape, splines, coord, spline, room, Passed}
 use Rattle.write_laws.proofs.Accepts.{fine-tame, tame-fine, fine-splines, splines-fine}

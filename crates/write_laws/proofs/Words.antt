@@ -18,12 +18,12 @@ use Rattle.codes.specs.declared.Code.the-variants.{Room}
 use Rattle.shape.specs.Shape.{pointsOf, Shaped}
 use Rattle.list.specs.List.{deltaLimit, beyond, limitOf, Tame}
 use Rattle.writer.specs.Write.{check, firstFault, contentChecks, misshapen, miscounted, unfit, unfitAs, valuesOf, WriteOutcome, outcome, writeOf}
-use Rattle.writer.specs.declared.Verdict.{Verdict}
-use Rattle.writer.specs.declared.Verdict.the-variants.{Fine, Fault}
+use Rattle.write_judge.specs.declared.Verdict.{Verdict}
+use Rattle.write_judge.specs.declared.Verdict.the-variants.{Fine, Fault}
 use Rattle.writer.specs.declared.WriteAnswer.the-variants.{Done, Refused}
-use Rattle.writer.proofs.Checks.{agree, agreed, none-counted, many-counted, well-counted, counted}
-use Rattle.writer.proofs.Starts.{unfit-any}
-use Rattle.writer.proofs.Stores.{list-length}
+use Rattle.write_judge.proofs.Checks.{agree, agreed, none-counted, many-counted, well-counted, counted}
+use Rattle.write_judge.proofs.Starts.{unfit-any}
+use Rattle.write_steps.proofs.Stores.{list-length}
 use Rattle.write_laws.specs.Refusals.{Unfit, no-number, infinite, far, not-whole, minus-zero, negative-first, UnfitPair, WildPair, NoneOf, pointsBefore, countPlace, listSize, Started, WriteRefusal, WriteAccepted, WriteRefused}
 use Rattle.write_laws.specs.Refusals as words
 use Rattle.write_laws.proofs.Table.{unfitPair, FitPairs, wildPair, SplineRefusal, Given, Passed}

@@ -13,11 +13,11 @@ use Rattle.codes.specs.declared.Code.{Code}
 use Rattle.codes.specs.declared.Code.the-variants.{Room}
 use Rattle.list.specs.List.{limitOf}
 use Rattle.writer.specs.Write.{check, firstFault, contentChecks, valuesOf, leaves, writeOf}
-use Rattle.writer.specs.Steps.{Writable}
-use Rattle.writer.specs.declared.Verdict.the-variants.{Fine, Fault}
+use Rattle.write_judge.specs.declared.Verdict.the-variants.{Fine, Fault}
+use Rattle.write_steps.specs.Steps.{Writable}
 use Rattle.writer.specs.declared.WriteAnswer.the-variants.{Done, Refused}
-use Rattle.writer.proofs.Checks.{fails, passes, faults-before, fine-before, agreed, counted, content-fine}
-use Rattle.writer.proofs.Stores.{list-length, zeros-after}
+use Rattle.write_judge.proofs.Checks.{fails, passes, faults-before, fine-before, agreed, counted, content-fine}
+use Rattle.write_steps.proofs.Stores.{list-length, zeros-after}
 
 module _ (ns : List ℕ) (ss : List Float) (ds cs : List ℤ) (limit : ℕ) where
   -- a description in which no fault was found, and a list with room for it

@@ -1,3 +1,2 @@
 -- The definitions of the crate `writer`.
 pub mod Write
-pub mod Steps

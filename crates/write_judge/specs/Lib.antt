@@ -1,0 +1,2 @@
+-- The definitions of the crate `write_judge`.
+pub mod Judge

@@ -1,0 +1,2 @@
+-- The definitions of the crate `write_steps`.
+pub mod Steps
