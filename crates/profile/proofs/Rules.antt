@@ -1,34 +1,14 @@
--- Laws of the rules: a turn of the loop over coefficients, and of the loop over splines.
-use mathlib.Core.Path.{_≡_, refl, sym, ap, _∙_}
-use mathlib.Core.Bool.{true, false}
-use mathlib.Core.List.{List, [], _∷_}
-use Prim.Native.Nat.{ℕ, zero, suc, _+_, _-_, _*_, _≤_, _<_}
-use native.Mathlib.Omega.{arith}
-use lib.IntN.{ℤ, pos}
+-- Laws of the rules: a turn of the loop over splines.
+use mathlib.Core.Path.{_≡_, refl}
+use mathlib.Core.List.{List}
+use Prim.Native.Nat.{ℕ, suc, _≤_, _<_}
+use lib.IntN.{ℤ}
 use lib.ListN.{length, getD, drop, drop-of-length-le}
 use lib.Seq.{drop-cons}
-use Rattle.profile.specs.declared.Limits.{Limits}
-use Rattle.profile.specs.declared.Finding.{Finding}
-use Rattle.profile.specs.declared.Finding.the-variants as Finding
-use Rattle.profile.specs.Profile.{firstFinding, within, zeroFrom, splineFinding, splinesFinding}
-
--- ---- coefficients, of which n are left
-
-pub zero-fails : (cs : List ℤ) (from n : ℕ) → 0 < n → within (pos 0) (pos 0) (getD cs from (pos 0)) ≡ false → zeroFrom cs from n ≡ false
-unfolding zeroFrom
-zero-fails cs from zero h e = absurd (omega arith)
-zero-fails cs from (suc n) h e = rw e
-
-pub zero-passes : (cs : List ℤ) (from n : ℕ) → 0 < n → within (pos 0) (pos 0) (getD cs from (pos 0)) ≡ true → zeroFrom cs from n ≡ zeroFrom cs (suc from) (n - 1)
-unfolding zeroFrom
-zero-passes cs from zero h e = absurd (omega arith)
-zero-passes cs from (suc n) h e = let q : suc n - 1 ≡ n = omega arith in rw (e, q)
-
-pub zero-end : (cs : List ℤ) (from n : ℕ) → n ≡ 0 → zeroFrom cs from n ≡ true
-unfolding zeroFrom
-zero-end cs from n e = rw e
-
--- ---- splines
+use Rattle.editions.specs.declared.Limits.{Limits}
+use Rattle.profile_rules.specs.declared.Finding.{Finding}
+use Rattle.profile_rules.specs.declared.Finding.the-variants as Finding
+use Rattle.profile.specs.Profile.{firstFinding, splineFinding, splinesFinding}
 
 pub first-assoc : (a b c : Finding) → firstFinding a (firstFinding b c) ≡ firstFinding (firstFinding a b) c
 first-assoc Finding.Kept b c = refl

@@ -1,82 +1,25 @@
--- The fineness profile: what each edition allows, the six rules as tests in their order, and what a check answers. Definitions only.
--- The rules have the numbers 1 to 6. A spline's coefficients are 128 numbers in a row: 32 each for X, Y, B and sigma.
-use mathlib.Core.Bool.{Bool, true, false, cond}
+-- The fineness profile: the six rules of a description in their order, and what a check answers. Definitions only.
+use mathlib.Core.Bool.{cond}
 use mathlib.Core.List.{List, [], _∷_}
-use Prim.Native.Nat.{ℕ, zero, suc, _+_, _*_}
-use lib.Dec.{leb, eqb}
-use lib.IntN.{ℤ, pos, negsuc}
-use lib.Signed.{leZ}
-use lib.ListN.{length, getD}
+use Prim.Native.Nat.{ℕ, suc}
+use lib.IntN.{ℤ}
+use lib.ListN.{length}
 use Rattle.codes.specs.Codes.{numberOf}
-use Rattle.codes.specs.declared.Code.{Code}
 use Rattle.codes.specs.declared.Code.the-variants as Code
 use Rattle.shape.specs.Shape as Shape
 use Rattle.dequantize.specs.Judge.{Description}
-use Rattle.profile.specs.declared.Limits.{Limits}
-use Rattle.profile.specs.declared.Edition.{Edition}
-use Rattle.profile.specs.declared.Edition.the-variants.{Known, Unknown}
-use Rattle.profile.specs.declared.Finding.{Finding}
-use Rattle.profile.specs.declared.Finding.the-variants as Finding
+use Rattle.editions.specs.declared.Limits.{Limits}
+use Rattle.editions.specs.declared.Edition.{Edition}
+use Rattle.editions.specs.declared.Edition.the-variants.{Known, Unknown}
+use Rattle.profile_rules.specs.declared.Finding.{Finding}
+use Rattle.profile_rules.specs.declared.Finding.the-variants as Finding
+pub use Rattle.editions.specs.Editions.{edition1, edition2}
+unfoldable pub use Rattle.editions.specs.Editions.{limitsOf}
+pub use Rattle.profile_rules.specs.Rules.{kept, firstFinding, counted, within}
+unfoldable pub use Rattle.profile_rules.specs.Rules.{zeroFrom, deltasFinding, sigmaFinding, colourFinding, splineFinding}
 use Rattle.profile.specs.declared.ProfileAnswer.{ProfileAnswer}
 use Rattle.profile.specs.declared.ProfileAnswer.the-variants.{Meets, Broken, Refused}
 use Rattle.profile.specs.declared.ProfileTold.{ProfileTold}
-
--- ---- the editions
-
--- up to 64 double deltas, adjustment 0, the first sigma coefficient up to 400
-abbrev pub edition1 : Limits
-edition1 = record { deltas = 64; least = pos 0; greatest = pos 0; sigma = pos 400 }
-
--- up to 256 double deltas, adjustment -8 to 8, the first sigma coefficient up to 1600; negsuc 7 is -8
-abbrev pub edition2 : Limits
-edition2 = record { deltas = 256; least = negsuc 7; greatest = pos 8; sigma = pos 1600 }
-
-unfoldable pub limitsOf : ℕ → Edition
-limitsOf e = cond (eqb e 1) (Known edition1) (cond (eqb e 2) (Known edition2) Unknown)
-
--- ---- findings
-
--- a rule of a spline, kept where the test passes
-abbrev pub kept : Bool → ℕ → ℕ → Finding
-kept true rule spline = Finding.Kept
-kept false rule spline = Finding.Broken rule spline
-
--- the first broken rule of two findings
-abbrev pub firstFinding : Finding → Finding → Finding
-firstFinding Finding.Kept b = b
-firstFinding (Finding.Broken rule spline) b = Finding.Broken rule spline
-
--- ---- tests
-
--- 1 to the most
-abbrev pub counted : ℕ → ℕ → Bool
-counted most n = cond (leb 1 n) (leb n most) false
-
-abbrev pub within : ℤ → ℤ → ℤ → Bool
-within least greatest z = cond (leZ least z) (leZ z greatest) false
-
--- so many numbers from an index on are all 0
-unfoldable pub zeroFrom : List ℤ → ℕ → ℕ → Bool
-zeroFrom cs from zero = true
-zeroFrom cs from (suc n) = cond (within (pos 0) (pos 0) (getD cs from (pos 0))) (zeroFrom cs (suc from) n) false
-
--- ---- the rules of the spline k, which has n double deltas
-
--- 2: 1 to the most double deltas
-unfoldable pub deltasFinding : Limits → ℕ → ℕ → Finding
-deltasFinding l n k = kept (counted (l .deltas) n) 2 k
-
--- 4: sigma coefficients zero after the first; 5: the first sigma coefficient from 1 to the most
-unfoldable pub sigmaFinding : Limits → List ℤ → ℕ → Finding
-sigmaFinding l cs k =
-    firstFinding (kept (zeroFrom cs (128 * k + 97) 31) 4 k) (kept (within (pos 1) (l .sigma) (getD cs (128 * k + 96) (pos 0))) 5 k)
-
--- 6: X coefficients all zero, and B coefficients
-unfoldable pub colourFinding : List ℤ → ℕ → Finding
-colourFinding cs k = firstFinding (kept (zeroFrom cs (128 * k) 32) 6 k) (kept (zeroFrom cs (128 * k + 64) 32) 6 k)
-
-unfoldable pub splineFinding : Limits → ℕ → List ℤ → ℕ → Finding
-splineFinding l n cs k = firstFinding (deltasFinding l n k) (firstFinding (sigmaFinding l cs k) (colourFinding cs k))
 
 -- ---- a description
 

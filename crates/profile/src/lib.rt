@@ -1,30 +1,19 @@
-// The fineness profile: what an edition allows, the six rules, and the check of a description. c are the coefficients of all splines, 128 a spline.
+// The fineness profile: the six rules in their order, and the check of a description. c are the coefficients of all splines, 128 a spline.
 use codes::Code;
+use editions::Edition;
+use editions::Limits;
+use editions::limits_of;
+use profile_rules::Finding;
+use profile_rules::counted;
+use profile_rules::first_of;
+use profile_rules::kept;
+use profile_rules::spline_finding;
+use profile_rules::within;
 ghost use mathlib.Core.Path.{_≡_};
-ghost use Prim.Native.Nat.{_+_, _*_, _≤_, _<_};
-ghost use lib.IntN.{pos};
-ghost use lib.ListN.{length, getD};
+ghost use Prim.Native.Nat.{_*_, _≤_};
+ghost use lib.ListN.{length};
 ghost use Rattle.dequantize.specs.Judge.{descriptionOf};
-ghost use Rattle.profile.specs.Profile.{limitsOf, kept, firstFinding, counted, within, zeroFrom, toldOf, deltasFinding, sigmaFinding, colourFinding, splineFinding, splinesFinding, rulesFinding, answered, tells, profileOf};
-
-// What an edition allows: the most double deltas, the least and the greatest adjustment, the most of the first sigma coefficient.
-pub struct Limits {
-    pub deltas: u32,
-    pub least: i32,
-    pub greatest: i32,
-    pub sigma: i32,
-}
-
-pub enum Edition {
-    Known(Limits),
-    Unknown,
-}
-
-// Every rule kept, or the first broken rule and its spline.
-pub enum Finding {
-    Kept,
-    Broken(u32, usize),
-}
+ghost use Rattle.profile.specs.Profile.{toldOf, splinesFinding, rulesFinding, answered, tells, profileOf};
 
 // The description meets the profile; or the first broken rule and its spline; or a code and its place.
 pub enum ProfileAnswer {
@@ -39,126 +28,6 @@ pub struct ProfileTold {
     pub place: usize,
     pub first: u32,
 }
-
-pub fn limits_of(edition: u32) -> Edition
-    ensures { λ r. ⌜ r ≡ limitsOf edition ⌝ }
-{
-    if edition == 1 {
-        return Edition::Known(Limits {
-            deltas: 64,
-            least: 0,
-            greatest: 0,
-            sigma: 400,
-        });
-    }
-    if edition == 2 {
-        return Edition::Known(Limits {
-            deltas: 256,
-            least: -8,
-            greatest: 8,
-            sigma: 1600,
-        });
-    }
-    Edition::Unknown
-}
-
-// ---- findings
-
-// A rule of a spline that is kept where the test passes.
-fn kept(test: bool, rule: u32, spline: usize) -> Finding
-    ensures { λ r. ⌜ r ≡ kept test rule spline ⌝ }
-{
-    if test {
-        Finding::Kept
-    } else {
-        Finding::Broken(rule, spline)
-    }
-}
-
-fn first_of(a: Finding, b: Finding) -> Finding
-    ensures { λ r. ⌜ r ≡ firstFinding a b ⌝ }
-{
-    match a {
-        Finding::Kept => b,
-        Finding::Broken(rule, spline) => Finding::Broken(rule, spline),
-    }
-}
-
-// ---- tests
-
-// Whether n is from 1 to the most.
-fn counted(n: usize, most: usize) -> bool
-    ensures { λ r. ⌜ r ≡ counted most n ⌝ }
-{
-    if 1 <= n { n <= most } else { false }
-}
-
-fn within(v: i32, least: i32, greatest: i32) -> bool
-    ensures { λ r. ⌜ r ≡ within least greatest v ⌝ }
-{
-    if least <= v { v <= greatest } else { false }
-}
-
-fn within_at(c: &[i32], i: usize, least: i32, greatest: i32) -> bool
-    requires { ⌜ i < length (now c) ⌝ }
-    ensures { λ r. ⌜ r ≡ within least greatest (getD (now (c .entry)) i (pos 0)) ⌝ }
-{
-    let v = c[i];
-    within(v, least, greatest)
-}
-
-// Whether n coefficients from an index on are all 0.
-fn zeros(c: &[i32], from: usize, n: usize) -> bool
-    requires { ⌜ from + n ≤ length (now c) ⌝ }
-    ensures { λ r. ⌜ r ≡ zeroFrom (now (c .entry)) from n ⌝ }
-{
-    let mut i = 0;
-    while i < n {
-        if !within_at(c, from + i, 0, 0) {
-            return false;
-        }
-        i += 1;
-    }
-    true
-}
-
-// ---- the rules of the spline k
-
-fn deltas_finding(n: u32, k: usize, limits: Limits) -> Finding
-    ensures { λ r. ⌜ r ≡ deltasFinding limits n k ⌝ }
-{
-    kept(counted(n as usize, limits.deltas as usize), 2, k)
-}
-
-fn sigma_finding(c: &[i32], k: usize, limits: Limits) -> Finding
-    requires { ⌜ 128 * k + 128 ≤ length (now c) ⌝ }
-    ensures { λ r. ⌜ r ≡ sigmaFinding limits (now (c .entry)) k ⌝ }
-{
-    let later = kept(zeros(c, 128 * k + 97, 31), 4, k);
-    let first = kept(within_at(c, 128 * k + 96, 1, limits.sigma), 5, k);
-    first_of(later, first)
-}
-
-fn colour_finding(c: &[i32], k: usize) -> Finding
-    requires { ⌜ 128 * k + 128 ≤ length (now c) ⌝ }
-    ensures { λ r. ⌜ r ≡ colourFinding (now (c .entry)) k ⌝ }
-{
-    let x = kept(zeros(c, 128 * k, 32), 6, k);
-    let b = kept(zeros(c, 128 * k + 64, 32), 6, k);
-    first_of(x, b)
-}
-
-fn spline_finding(n: u32, c: &[i32], k: usize, limits: Limits) -> Finding
-    requires { ⌜ 128 * k + 128 ≤ length (now c) ⌝ }
-    ensures { λ r. ⌜ r ≡ splineFinding limits n (now (c .entry)) k ⌝ }
-{
-    let deltas = deltas_finding(n, k, limits);
-    let sigma = sigma_finding(c, k, limits);
-    let colour = colour_finding(c, k);
-    first_of(deltas, first_of(sigma, colour))
-}
-
-// ---- a description
 
 fn splines_finding(counts: &[u32], c: &[i32], limits: Limits) -> Finding
     requires { ⌜ 128 * length (now counts) ≤ length (now c) ⌝ }

@@ -7,8 +7,8 @@ use lib.Dec.{T, leb→le, le→leb}
 use lib.IntN.{ℤ, pos, negsuc}
 use lib.Signed.{leZ, _≤ℤ_, leZ-yes}
 use Rattle.dequantize.specs.Judge.{Description}
-use Rattle.profile.specs.declared.Limits.{Limits}
-use Rattle.profile.specs.declared.Edition.the-variants.{Known}
+use Rattle.editions.specs.declared.Limits.{Limits}
+use Rattle.editions.specs.declared.Edition.the-variants.{Known}
 use Rattle.profile.specs.declared.ProfileAnswer.the-variants.{Meets}
 use Rattle.profile.specs.Profile.{edition1, edition2, limitsOf, answerOf}
 use Rattle.profile_laws.specs.Rules.{SplineMeets, MeetsRules, Allows, two, Meeting, Says, meets}

@@ -12,10 +12,10 @@ use Rattle.codes.specs.declared.Code.the-variants as Code
 use Rattle.shape.specs.Shape.{shaped}
 use Rattle.shape.proofs.Shape.{is-shaped, shaped-is, not-shaped}
 use Rattle.dequantize.specs.Judge.{Description, Shaped}
-use Rattle.profile.specs.declared.Limits.{Limits}
-use Rattle.profile.specs.declared.Edition.{Edition}
-use Rattle.profile.specs.declared.Edition.the-variants.{Known, Unknown}
-use Rattle.profile.specs.declared.Finding.{Finding}
+use Rattle.editions.specs.declared.Limits.{Limits}
+use Rattle.editions.specs.declared.Edition.{Edition}
+use Rattle.editions.specs.declared.Edition.the-variants.{Known, Unknown}
+use Rattle.profile_rules.specs.declared.Finding.{Finding}
 use Rattle.profile.specs.declared.ProfileAnswer.{ProfileAnswer}
 use Rattle.profile.specs.declared.ProfileAnswer.the-variants.{Meets, Broken, Refused}
 use Rattle.profile.specs.Profile.{edition1, edition2, limitsOf, rulesFinding, answered, byEdition, answerOf}

@@ -12,9 +12,9 @@ use lib.ListN.{length, getD, drop, drop-of-length-le}
 use lib.Seq.{drop-cons}
 use borrow.Author.Tests.{leb-true, leb-false}
 use Rattle.dequantize.specs.Judge.{Description}
-use Rattle.profile.specs.declared.Limits.{Limits}
-use Rattle.profile.specs.declared.Finding.{Finding}
-use Rattle.profile.specs.declared.Finding.the-variants as Finding
+use Rattle.editions.specs.declared.Limits.{Limits}
+use Rattle.profile_rules.specs.declared.Finding.{Finding}
+use Rattle.profile_rules.specs.declared.Finding.the-variants as Finding
 use Rattle.profile.specs.Profile.{kept, firstFinding, counted, within, zeroFrom, deltasFinding, sigmaFinding, colourFinding, splineFinding, splinesFinding, rulesFinding}
 use Rattle.profile_laws.specs.Rules.{Rule1, Rule3, Rule6, SplineMeets, MeetsRules, SplineBreaks, second, fourth, fifth, sixth, FirstBroken, first, third, spline}
 use Rattle.profile_laws.proofs.Tests.{Settles, failed, fails, rule1, rule2, rule3, rule4, rule5, colours-hold, x-zero, b-zero}

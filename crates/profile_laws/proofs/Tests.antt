@@ -11,7 +11,7 @@ use lib.ListN.{length, getD}
 use borrow.Author.Tests.{leb-true, le-leb}
 use Rattle.codes.proofs.Decides.{both}
 use Rattle.dequantize.specs.Judge.{Description}
-use Rattle.profile.specs.declared.Limits.{Limits}
+use Rattle.editions.specs.declared.Limits.{Limits}
 use Rattle.profile.specs.Profile.{counted, within, zeroFrom}
 use Rattle.profile_laws.specs.Rules.{FromTo, FromToℤ, xAt, bAt, sigmaAt, Rule1, Rule2, Rule3, Rule4, Rule5, Rule6}
 

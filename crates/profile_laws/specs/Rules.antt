@@ -8,7 +8,7 @@ use lib.ListN.{length, getD}
 use Rattle.codes.specs.declared.Code.{Code}
 use Rattle.codes.specs.declared.Code.the-variants as Code
 use Rattle.dequantize.specs.Judge.{Description, Shaped}
-use Rattle.profile.specs.declared.Limits.{Limits}
+use Rattle.editions.specs.declared.Limits.{Limits}
 use Rattle.profile.specs.declared.ProfileAnswer.{ProfileAnswer}
 use Rattle.profile.specs.declared.ProfileAnswer.the-variants.{Meets, Broken, Refused}
 use Rattle.profile.specs.Profile.{edition1, edition2}

@@ -1,8 +1,8 @@
 -- `within`: the two tests of the definition, on the values that the machine's words stand for.
 use mir.Syntax.{w32}
 use mir.Facts.{toZ-ofZ}
-use Rattle.profile.proofs.within.Statement.{statement}
-use Rattle.profile.proofs.within.Tie as tie
+use Rattle.profile_rules.proofs.within.Statement.{statement}
+use Rattle.profile_rules.proofs.within.Tie as tie
 
 returns : tie.Need-returns
 returns c =

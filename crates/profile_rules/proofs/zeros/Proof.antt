@@ -4,10 +4,10 @@ use Prim.Native.Nat.{ℕ, suc, _+_, _-_, _≤_}
 use native.Mathlib.Omega.{arith}
 use borrow.Author.Needs.{needs}
 use borrow.Author.Tests.{not-true, not-false}
-use Rattle.profile.specs.Profile.{zeroFrom}
-use Rattle.profile.proofs.Rules.{zero-fails, zero-passes, zero-end}
-use Rattle.profile.proofs.zeros.Statement.{statement}
-use Rattle.profile.proofs.zeros.Tie as tie
+use Rattle.profile_rules.specs.Rules.{zeroFrom}
+use Rattle.profile_rules.proofs.Rules.{zero-fails, zero-passes, zero-end}
+use Rattle.profile_rules.proofs.zeros.Statement.{statement}
+use Rattle.profile_rules.proofs.zeros.Tie as tie
 
 abbrev Inv-loop : tie.InvT-loop
 Inv-loop c from n i₀ i = (i ≤ n) × (zeroFrom c from n ≡ zeroFrom c (from + i) (n - i))

@@ -2,10 +2,10 @@
 use native.Mathlib.Omega.{arith}
 use mir.Syntax.{w32}
 use mir.Facts.{toZ-ofZ}
-use Rattle.profile.specs.Profile.{sigmaFinding}
+use Rattle.profile_rules.specs.Rules.{sigmaFinding}
 use borrow.Author.Needs.{needs}
-use Rattle.profile.proofs.sigma_finding.Statement.{statement}
-use Rattle.profile.proofs.sigma_finding.Tie as tie
+use Rattle.profile_rules.proofs.sigma_finding.Statement.{statement}
+use Rattle.profile_rules.proofs.sigma_finding.Tie as tie
 
 mul-zeros : tie.Need-mul-zeros
 mul-zeros c = search needs

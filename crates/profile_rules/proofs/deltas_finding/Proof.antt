@@ -1,9 +1,9 @@
 -- `deltas_finding`: one test.
 use mathlib.Core.Path.{sym, _∙_}
 use borrow.Author.Needs.{needs}
-use Rattle.profile.specs.Profile.{deltasFinding}
-use Rattle.profile.proofs.deltas_finding.Statement.{statement}
-use Rattle.profile.proofs.deltas_finding.Tie as tie
+use Rattle.profile_rules.specs.Rules.{deltasFinding}
+use Rattle.profile_rules.proofs.deltas_finding.Statement.{statement}
+use Rattle.profile_rules.proofs.deltas_finding.Tie as tie
 
 cast-counted : tie.Need-cast-counted
 cast-counted c = search needs

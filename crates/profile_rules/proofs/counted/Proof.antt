@@ -1,7 +1,7 @@
 -- `counted`: the two tests of the definition.
 use borrow.Author.Tests.{le-leb, lt-leb}
-use Rattle.profile.proofs.counted.Statement.{statement}
-use Rattle.profile.proofs.counted.Tie as tie
+use Rattle.profile_rules.proofs.counted.Statement.{statement}
+use Rattle.profile_rules.proofs.counted.Tie as tie
 
 returns : tie.Need-returns
 returns c = rw (le-leb 1 (c .before .args .n) (c .if1 .taken))

@@ -1,8 +1,8 @@
 -- `limits_of`: each edition that is known.
 use borrow.Author.Tests.{eq-eqb, ne-eqb}
-use Rattle.profile.specs.Profile.{limitsOf}
-use Rattle.profile.proofs.limits_of.Statement.{statement}
-use Rattle.profile.proofs.limits_of.Tie as tie
+use Rattle.editions.specs.Editions.{limitsOf}
+use Rattle.editions.proofs.limits_of.Statement.{statement}
+use Rattle.editions.proofs.limits_of.Tie as tie
 
 returns : tie.Need-returns
 unfolding limitsOf

@@ -1,7 +1,7 @@
 -- `first_of`: the first finding decides.
 use borrow.Author.Needs.{needs}
-use Rattle.profile.proofs.first_of.Statement.{statement}
-use Rattle.profile.proofs.first_of.Tie as tie
+use Rattle.profile_rules.proofs.first_of.Statement.{statement}
+use Rattle.profile_rules.proofs.first_of.Tie as tie
 
 enum-told : tie.Need-enum-told
 enum-told c = search needs

@@ -1,6 +1,6 @@
 -- `kept`: the test decides.
-use Rattle.profile.proofs.kept.Statement.{statement}
-use Rattle.profile.proofs.kept.Tie as tie
+use Rattle.profile_rules.proofs.kept.Statement.{statement}
+use Rattle.profile_rules.proofs.kept.Tie as tie
 
 returns : tie.Need-returns
 returns c = rw (c .if1 .taken)

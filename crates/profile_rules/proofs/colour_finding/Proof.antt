@@ -1,8 +1,8 @@
 -- `colour_finding`: X, then B.
-use Rattle.profile.specs.Profile.{colourFinding}
+use Rattle.profile_rules.specs.Rules.{colourFinding}
 use borrow.Author.Needs.{needs}
-use Rattle.profile.proofs.colour_finding.Statement.{statement}
-use Rattle.profile.proofs.colour_finding.Tie as tie
+use Rattle.profile_rules.proofs.colour_finding.Statement.{statement}
+use Rattle.profile_rules.proofs.colour_finding.Tie as tie
 
 mul-zeros : tie.Need-mul-zeros
 mul-zeros c = search needs

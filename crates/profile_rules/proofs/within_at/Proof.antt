@@ -4,8 +4,8 @@ use lib.IntN.{pos}
 use lib.ListN.{getD}
 use mir.Syntax.{w32}
 use mir.Facts.{toZ-ofZ}
-use Rattle.profile.proofs.within_at.Statement.{statement}
-use Rattle.profile.proofs.within_at.Tie as tie
+use Rattle.profile_rules.proofs.within_at.Statement.{statement}
+use Rattle.profile_rules.proofs.within_at.Tie as tie
 
 mul-v : tie.Need-mul-v
 mul-v c = search needs

@@ -1,8 +1,8 @@
 -- `spline_finding`: the rules of a spline in their order.
-use Rattle.profile.specs.Profile.{splineFinding}
+use Rattle.profile_rules.specs.Rules.{splineFinding}
 use borrow.Author.Needs.{needs}
-use Rattle.profile.proofs.spline_finding.Statement.{statement}
-use Rattle.profile.proofs.spline_finding.Tie as tie
+use Rattle.profile_rules.proofs.spline_finding.Statement.{statement}
+use Rattle.profile_rules.proofs.spline_finding.Tie as tie
 
 deltas-finding-requires : tie.Need-deltas-finding-requires
 deltas-finding-requires c κs = search needs

@@ -1,0 +1,2 @@
+-- The laws of the crate `profile_rules`.
+pub mod Rules

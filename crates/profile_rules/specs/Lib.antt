@@ -1,0 +1,2 @@
+-- The definitions of the crate `profile_rules`.
+pub mod Rules
