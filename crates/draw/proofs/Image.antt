@@ -15,7 +15,7 @@ use Rattle.shade.proofs.Edits.{lt-or-ge, length-edit, is-edit, edit-cong, edit-
 use Rattle.draw.specs.Draw.{pixel, updates, Table, Sight, shownOf, deskGood, bytesGood, countsGoodFor, rowGoodFor, Channels}
 use Rattle.draw.specs.Parts.{Part, cuts, total, Wide}
 use Rattle.draw.specs.Image.{Job, job, jobs, Each, Image, withRow, DrawnAll, none, more, pairs, mostPairs, WholeImage}
-use Rattle.draw.proofs.Entries.{updates-le}
+use Rattle.entries.proofs.Entries.{updates-le}
 use Rattle.draw.proofs.Parts.{sumBy, sum-perm, through, through-one, hasIn, held-cuts, updates-cuts, partly, came}
 
 module _ {A : Type 0} where

@@ -1,7 +1,4 @@
 -- The laws of the crate `draw`.
-pub mod Columns
-pub mod Pairs
-pub mod Entries
 pub mod Checks
 pub mod Refusals
 pub mod Alike

@@ -26,7 +26,7 @@ use Rattle.desks.specs.Desks.{Sight, sightOf, ownerIn, hiddenIn, deskGood, byte
 use Rattle.checks.proofs.Checks.{passed-check}
 use Rattle.draw.specs.Draw.{between, count, spanGood, three, Channels, leaves, DrawOutcome}
 use Rattle.checks.proofs.Entries.{and-left, and-right}
-use Rattle.draw.proofs.Columns.{ranged, count-columns, draw-columns}
+use Rattle.columns.proofs.Columns.{ranged, count-columns, draw-columns}
 use Rattle.records.specs.Records.{withoutOwner, joinedOf, zeroRecord, recordOf, recordsOf, drawnChannelAlone, judgeRecord, drawAlone, drawRecordOf, isKnown, drawNumberOf, judgeFor, outcomeFor, drawFor}
 use Rattle.records.proofs.Fills.{length-listFrom, listFrom-at}
 

@@ -20,7 +20,7 @@ use Rattle.draw.specs.declared.DrawAnswer.the-variants.{Done}
 use Rattle.draw.specs.Draw.{pixel, count, updates, drawnChannel, Table, Sight, rowOf, shownOf, spanGood, judgeOf, Channels, leaves, drawOf}
 use Rattle.checks.proofs.Checks.{RowFacts, Passed, judged-fine}
 use Rattle.checks.proofs.Refusals.{span-fits, below-each}
-use Rattle.draw.proofs.Entries.{hidden-kept, hidden-counts}
+use Rattle.entries.proofs.Entries.{hidden-kept, hidden-counts}
 use Rattle.draw.proofs.Checks.{answer-done}
 use Rattle.records.specs.Records.{isKnown, drawnChannelAlone, drawAlone, drawNumberOf, judgeFor, outcomeFor, drawFor}
 use Rattle.records.specs.Numbers.{KnownIsDrawn, UnknownIsRefused, RowOfOneIsItsNumber, RowOfOneIsItsRecord}

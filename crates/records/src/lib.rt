@@ -117,7 +117,7 @@ fn draw_alone(
     let columns = segment.columns();
     let table = roots::ROOTS;
     DrawAnswer::Done(
-        draw::draw_columns(
+        columns::draw_columns(
             segment,
             columns.first,
             columns.past,

@@ -17,7 +17,7 @@ use Rattle.segments.proofs.Ranges.{has-column}
 use Rattle.shade.specs.Edit.{edit, firstCells, inside}
 use Rattle.shade.specs.Shade.{shaded}
 use Rattle.shade.proofs.Edits.{lt-or-ge, is-edit, edit-cong, edit-part}
-use Rattle.draw.specs.Draw.{shadedInColumn, between, count}
+use Rattle.columns.specs.Columns.{shadedInColumn, between, count}
 
 -- how many of the n columns from x0 on lie from `first` up to `past`
 pub count-between : (first past x0 n : ℕ) → count (between first past) x0 n ≡ min (x0 + n) past - max x0 first

@@ -16,7 +16,7 @@ use Rattle.shade.proofs.Edits.{is-edit, edit-cong, edit-edit}
 use Rattle.desks.specs.Desks.{Sight, hiddenIn, shown}
 use Rattle.desks.proofs.Shown.{shown-most}
 use Rattle.checks.proofs.Entries.{slice-next, slice-none}
-use Rattle.draw.specs.Draw.{shadedInColumn, pixel, count, updates}
+use Rattle.columns.specs.Columns.{shadedInColumn, pixel, count, updates}
 
 bit : (b : Bool) → cond b 1 0 ≤ 1
 bit true = omega arith

@@ -19,8 +19,9 @@ use Rattle.shade.specs.Shade.{sqd, dy2, intensityAt, localIntensity, shade, sha
 use Rattle.shade.proofs.Edits.{lt-or-ge, length-edit, edit-cong, edit-part}
 use Rattle.shade.proofs.Blocks.{passed}
 use Rattle.desks.specs.Desks.{Sight, hiddenIn, shown}
-use Rattle.draw.specs.Draw.{shadedInColumn, shadedInRange, addedIn, Cuts, addedShown, pixel, between, count, updates}
-use Rattle.draw.proofs.Columns.{count-between, count-cong, ranged, has-columns}
+use Rattle.columns.specs.Columns.{pixel, between, count, updates}
+use Rattle.columns.proofs.Columns.{count-between, count-cong, ranged, has-columns}
+use Rattle.couples.specs.Couples.{Cuts, shadedInRange, addedIn, addedShown}
 
 -- ---- which columns lie in a range
 

@@ -3,9 +3,9 @@ use mathlib.Core.Path.{refl, ap, _∙_}
 use native.Mathlib.Omega.{arith}
 use lib.ListN.{length}
 use Rattle.shade.proofs.Edits.{length-edit}
-use Rattle.draw.proofs.Pairs.{held, added-two, still-within}
-use Rattle.draw.proofs.draw_narrow.Statement.{statement}
-use Rattle.draw.proofs.draw_narrow.Tie as tie
+use Rattle.couples.proofs.Couples.{held, added-two, still-within}
+use Rattle.couples.proofs.draw_narrow.Statement.{statement}
+use Rattle.couples.proofs.draw_narrow.Tie as tie
 
 sub-m : tie.Need-sub-m
 sub-m c = omega arith

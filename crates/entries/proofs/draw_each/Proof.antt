@@ -5,11 +5,13 @@ use Prim.Native.Nat.{_+_, _-_, _≤_}
 use native.Mathlib.Omega.{arith}
 use lib.ListN.{length}
 use lib.Seq.{slice}
-use Rattle.draw.specs.Draw.{sightOf, shown, allOwned, allBelow, updates}
+use Rattle.desks.specs.Desks.{sightOf, shown, allOwned}
+use Rattle.checks.specs.Checks.{allBelow}
+use Rattle.columns.specs.Columns.{updates}
 use Rattle.checks.proofs.Entries.{first-below, rest-below, first-owned, rest-owned}
-use Rattle.draw.proofs.Entries.{rest, updates-small, total-next, total-none, rest-next, rest-none}
-use Rattle.draw.proofs.draw_each.Statement.{statement}
-use Rattle.draw.proofs.draw_each.Tie as tie
+use Rattle.entries.proofs.Entries.{rest, updates-small, total-next, total-none, rest-next, rest-none}
+use Rattle.entries.proofs.draw_each.Statement.{statement}
+use Rattle.entries.proofs.draw_each.Tie as tie
 
 abbrev Inv-loop : tie.InvT-loop
 Inv-loop segments owners segment-count entries b e splines bits desk y x0 n r0₀ r1₀ r2₀ table total₀ j₀ r0 r1 r2 total j =

@@ -1,10 +1,10 @@
 -- The columns of each segment, cut to the part; what is added in them is added as the segments list.
 use native.Mathlib.Omega.{arith}
 use Prim.Native.Nat.{_+_, _≤_}
-use Rattle.draw.specs.Draw.{sightOf}
-use Rattle.draw.proofs.Pairs.{two-count, two-small, two-ranged, two-narrow, still-long}
-use Rattle.draw.proofs.draw_two.Statement.{statement}
-use Rattle.draw.proofs.draw_two.Tie as tie
+use Rattle.desks.specs.Desks.{sightOf}
+use Rattle.couples.proofs.Couples.{two-count, two-small, two-ranged, two-narrow, still-long}
+use Rattle.couples.proofs.draw_two.Statement.{statement}
+use Rattle.couples.proofs.draw_two.Tie as tie
 
 at-requires : tie.Need-at-requires
 at-requires c κs = c .before .before .before .before .before .before .pre .0 .0

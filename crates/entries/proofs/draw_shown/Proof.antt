@@ -3,10 +3,10 @@ use mathlib.Core.Path.{_≡_, sym, _∙_}
 use mathlib.Core.Bool.{true, false}
 use native.Mathlib.Omega.{arith}
 use borrow.Author.Needs.{needs}
-use Rattle.draw.specs.Draw.{sightOf}
-use Rattle.draw.proofs.Entries.{hidden-kept, hidden-counts, shown-drawn, shown-counts}
-use Rattle.draw.proofs.draw_shown.Statement.{statement}
-use Rattle.draw.proofs.draw_shown.Tie as tie
+use Rattle.desks.specs.Desks.{sightOf}
+use Rattle.entries.proofs.Entries.{hidden-kept, hidden-counts, shown-drawn, shown-counts}
+use Rattle.entries.proofs.draw_shown.Statement.{statement}
+use Rattle.entries.proofs.draw_shown.Tie as tie
 
 hidden-requires : tie.Need-hidden-requires
 hidden-requires c κs = omega arith

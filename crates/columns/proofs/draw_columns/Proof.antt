@@ -3,9 +3,9 @@ use Prim.Native.Nat.{_<_}
 use native.Mathlib.Omega.{arith}
 use borrow.Author.Needs.{needs}
 use Rattle.shade.specs.Shade.{shaded}
-use Rattle.draw.proofs.Columns.{count-between, ranged-none, ranged-part}
-use Rattle.draw.proofs.draw_columns.Statement.{statement}
-use Rattle.draw.proofs.draw_columns.Tie as tie
+use Rattle.columns.proofs.Columns.{count-between, ranged-none, ranged-part}
+use Rattle.columns.proofs.draw_columns.Statement.{statement}
+use Rattle.columns.proofs.draw_columns.Tie as tie
 
 greatest-requires : tie.Need-greatest-requires
 greatest-requires c κs = search needs

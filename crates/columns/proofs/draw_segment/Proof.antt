@@ -1,8 +1,8 @@
 -- The columns of the segment are those that it has.
 use borrow.Author.Needs.{needs}
-use Rattle.draw.proofs.Columns.{count-columns, draw-columns}
-use Rattle.draw.proofs.draw_segment.Statement.{statement}
-use Rattle.draw.proofs.draw_segment.Tie as tie
+use Rattle.columns.proofs.Columns.{count-columns, draw-columns}
+use Rattle.columns.proofs.draw_segment.Statement.{statement}
+use Rattle.columns.proofs.draw_segment.Tie as tie
 
 at-requires : tie.Need-at-requires
 at-requires c κs = search needs
