@@ -8,13 +8,13 @@ use Rattle.columns.proofs.draw_columns.Statement.{statement}
 use Rattle.columns.proofs.draw_columns.Tie as tie
 
 greatest-requires : tie.Need-greatest-requires
-greatest-requires c κs = search needs
+greatest-requires c κs = tt
 
 add-least : tie.Need-add-least
-add-least c = search needs
+add-least c = omega arith
 
 least-requires : tie.Need-least-requires
-least-requires c κs = search needs
+least-requires c κs = tt
 
 returns : tie.Need-returns
 returns c =
@@ -33,55 +33,55 @@ returns c =
     )
 
 sub-a : tie.Need-sub-a
-sub-a c = search needs
+sub-a c = omega arith
 
 cast-a : tie.Need-cast-a
-cast-a c = search needs
+cast-a c = omega arith
 
 sub-e : tie.Need-sub-e
-sub-e c = search needs
+sub-e c = omega arith
 
 cast-e : tie.Need-cast-e
-cast-e c = search needs
+cast-e c = omega arith
 
 sub-width : tie.Need-sub-width
-sub-width c = search needs
+sub-width c = omega arith
 
 mul-add-segment : tie.Need-mul-add-segment
-mul-add-segment c = search needs
+mul-add-segment c = omega arith
 
 sub-add-segment : tie.Need-sub-add-segment
-sub-add-segment c = search needs
+sub-add-segment c = omega arith
 
 part-add-segment-start : tie.Need-part-add-segment-start
-part-add-segment-start c = search needs
+part-add-segment-start c = omega arith
 
 part-add-segment-end : tie.Need-part-add-segment-end
-part-add-segment-end c = search needs
+part-add-segment-end c = omega arith
 
 mul-add-segment-2 : tie.Need-mul-add-segment-2
-mul-add-segment-2 c = search needs
+mul-add-segment-2 c = omega arith
 
 sub-add-segment-2 : tie.Need-sub-add-segment-2
-sub-add-segment-2 c = search needs
+sub-add-segment-2 c = omega arith
 
 part-add-segment-start-2 : tie.Need-part-add-segment-start-2
-part-add-segment-start-2 c = search needs
+part-add-segment-start-2 c = omega arith
 
 part-add-segment-end-2 : tie.Need-part-add-segment-end-2
-part-add-segment-end-2 c = search needs
+part-add-segment-end-2 c = omega arith
 
 mul-add-segment-3 : tie.Need-mul-add-segment-3
-mul-add-segment-3 c = search needs
+mul-add-segment-3 c = omega arith
 
 sub-add-segment-3 : tie.Need-sub-add-segment-3
-sub-add-segment-3 c = search needs
+sub-add-segment-3 c = omega arith
 
 part-add-segment-start-3 : tie.Need-part-add-segment-start-3
-part-add-segment-start-3 c = search needs
+part-add-segment-start-3 c = omega arith
 
 part-add-segment-end-3 : tie.Need-part-add-segment-end-3
-part-add-segment-end-3 c = search needs
+part-add-segment-end-3 c = omega arith
 
 add-segment-requires : tie.Need-add-segment-requires
 add-segment-requires c κs = search needs
