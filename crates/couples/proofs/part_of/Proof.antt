@@ -11,7 +11,7 @@ use Rattle.couples.proofs.part_of.Tie as tie
 returns : tie.Need-returns
 returns c =
     let A = c .before .args in
-    let t : A .hidden ≡ true = search (c .if1 .taken) in
+    let t : A .hidden ≡ true = c .if1 .taken in
     cuts-none _ (λ x. cond (A .hidden) false (hasColumn (A .segment) x)) (A .x0) (A .n) refl refl (λ k l. ap (λ (b : Bool). cond b false (hasColumn (A .segment) (A .x0 + k))) t)
 
 columns-requires : tie.Need-columns-requires
@@ -30,14 +30,14 @@ returns-2 : tie.Need-returns-2
 returns-2 c =
     let S = c .before .before .before .before .before in
     let A = S .args in
-    let t : A .hidden ≡ false = search (c .before .before .before .before .if1 .left) in
+    let t : A .hidden ≡ false = c .before .before .before .before .if1 .left in
     cuts-none _ (λ x. cond (A .hidden) false (hasColumn (A .segment) x)) (A .x0) (A .n) refl refl (λ k l. ap (λ (b : Bool). cond b false (hasColumn (A .segment) (A .x0 + k))) t ∙ has-none (A .segment) _ _ _ (A .x0) (A .n) (c .before .before .before .columns .ensures) (S .pre) (c .before .before .greatest .ensures) (c .before .least .ensures) (c .if2 .taken) k l)
 
 returns-3 : tie.Need-returns-3
 returns-3 c =
     let S = c .before .before .before .before .before in
     let A = S .args in
-    let t : A .hidden ≡ false = search (c .before .before .before .before .if1 .left) in
+    let t : A .hidden ≡ false = c .before .before .before .before .if1 .left in
     let g = c .before .before .greatest .ensures in
     let m = c .before .least .ensures in
     let l = c .if2 .left in

@@ -15,7 +15,7 @@ returns : tie.Need-returns
 returns c =
     let A = c .before .before .before .before .before .before .before .before .args in
     let s = sightOf (A .owners .now) (A .splines) (A .bits .now) (A .desk) in
-    let t : c .before .hidden .result ≡ true = search (c .if1 .taken) in
+    let t : c .before .hidden .result ≡ true = c .if1 .taken in
     let h = sym (c .before .hidden .ensures) ∙ t in (
       omega (arith, hidden-counts s (A .segments .now) (A .y) (A .x0) (A .n) (A .i) h),
       (hidden-kept s (A .segments .now) (A .y) (A .x0) (A .n) (A .i) 0 (A .r0 .now) h, (hidden-kept s (A .segments .now) (A .y) (A .x0) (A .n) (A .i) 1 (A .r1 .now) h, hidden-kept s (A .segments .now) (A .y) (A .x0) (A .n) (A .i) 2 (A .r2 .now) h)),
@@ -37,7 +37,7 @@ returns-2 : tie.Need-returns-2
 returns-2 c =
     let A = c .before .before .before .before .before .before .before .before .before .before .before .before .before .before .before .before .before .before .args in
     let s = sightOf (A .owners .now) (A .splines) (A .bits .now) (A .desk) in
-    let t : c .before .before .before .before .before .before .before .before .before .before .before .hidden .result ≡ false = search (c .before .before .before .before .before .before .before .before .before .before .if1 .left) in
+    let t : c .before .before .before .before .before .before .before .before .before .before .before .hidden .result ≡ false = c .before .before .before .before .before .before .before .before .before .before .if1 .left in
     let h = sym (c .before .before .before .before .before .before .before .before .before .before .before .hidden .ensures) ∙ t in
     let e = c .before .before .before .before .before .before .draw-segment .ensures in (
       shown-counts s (A .segments .now) (A .y) (A .x0) (A .n) (A .i) h (e .0),
