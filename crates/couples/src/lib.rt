@@ -93,7 +93,7 @@ fn draw_narrow(
     add_in(two, q, &w, x0, r0, r1, r2);
 }
 
-// Adds segments i and j, in this order, as draw_shown adds each.
+// Adds segments i and j, in this order, each where it has the columns of the part, unless it is hidden for the desk, and counts the updates.
 pub fn draw_two(
     segments: &[f32],
     owners: &[u64],
