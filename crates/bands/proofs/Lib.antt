@@ -1,3 +1,2 @@
 -- The laws of the crate `bands`.
-pub mod Sums
 pub mod Whole

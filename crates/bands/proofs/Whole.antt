@@ -17,33 +17,15 @@ use Rattle.checks.specs.Checks.{countsGoodFor, rowGoodFor, orFault}
 use Rattle.checks.specs.declared.Verdict.{Verdict}
 use Rattle.checks.specs.declared.Verdict.the-variants.{Fine, Fault}
 use Rattle.checks.proofs.Checks.{passed-check, counts-facts-for}
+use Rattle.band_sums.specs.declared.BandNumbers.{BandNumbers}
+use Rattle.band_sums.specs.declared.Summed.the-variants.{Good, Bad}
+use Rattle.band_sums.specs.Steps.{goodOr}
+use Rattle.band_sums.proofs.Sums.{was-good, was-bad}
 use Rattle.bands.specs.declared.BandsAnswer.{BandsAnswer}
 use Rattle.bands.specs.declared.BandsAnswer.the-variants.{Done, Refused}
-use Rattle.bands.specs.declared.BandNumbers.{BandNumbers}
-use Rattle.bands.specs.declared.Summed.{Summed}
-use Rattle.bands.specs.declared.Summed.the-variants.{Good, Bad}
-use Rattle.bands.specs.Bands.{bandsIn, rowOfBand, rowsIn, shownFrom, rowsGoodFrom, bandGood, numbersOver, bandNumbers, bandCells, putBand, putBands}
+use Rattle.bands.specs.Bands.{bandsIn, rowOfBand, rowsIn, rowsGoodFrom, bandGood, bandNumbers, bandCells, putBand, putBands}
 use Rattle.bands.specs.Calls.{beforeRows, judgeBands, judgeBand, byVerdict, toldOf, leaves, freshCells, bandsOf, bandOf}
 use Rattle.bands.specs.Refusals.{SummaryFits}
-use Rattle.bands.specs.Steps.{goodOr}
-use Rattle.bands.proofs.Sums.{was-good, was-bad}
-
--- ---- the rows of a band
-
--- a band of the image begins in it
-pub band-begins : (H b : ℕ) → b < bandsIn H → 64 * b < H
-unfolding bandsIn
-band-begins H b h = omega arith
-
-module _ (t : Table) (s : Sight) (W : ℕ) where
-  -- the sum of its rows, from its first up to the least of 64 more and the height
-  pub band-sum : (b y e : ℕ) {r : Summed} → y ≡ 64 * b → e ≡ min (y + 64) (t .height) → r ≡ goodOr (rowsGoodFrom t s y (e - y)) (numbersOver t W (shownFrom t s y (e - y))) → r ≡ goodOr (bandGood t s b) (bandNumbers t s W b)
-  unfolding rowOfBand rowsIn
-  band-sum b y e {r} p q k =
-      let n : e - y ≡ min 64 (t .height - 64 * b) = omega (arith, p, q) in
-      k
-      ∙ ap (λ (m : ℕ). goodOr (rowsGoodFrom t s y m) (numbersOver t W (shownFrom t s y m))) n
-      ∙ ap (λ (m : ℕ). goodOr (rowsGoodFrom t s m (min 64 (t .height - 64 * b))) (numbersOver t W (shownFrom t s m (min 64 (t .height - 64 * b))))) p
 
 -- ---- the rows from a band on
 

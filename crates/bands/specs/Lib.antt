@@ -2,4 +2,3 @@
 pub mod Bands
 pub mod Calls
 pub mod Refusals
-pub mod Steps

@@ -26,7 +26,7 @@ use Rattle.checks.proofs.Refusals.{counts-fit-for, below-each}
 use Rattle.checks.proofs.Alike.{alike-row, alike-named, alike-shown, agree-alike}
 use Rattle.hull.specs.Reach.{touched, reachOver}
 use Rattle.hull.proofs.Hulls.{hull-cong}
-use Rattle.bands.specs.declared.BandNumbers.{BandNumbers}
+use Rattle.band_sums.specs.declared.BandNumbers.{BandNumbers}
 use Rattle.bands.specs.declared.BandsAnswer.the-variants.{Done}
 use Rattle.bands.specs.Bands.{bandsIn, rowOfBand, rowsIn, shownFrom, shownIn, rowsGoodFrom, bandGood, numbersOver, bandNumbers, putBand, putBands}
 use Rattle.bands.specs.Calls.{beforeRows, judgeBands, judgeBand, BandsOutcome, leaves, byVerdict, freshCells, bandsOf, bandOf}

@@ -7,7 +7,7 @@ use native.Mathlib.Omega.{arith}
 use lib.ListN.{length, getD, set, length-set}
 use lib.Seq.{sets, length-sets, getD-set-same, getD-set-other}
 use Rattle.shade.proofs.Edits.{lt-or-ge}
-use Rattle.bands.specs.declared.BandNumbers.{BandNumbers}
+use Rattle.band_sums.specs.declared.BandNumbers.{BandNumbers}
 use Rattle.bands.specs.Bands.{bandCells, putBand, putBands}
 use Rattle.bands_laws.specs.Summaries.{OtherCell}
 

@@ -6,8 +6,8 @@ use lib.ListN.{length}
 use borrow.Author.Needs.{needs}
 use Rattle.desks.specs.Desks.{sightOf}
 use Rattle.checks.specs.Tables.{tableOf}
+use Rattle.band_sums.proofs.Sums.{was-good, was-bad}
 use Rattle.bands.specs.Bands.{bandsIn, rowsGoodFrom, bandNumbers, putBands}
-use Rattle.bands.proofs.Sums.{was-good, was-bad}
 use Rattle.bands.proofs.Whole.{goodOn, goods-on, goods-off, goods-begin, goods-end, put-none, put-next, put-length, cells-fit, not-so}
 use Rattle.bands.proofs.fill.Statement.{statement}
 use Rattle.bands.proofs.fill.Tie as tie

@@ -4,9 +4,9 @@ use mathlib.Core.Logic.{⊎-elim}
 use Prim.Native.Nat.{max}
 use native.Mathlib.Omega.{arith}
 use borrow.Author.Needs.{needs}
-use Rattle.bands.proofs.Sums.{one-is}
-use Rattle.bands.proofs.with_shown.Statement.{statement}
-use Rattle.bands.proofs.with_shown.Tie as tie
+use Rattle.band_sums.proofs.Sums.{one-is}
+use Rattle.band_sums.proofs.with_shown.Statement.{statement}
+use Rattle.band_sums.proofs.with_shown.Tie as tie
 
 at-requires : tie.Need-at-requires
 at-requires c κs = search needs

@@ -6,10 +6,10 @@ use lib.ListN.{getD}
 use borrow.Author.Needs.{needs}
 use Rattle.desks.specs.Desks.{sightOf}
 use Rattle.checks.specs.Tables.{tableOf}
-use Rattle.bands.specs.Steps.{nothing, sumRows}
-use Rattle.bands.proofs.Sums.{rows-begin, rows-on, rows-off, rows-end, rows-all, row-most}
-use Rattle.bands.proofs.sum_rows.Statement.{statement}
-use Rattle.bands.proofs.sum_rows.Tie as tie
+use Rattle.band_sums.specs.Steps.{nothing, sumRows}
+use Rattle.band_sums.proofs.Sums.{rows-begin, rows-on, rows-off, rows-end, rows-all, row-most}
+use Rattle.band_sums.proofs.sum_rows.Statement.{statement}
+use Rattle.band_sums.proofs.sum_rows.Tie as tie
 
 abbrev Inv-loop : tie.InvT-loop
 Inv-loop segments owners segment-count entries entry-count row-starts height splines bits desk width y end sum₀ at₀ sum at =

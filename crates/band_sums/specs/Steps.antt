@@ -10,10 +10,10 @@ use Rattle.desks.specs.Desks.{Sight, shown, allOwned}
 use Rattle.checks.specs.Tables.{Table, shownOf}
 use Rattle.checks.specs.Checks.{allBelow, rowGoodFor}
 use Rattle.hull.specs.Reach.{joined, columnsBelow}
-use Rattle.bands.specs.declared.BandNumbers.{BandNumbers}
-use Rattle.bands.specs.declared.Summed.{Summed}
-use Rattle.bands.specs.declared.Summed.the-variants.{Good, Bad}
-use Rattle.bands.specs.Bands.{rowsGoodFrom, shownFrom}
+use Rattle.band_sums.specs.declared.BandNumbers.{BandNumbers}
+use Rattle.band_sums.specs.declared.Summed.{Summed}
+use Rattle.band_sums.specs.declared.Summed.the-variants.{Good, Bad}
+use Rattle.band_sums.specs.Numbers.{rowsGoodFrom, shownFrom}
 
 -- of no entry
 abbrev pub nothing : BandNumbers

@@ -4,8 +4,8 @@ use native.Mathlib.Omega.{arith}
 use borrow.Author.Needs.{needs}
 use borrow.Author.Tests.{lt-leb, le-leb}
 use Rattle.checks.specs.Checks.{entriesGood, rowGoodFor}
-use Rattle.bands.proofs.sum_row.Statement.{statement}
-use Rattle.bands.proofs.sum_row.Tie as tie
+use Rattle.band_sums.proofs.sum_row.Statement.{statement}
+use Rattle.band_sums.proofs.sum_row.Tie as tie
 
 mul-b : tie.Need-mul-b
 mul-b c = search needs

@@ -2,7 +2,7 @@
 use mathlib.Core.Path.{_≡_, refl, sym, ap, subst, _∙_}
 use mathlib.Core.Bool.{Bool, true, false, cond, _&&_}
 use mathlib.Core.List.{List, [], _∷_, _++_, foldl}
-use Prim.Native.Nat.{ℕ, suc, _+_, _-_, _^_, _<_, _≤_, min, max}
+use Prim.Native.Nat.{ℕ, suc, _+_, _-_, _*_, _^_, _<_, _≤_, min, max}
 use native.Mathlib.Omega.{arith}
 use lib.Dec.{ltb}
 use lib.ListN.{length, getD}
@@ -21,11 +21,11 @@ use Rattle.checks.proofs.Checks.{row-facts-for}
 use Rattle.checks.proofs.Entries.{slice-next, slice-none, not-below, not-owned, owned-on}
 use Rattle.hull.specs.Reach.{joined, reachOver, columnsBelow}
 use Rattle.hull.proofs.Hulls.{same-range, joinedOver, joined-over}
-use Rattle.bands.specs.declared.BandNumbers.{BandNumbers}
-use Rattle.bands.specs.declared.Summed.{Summed}
-use Rattle.bands.specs.declared.Summed.the-variants.{Good, Bad}
-use Rattle.bands.specs.Bands.{rowsGoodFrom, shownFrom, leastOf, greatestOf, numbersOver}
-use Rattle.bands.specs.Steps.{nothing, leastWith, withOne, summed, goodOr, sumOver, sumRow, sumRows}
+use Rattle.band_sums.specs.declared.BandNumbers.{BandNumbers}
+use Rattle.band_sums.specs.declared.Summed.{Summed}
+use Rattle.band_sums.specs.declared.Summed.the-variants.{Good, Bad}
+use Rattle.band_sums.specs.Numbers.{bandsIn, rowOfBand, rowsIn, rowsGoodFrom, bandGood, shownFrom, leastOf, greatestOf, numbersOver, bandNumbers}
+use Rattle.band_sums.specs.Steps.{nothing, leastWith, withOne, summed, goodOr, sumOver, sumRow, sumRows}
 
 -- ---- listed entries
 
@@ -210,5 +210,22 @@ module _ (t : Table) (s : Sight) (W : ℕ) where
   -- from nothing: the numbers of all that is shown
   pub rows-all : W ≤ 2 ^ 23 → (y n : ℕ) → sumRows t s W nothing y n ≡ goodOr (rowsGoodFrom t s y n) (numbersOver t W (shownFrom t s y n))
   rows-all w y n = ap (goodOr (rowsGoodFrom t s y n)) (summed-all t W w (shownFrom t s y n))
+
+-- ---- the rows of a band
+
+-- a band of the image begins in it
+pub band-begins : (H b : ℕ) → b < bandsIn H → 64 * b < H
+unfolding bandsIn
+band-begins H b h = omega arith
+
+module _ (t : Table) (s : Sight) (W : ℕ) where
+  -- the sum of its rows, from its first up to the least of 64 more and the height
+  pub band-sum : (b y e : ℕ) {r : Summed} → y ≡ 64 * b → e ≡ min (y + 64) (t .height) → r ≡ goodOr (rowsGoodFrom t s y (e - y)) (numbersOver t W (shownFrom t s y (e - y))) → r ≡ goodOr (bandGood t s b) (bandNumbers t s W b)
+  unfolding rowOfBand rowsIn
+  band-sum b y e {r} p q k =
+      let n : e - y ≡ min 64 (t .height - 64 * b) = omega (arith, p, q) in
+      k
+      ∙ ap (λ (m : ℕ). goodOr (rowsGoodFrom t s y m) (numbersOver t W (shownFrom t s y m))) n
+      ∙ ap (λ (m : ℕ). goodOr (rowsGoodFrom t s m (min 64 (t .height - 64 * b))) (numbersOver t W (shownFrom t s m (min 64 (t .height - 64 * b))))) p
 
 -- Assumes nothing.

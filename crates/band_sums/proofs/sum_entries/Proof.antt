@@ -6,10 +6,10 @@ use lib.ListN.{length, getD}
 use lib.Seq.{slice}
 use borrow.Author.Tests.{lt-ltb, le-ltb}
 use Rattle.desks.specs.Desks.{sightOf}
-use Rattle.bands.specs.Steps.{sumOver}
-use Rattle.bands.proofs.Sums.{over-not-below, over-not-owned, over-next, over-none, with-most}
-use Rattle.bands.proofs.sum_entries.Statement.{statement}
-use Rattle.bands.proofs.sum_entries.Tie as tie
+use Rattle.band_sums.specs.Steps.{sumOver}
+use Rattle.band_sums.proofs.Sums.{over-not-below, over-not-owned, over-next, over-none, with-most}
+use Rattle.band_sums.proofs.sum_entries.Statement.{statement}
+use Rattle.band_sums.proofs.sum_entries.Tie as tie
 
 abbrev Inv-loop : tie.InvT-loop
 Inv-loop segments owners segment-count entries b e splines bits desk width total₀ j₀ total j =

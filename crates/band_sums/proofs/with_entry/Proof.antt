@@ -3,9 +3,9 @@ use mathlib.Core.Path.{_≡_, sym, _∙_}
 use mathlib.Core.Bool.{true, false}
 use borrow.Author.Needs.{needs}
 use Rattle.desks.specs.Desks.{sightOf}
-use Rattle.bands.proofs.Sums.{sum-hidden, sum-shown}
-use Rattle.bands.proofs.with_entry.Statement.{statement}
-use Rattle.bands.proofs.with_entry.Tie as tie
+use Rattle.band_sums.proofs.Sums.{sum-hidden, sum-shown}
+use Rattle.band_sums.proofs.with_entry.Statement.{statement}
+use Rattle.band_sums.proofs.with_entry.Tie as tie
 
 hidden-requires : tie.Need-hidden-requires
 hidden-requires c κs = search needs

@@ -1,8 +1,8 @@
 -- The tests decide.
 use native.Mathlib.Omega.{arith}
 use borrow.Author.Tests.{lt-ltb, le-ltb}
-use Rattle.bands.proofs.least_with.Statement.{statement}
-use Rattle.bands.proofs.least_with.Tie as tie
+use Rattle.band_sums.proofs.least_with.Statement.{statement}
+use Rattle.band_sums.proofs.least_with.Tie as tie
 
 returns : tie.Need-returns
 returns c = rw (le-ltb 0 (c .before .before .args .sum .entries) (omega arith)) (omega arith)

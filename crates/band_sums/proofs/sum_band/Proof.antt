@@ -6,9 +6,9 @@ use native.Mathlib.Omega.{arith}
 use borrow.Author.Needs.{needs}
 use Rattle.desks.specs.Desks.{sightOf}
 use Rattle.checks.specs.Tables.{tableOf}
-use Rattle.bands.proofs.Whole.{band-begins, band-sum}
-use Rattle.bands.proofs.sum_band.Statement.{statement}
-use Rattle.bands.proofs.sum_band.Tie as tie
+use Rattle.band_sums.proofs.Sums.{band-begins, band-sum}
+use Rattle.band_sums.proofs.sum_band.Statement.{statement}
+use Rattle.band_sums.proofs.sum_band.Tie as tie
 
 mul-first : tie.Need-mul-first
 mul-first c = search needs

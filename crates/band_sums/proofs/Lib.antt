@@ -1,0 +1,2 @@
+-- The laws of the crate `band_sums`.
+pub mod Sums

@@ -1,0 +1,3 @@
+-- The definitions of the crate `band_sums`.
+pub mod Numbers
+pub mod Steps
