@@ -4,16 +4,17 @@
 mod arguments;
 mod commands;
 mod options;
+mod rooms;
 
 ghost use Prim.Native.Nat.{_≤_};
 use arguments::Number;
 use canvas::Asked;
 use canvas::Task;
 use commands::Command;
+use contents::Tried;
 use drawing::Wanted;
 use files::Loaded;
 use options::Options;
-use rooms::Tried;
 
 // As many as a list of 4096 splines and 2^20 points has.
 const VALUES: usize = 2633730;
@@ -120,7 +121,7 @@ fn tell_first(values: &[u32], n: usize) -> Tried {
     if values.len() < n {
         return Tried::Status(2);
     }
-    rooms::tell_list(&values[0..n])
+    contents::tell_list(&values[0..n])
 }
 
 fn tell_text(i: usize, text: &[u8], values: &mut [u32; SHORT_VALUES]) -> Tried {
@@ -137,7 +138,7 @@ fn tell_bytes(i: usize, bytes: &[u8], n: usize, values: &mut [u32; SHORT_VALUES]
         return Tried::Status(2);
     }
     match kind_at(i) {
-        Kind::Trace => rooms::tell_trace(&bytes[0..n]),
+        Kind::Trace => contents::tell_trace(&bytes[0..n]),
         _ => tell_text(i, &bytes[0..n], values),
     }
 }

@@ -2,8 +2,8 @@
 use mathlib.Core.Path.{refl, sym}
 use lib.Seq.{length-take-le}
 use borrow.Author.Needs.{needs}
-use Rattle.tables.proofs.touching.say.Statement.{statement}
-use Rattle.tables.proofs.touching.say.Tie as tie
+use Rattle.touching.proofs.say.Statement.{statement}
+use Rattle.touching.proofs.say.Tie as tie
 
 returns : tie.Need-returns
 returns c = search needs

@@ -1,14 +1,10 @@
 // A list or a trace file that is read in the fixed rooms of the program, lent buffers on the stack, and what is asked of its description.
-mod short;
-mod telling;
-
 ghost use Prim.Native.Nat.{_≤_};
 use canvas::Asked;
 use canvas::Task;
+use contents::Source;
 use reader::ReadAnswer;
-pub use short::Tried;
-pub use short::tell_list;
-pub use short::tell_trace;
+use tables::Built;
 use trace2::FileAnswer;
 
 const SPLINES: usize = 4096;
@@ -20,17 +16,93 @@ const DELTAS: usize = 2097152;
 
 const COEFFICIENTS: usize = 524288;
 
-// The usual configured limit.
-pub const CONFIGURED: u32 = 1048576;
-
-// What a description was read from: a list of so many values, or a trace file of so many bytes and its edition.
-pub enum Source {
-    List(usize),
-    File(usize, u32),
+// A status is one of four.
+fn within(status: u8) -> u8
+    ensures { λ r. ⌜ r ≤ 3 ⌝ }
+{
+    if status < 3 { status } else { 3 }
 }
 
-// What is asked of the table of a description, which is built only if it meets the edition that is asked for.
+// Which of the long rooms was too short for a table.
+fn say_short(
+    counts: &[u32],
+    starts: &[f32],
+    deltas: &[i32],
+    coefficients: &[i32],
+    adjustment: i32,
+    task: Task,
+    path: &mut [f32; tables::PATH],
+    walk: &mut [f32; tables::WALK],
+    segments: &mut [f32; tables::SEGMENTS],
+    owners: &mut [u64; tables::OWNERS],
+) -> u8
+    ensures { λ r. ⌜ r ≤ 3 ⌝ }
+{
+    let height = task.height;
+    let high = task.high;
+    shortage::say(
+        counts,
+        starts,
+        deltas,
+        coefficients,
+        adjustment,
+        height,
+        high,
+        path,
+        walk,
+        segments,
+        owners,
+    )
+}
+
+// The same, in rooms as long.
+fn say_room(
+    counts: &[u32],
+    starts: &[f32],
+    deltas: &[i32],
+    coefficients: &[i32],
+    adjustment: i32,
+    task: Task,
+) -> u8
+    ensures { λ r. ⌜ r ≤ 3 ⌝ }
+{
+    let mut path = [0.0f32; tables::PATH];
+    let mut walk = [0.0f32; tables::WALK];
+    let mut segments = [0.0f32; tables::SEGMENTS];
+    let mut owners = [0u64; tables::OWNERS];
+    say_short(
+        counts,
+        starts,
+        deltas,
+        coefficients,
+        adjustment,
+        task,
+        &mut path,
+        &mut walk,
+        &mut segments,
+        &mut owners,
+    )
+}
+
+// What is asked of the table of a description, or which room was too short for it.
 fn build(
+    counts: &[u32],
+    starts: &[f32],
+    deltas: &[i32],
+    coefficients: &[i32],
+    adjustment: i32,
+    task: Task,
+) -> u8
+    ensures { λ r. ⌜ r ≤ 3 ⌝ }
+{
+    match tables::build(counts, starts, deltas, coefficients, adjustment, task) {
+        Built::Status(status) => within(status),
+        Built::Room => say_room(counts, starts, deltas, coefficients, adjustment, task),
+    }
+}
+
+// The same of a description only if it meets the edition that is asked for.
+fn build_judged(
     counts: &[u32],
     starts: &[f32],
     deltas: &[i32],
@@ -42,13 +114,13 @@ fn build(
 {
     let edition = task.profile;
     if edition == 0 {
-        return tables::build(counts, starts, deltas, coefficients, adjustment, task);
+        return build(counts, starts, deltas, coefficients, adjustment, task);
     }
     let status = fineness::judge(counts, starts, deltas, coefficients, adjustment, edition);
     if status != 0 {
         return status;
     }
-    tables::build(counts, starts, deltas, coefficients, adjustment, task)
+    build(counts, starts, deltas, coefficients, adjustment, task)
 }
 
 // What is asked of a description.
@@ -65,7 +137,7 @@ fn answer(
 {
     let asked = task.asked;
     match asked {
-        Asked::Contents => telling::say(counts, starts, deltas.len() / 2, adjustment, source),
+        Asked::Contents => contents::say(counts, starts, deltas.len() / 2, adjustment, source),
         Asked::Trace => {
             let fd = task.fd;
             let edition = task.edition;
@@ -101,7 +173,7 @@ fn answer(
         Asked::Profile(edition) => {
             fineness::say(counts, starts, deltas, coefficients, adjustment, edition)
         }
-        _ => build(counts, starts, deltas, coefficients, adjustment, task),
+        _ => build_judged(counts, starts, deltas, coefficients, adjustment, task),
     }
 }
 
@@ -173,7 +245,7 @@ fn list_in(
     let pixels = pixels_of(task);
     match reader::read(
         list,
-        CONFIGURED,
+        contents::CONFIGURED,
         pixels,
         counts,
         starts,
@@ -181,7 +253,7 @@ fn list_in(
         coefficients,
     ) {
         ReadAnswer::Refused(code, place) => {
-            words::of_reading(code, place, list, list::limit(CONFIGURED, pixels))
+            words::of_reading(code, place, list, list::limit(contents::CONFIGURED, pixels))
         }
         ReadAnswer::Done(splines, points, adjustment) => answer_first(
             counts,

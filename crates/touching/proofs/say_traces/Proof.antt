@@ -3,8 +3,8 @@ use Prim.Native.Nat.{_-_, _≤_}
 use borrow.Author.Needs.{needs}
 use native.Mathlib.Omega.{arith}
 use lib.ListN.{length}
-use Rattle.tables.proofs.touching.say_traces.Statement.{statement}
-use Rattle.tables.proofs.touching.say_traces.Tie as tie
+use Rattle.touching.proofs.say_traces.Statement.{statement}
+use Rattle.touching.proofs.say_traces.Tie as tie
 
 abbrev Inv-loop : tie.InvT-loop
 Inv-loop keys i₀ i = i ≤ length keys

@@ -1,6 +1,6 @@
-// `gauge read` in rooms that are soon cleared and fit a small stack; a description that is too long for them is left to the others.
+// A list or a trace file in rooms that are soon cleared and fit a small stack; a description that is too long for them is left to others.
 ghost use Prim.Native.Nat.{_≤_};
-ghost use Rattle.rooms.specs.Tries.{triedStatus};
+ghost use Rattle.contents.specs.Tries.{triedStatus};
 use crate::Source;
 use crate::telling;
 use codes::Code;

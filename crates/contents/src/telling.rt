@@ -1,4 +1,4 @@
-// `gauge read`: what a description holds.
+// What a description holds, in words.
 ghost use Prim.Native.Nat.{_≤_};
 use crate::Source;
 

@@ -2,8 +2,8 @@
 use Prim.Native.Nat.{_-_, _≤_}
 use borrow.Author.Needs.{needs}
 use lib.ListN.{length}
-use Rattle.rooms.proofs.telling.say_splines.Statement.{statement}
-use Rattle.rooms.proofs.telling.say_splines.Tie as tie
+use Rattle.contents.proofs.telling.say_splines.Statement.{statement}
+use Rattle.contents.proofs.telling.say_splines.Tie as tie
 
 abbrev Inv-loop : tie.InvT-loop
 Inv-loop counts starts k₀ k = k ≤ length counts
