@@ -1,6 +1,6 @@
 -- What drawing one segment answers and leaves, by its checks. A segment is the first of its own eight floats, so the laws of drawing from a flat list speak of it.
 use mathlib.Core.Path.{_≡_, refl, sym, ap, _∙_}
-use mathlib.Core.Bool.{Bool, true, false, cond, _&&_}
+use mathlib.Core.Bool.{Bool, true, false, cond}
 use mathlib.Core.List.{List, [], _∷_}
 use Prim.Native.Nat.{ℕ, _+_, _-_, _*_, _/_, _^_, _<_, _≤_}
 use native.Mathlib.Nat.{zero-add}
@@ -9,13 +9,13 @@ use lib.Dec.{leb, ltb}
 use lib.ListN.{length, getD, take, drop, length-drop}
 use lib.Seq.{getD-drop}
 use lib.Ieee.{Float, nan}
-use borrow.Author.Tests.{ltb-true, leb-true, lt-ltb, le-ltb, lt-leb, le-leb}
+use borrow.Author.Tests.{ltb-true, leb-true, lt-ltb, le-ltb}
 use borrow.Rule.Slice.PartAt.{part-to-end}
 use Rattle.codes.specs.declared.Code.{Code}
 use Rattle.segments.specs.Segment.{field, segmentAt, eightOf}
 use Rattle.segments.specs.Ranges.{hasColumn, columnsOf}
 use Rattle.segments.specs.declared.Segment.{Segment}
-use Rattle.records.specs.declared.SegmentRecord.{SegmentRecord}
+use Rattle.flat_records.specs.declared.SegmentRecord.{SegmentRecord}
 use Rattle.segments.specs.declared.Range.{Range}
 use Rattle.shade.specs.Edit.{edit}
 use Rattle.shade.specs.Shade.{shaded}
@@ -111,23 +111,6 @@ module _ (xs : List Float) (us : List ℕ) (c m i : ℕ) (in-count : i < c) (in-
       ∙ ap (λ (r : SegmentRecord). drawAlone true (withoutOwner r) y x0 n a) filled
 
 -- ---- a segment by its number
-
-and-no : (t : Bool) → t && false ≡ false
-and-no true = refl
-and-no false = refl
-
-module _ (xs : List Float) (c i : ℕ) where
-  pub known-here : i < c → 8 * c ≤ length xs → isKnown xs c i ≡ true
-  unfolding isKnown
-  known-here p q = rw (lt-ltb i c p, le-leb (8 * c) (length xs) q) refl
-
-  pub not-counted : c ≤ i → isKnown xs c i ≡ false
-  unfolding isKnown
-  not-counted p = rw (le-ltb i c p) refl
-
-  pub not-fitting : length xs < 8 * c → isKnown xs c i ≡ false
-  unfolding isKnown
-  not-fitting p = rw (lt-leb (8 * c) (length xs) p) (and-no (ltb i c))
 
 -- what a known number says
 pub record Known (xs : List Float) (c i : ℕ) : Type 0 where

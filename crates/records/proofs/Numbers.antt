@@ -22,9 +22,10 @@ use Rattle.checks.proofs.Checks.{RowFacts, Passed, judged-fine}
 use Rattle.checks.proofs.Refusals.{span-fits, below-each}
 use Rattle.entries.proofs.Entries.{hidden-kept, hidden-counts}
 use Rattle.draw.proofs.Checks.{answer-done}
+use Rattle.flat_records.proofs.Known.{known-here, not-counted, not-fitting}
 use Rattle.records.specs.Records.{isKnown, drawnChannelAlone, drawAlone, drawNumberOf, judgeFor, outcomeFor, drawFor}
 use Rattle.records.specs.Numbers.{KnownIsDrawn, UnknownIsRefused, RowOfOneIsItsNumber, RowOfOneIsItsRecord}
-use Rattle.records.proofs.Alone.{known-here, not-counted, not-fitting, not-known, drawn-alone}
+use Rattle.records.proofs.Alone.{not-known, drawn-alone}
 
 pub known-is-drawn : KnownIsDrawn
 known-is-drawn xs c i y x0 n a l f = ap (λ (known : Bool). drawAlone known (segmentAt xs i) y x0 n a) (known-here xs c i l f)

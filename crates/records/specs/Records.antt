@@ -1,14 +1,15 @@
 -- Segments with their owners as records in a slice: what a flat slice of eight floats a segment and a slice of owners say of the record at an index, a list of such records, and one record drawn. Definitions only.
-use mathlib.Core.Bool.{Bool, cond, _&&_}
+use mathlib.Core.Bool.{Bool, cond}
 use mathlib.Core.List.{List, [], _∷_}
-use Prim.Native.Nat.{ℕ, zero, suc, _+_, _*_, _/_, _^_}
-use lib.Dec.{leb, ltb}
+use Prim.Native.Nat.{ℕ, zero, suc, _+_, _^_}
+use lib.Dec.{ltb}
 use lib.ListN.{length, getD}
 use lib.Ieee.{Float}
-use Rattle.numbers.specs.Arith.{f}
 use Rattle.codes.specs.declared.Code.{Code}
 use Rattle.segments.specs.declared.Segment.{Segment}
-use Rattle.records.specs.declared.SegmentRecord.{SegmentRecord}
+use Rattle.flat_records.specs.declared.SegmentRecord.{SegmentRecord}
+pub use Rattle.flat_records.specs.Records.{joinedOf}
+unfoldable pub use Rattle.flat_records.specs.Records.{zeroRecord, recordOf, isKnown}
 use Rattle.segments.specs.Segment.{segmentAt}
 use Rattle.segments.specs.Ranges.{hasColumn}
 use Rattle.shade.specs.Edit.{edit, firstCells}
@@ -19,7 +20,7 @@ use Rattle.draw.specs.declared.DrawAnswer.the-variants.{Done, Refused}
 use Rattle.desks.specs.Desks.{Sight, sightOf, ownerIn, hiddenIn, deskGood, bytesGood}
 use Rattle.draw.specs.Draw.{count, spanGood, orFault, three, Channels, leaves, DrawOutcome}
 
--- the segment of a record, and a segment and its owner as a record
+-- the segment of a record
 abbrev pub withoutOwner : SegmentRecord → Segment
 withoutOwner r = record {
   «center_x» = r .«center_x»;
@@ -31,37 +32,6 @@ withoutOwner r = record {
   color1 = r .color1;
   color2 = r .color2;
 }
-
-abbrev pub joinedOf : Segment → ℕ → SegmentRecord
-joinedOf s owner = record {
-  «center_x» = s .«center_x»;
-  «center_y» = s .«center_y»;
-  «maximum_distance» = s .«maximum_distance»;
-  «inv_sigma» = s .«inv_sigma»;
-  «sigma_over_4_times_intensity» = s .«sigma_over_4_times_intensity»;
-  color0 = s .color0;
-  color1 = s .color1;
-  color2 = s .color2;
-  owner = owner;
-}
-
--- the record of zeros
-unfoldable pub zeroRecord : SegmentRecord
-zeroRecord = record {
-  «center_x» = f 0;
-  «center_y» = f 0;
-  «maximum_distance» = f 0;
-  «inv_sigma» = f 0;
-  «sigma_over_4_times_intensity» = f 0;
-  color0 = f 0;
-  color1 = f 0;
-  color2 = f 0;
-  owner = 0;
-}
-
--- record k of the first c segments of a flat list with their owners: zeros from c on, and where a list is too short
-unfoldable pub recordOf : List Float → List ℕ → ℕ → ℕ → SegmentRecord
-recordOf xs us c k = cond (ltb k c && (ltb k (length xs / 8) && ltb k (length us))) (joinedOf (segmentAt xs k) (getD us k 0)) zeroRecord
 
 -- n values of g, from i on
 abbrev pub listFrom : {A : Type 0} → (ℕ → A) → ℕ → ℕ → List A
@@ -97,10 +67,6 @@ abbrev pub drawRecordOf : List SegmentRecord → ℕ → ℕ → ℕ → ℕ →
 drawRecordOf records i y x0 n a = drawAlone (ltb i (length records)) (withoutOwner (getD records i zeroRecord)) y x0 n a
 
 -- ---- a segment of a flat list, by its number
-
--- a number is known when it is below the count, and the count fits the floats
-unfoldable pub isKnown : List Float → ℕ → ℕ → Bool
-isKnown xs c i = ltb i c && leb (8 * c) (length xs)
 
 -- what drawing number i of c flat segments answers and leaves
 abbrev pub drawNumberOf : List Float → ℕ → ℕ → ℕ → ℕ → ℕ → Channels → DrawOutcome

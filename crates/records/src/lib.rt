@@ -4,24 +4,15 @@ ghost use mathlib.Core.List.{[], _∷_};
 ghost use lib.ListN.{length, getD};
 ghost use Rattle.desks.specs.Desks.{sightOf};
 ghost use Rattle.draw.specs.Draw.{three, leaves};
-ghost use Rattle.records.specs.Records.{withoutOwner, joinedOf, zeroRecord, recordOf, recordsOf, drawAlone, drawRecordOf, isKnown, drawNumberOf, judgeFor, drawFor};
+ghost use Rattle.records.specs.Records.{withoutOwner, zeroRecord, recordsOf, drawAlone, drawRecordOf, drawNumberOf, judgeFor, drawFor};
 use checks::Verdict;
 use codes::Code;
 use draw::DrawAnswer;
+pub use flat_records::SegmentRecord;
+use flat_records::is_known;
+use flat_records::record_of;
+use flat_records::zero_record;
 use segments::Segment;
-
-// A segment, and the number of the spline that made it.
-pub struct SegmentRecord {
-    pub center_x: f32,
-    pub center_y: f32,
-    pub maximum_distance: f32,
-    pub inv_sigma: f32,
-    pub sigma_over_4_times_intensity: f32,
-    pub color0: f32,
-    pub color1: f32,
-    pub color2: f32,
-    pub owner: u64,
-}
 
 // The segment of a record.
 fn segment_of(whole: SegmentRecord) -> Segment
@@ -37,57 +28,6 @@ fn segment_of(whole: SegmentRecord) -> Segment
         color1: whole.color1,
         color2: whole.color2,
     }
-}
-
-// A segment and its owner as a record.
-fn joined(segment: Segment, owner: u64) -> SegmentRecord
-    ensures { λ r. ⌜ r ≡ joinedOf segment owner ⌝ }
-{
-    SegmentRecord {
-        center_x: segment.center_x,
-        center_y: segment.center_y,
-        maximum_distance: segment.maximum_distance,
-        inv_sigma: segment.inv_sigma,
-        sigma_over_4_times_intensity: segment.sigma_over_4_times_intensity,
-        color0: segment.color0,
-        color1: segment.color1,
-        color2: segment.color2,
-        owner,
-    }
-}
-
-// The record of zeros.
-fn zero_record() -> SegmentRecord
-    ensures { λ r. ⌜ r ≡ zeroRecord ⌝ }
-{
-    SegmentRecord {
-        center_x: 0.0,
-        center_y: 0.0,
-        maximum_distance: 0.0,
-        inv_sigma: 0.0,
-        sigma_over_4_times_intensity: 0.0,
-        color0: 0.0,
-        color1: 0.0,
-        color2: 0.0,
-        owner: 0,
-    }
-}
-
-// Record k of the first `count` segments of a flat slice with their owners, or zeros.
-fn record_of(flat: &[f32], owners: &[u64], count: usize, k: usize) -> SegmentRecord
-    ensures { λ r. ⌜ r ≡ recordOf (now (flat .entry)) (now (owners .entry)) count k ⌝ }
-{
-    if count <= k {
-        return zero_record();
-    }
-    if flat.len() / 8 <= k {
-        return zero_record();
-    }
-    if owners.len() <= k {
-        return zero_record();
-    }
-    let owner = owners[k];
-    joined(Segment::at(flat, k), owner)
 }
 
 // Adds the segment of a record to those of the n pixels of row y from column x0 on whose columns it has, and counts them; `known` says that there is such a record.
@@ -264,19 +204,6 @@ fn draw_in_16(
 }
 
 // ---- a segment of a flat slice, by its number
-
-// Whether a number is below the count, and the count fits the floats.
-fn is_known(flat: &[f32], count: usize, i: usize) -> bool
-    ensures { λ r. ⌜ r ≡ isKnown (now (flat .entry)) count i ⌝ }
-{
-    if count <= i {
-        return false;
-    }
-    if flat.len() / 8 < count {
-        return false;
-    }
-    true
-}
 
 // Draws number i of `count` flat segments by way of records. There may be any number of segments: 16 records are filled, from the multiple of 16 on that is i or comes before it.
 // A number that is not below the count, and every number of a count that the floats do not hold, is TABLE. Drawing reads no owner: those of the 16 are zeros.

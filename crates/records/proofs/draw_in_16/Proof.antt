@@ -49,18 +49,18 @@ use denote.Triple.Clauses.{ensured, lasts}
 use denote.Triple.Table.{entered, cited}
 use denote.Triple.Walked.{says, Stays, stay-dropped, gave-slice, walkOf, AllGo, goes-dropped, goes-gave-slice, Walks, ends-at, walked, walk-meets}
 use denote.Exit.{yes}
-use Rattle.records.specs.declared.SegmentRecord.{SegmentRecord}
-use Rattle.records.proofs.SegmentRecord as T
-use Rattle.records.proofs.SegmentRecord.Laws as T′
+use Rattle.flat_records.specs.declared.SegmentRecord.{SegmentRecord}
+use Rattle.flat_records.proofs.SegmentRecord as T
+use Rattle.flat_records.proofs.SegmentRecord.Laws as T′
 use Rattle.draw.specs.declared.DrawAnswer.{DrawAnswer}
 use Rattle.draw.specs.Draw.{three, leaves}
 use Rattle.draw.proofs.DrawAnswer as D
 use Rattle.draw.proofs.DrawAnswer.Laws as D′
 use Rattle.records.specs.Records.{zeroRecord, recordsOf, drawRecordOf}
-use Rattle.records.proofs.zero_record as zero
-use Rattle.records.proofs.zero_record.Symbol as zero-def
-use Rattle.records.proofs.zero_record.Symbol.{name as #records·zero-record}
-use Rattle.records.proofs.zero_record.Met as zero-thm
+use Rattle.flat_records.proofs.zero_record as zero
+use Rattle.flat_records.proofs.zero_record.Symbol as zero-def
+use Rattle.flat_records.proofs.zero_record.Symbol.{name as #flat-records·zero-record}
+use Rattle.flat_records.proofs.zero_record.Met as zero-thm
 use Rattle.records.proofs.fill_records as fill
 use Rattle.records.proofs.fill_records.Symbol as fill-def
 use Rattle.records.proofs.fill_records.Symbol.{name as #records·fill-records}
@@ -213,7 +213,7 @@ module _ {M : Type 1} (𝓤 : URA M) (H : Heap 𝓤) (A : Atoms 𝓤) (W : Given
         owned ! u32 (Is u32) (uint-makes 𝓤 H A W w32) n _ (refl, n-fits) $ fjoin ! $ owned ! u32 (Is u32) (uint-makes 𝓤 H A W w32) x0 _ (refl, x0-fits) $ fjoin ! $ owned ! u32 (Is u32) (uint-makes 𝓤 H A W w32) y _ (refl, y-fits) $ fjoin ! $
         owned ! usize (Is usize) (uint-makes 𝓤 H A W w64) i _ (refl, i-fits) $ fjoin ! $ move ! (1 ∷ 0 ∷ []) $ fjoin ! $ move ! (1 ∷ 0 ∷ []) $ join ! $ frame ! $ done !
 
-  module _ (C : Calls 𝓤 H) (Λ : Loops 𝓤 H) (fm : FmC 𝓤 H (W .laws) C) (known-zero : Triple 𝓤 (C #records·zero-record) (Zero 𝓤 H A mem′ run)) (known-fill : Triple 𝓤 (C #records·fill-records) (Fill 𝓤 H A mem′ run)) (known-one : Triple 𝓤 (C #records·draw-record) (One 𝓤 H A mem′ run)) where
+  module _ (C : Calls 𝓤 H) (Λ : Loops 𝓤 H) (fm : FmC 𝓤 H (W .laws) C) (known-zero : Triple 𝓤 (C #flat-records·zero-record) (Zero 𝓤 H A mem′ run)) (known-fill : Triple 𝓤 (C #records·fill-records) (Fill 𝓤 H A mem′ run)) (known-one : Triple 𝓤 (C #records·draw-record) (One 𝓤 H A mem′ run)) where
     walk : Room f32 (length (xr .now)) → Room u64 (length (ur .now)) → Room f32 (length (c₀ .now)) → Room f32 (length (c₁ .now)) → Room f32 (length (c₂ .now))
         → ent 𝓤 (onEntry 𝓤 H A f.signature (κ, (κo, (κ₀, (κ₁, (κ₂, tt))))) (q, (qo, (q₀, (q₁, (q₂, tt))))) x at)
         (WpFn 𝓤 H C Λ code.function (slice xr ∷ slice ur ∷ vint w64 c ∷ vint w64 i ∷ vint w32 y ∷ vint w32 x0 ∷ vint w32 n ∷ slice c₀ ∷ slice c₁ ∷ slice c₂ ∷ []) Post)
@@ -281,7 +281,7 @@ module _ {M : Type 1} (𝓤 : URA M) (H : Heap 𝓤) (A : Atoms 𝓤) (W : Given
         move ! (55 ∷ 56 ∷ []) $ free1 ! $ move ! (53 ∷ 54 ∷ []) $ free1 ! $ move ! (51 ∷ 52 ∷ []) $ free1 ! $ move ! (49 ∷ 50 ∷ []) $ free1 ! $ move ! (47 ∷ 48 ∷ []) $ free1 ! $ move ! (45 ∷ 46 ∷ []) $ free1 ! $ move ! (43 ∷ 44 ∷ []) $ free1 ! $ move ! (41 ∷ 42 ∷ []) $ free1 ! $ move ! (39 ∷ 40 ∷ []) $ free1 ! $ move ! (37 ∷ 38 ∷ []) $ free1 ! $ move ! (35 ∷ 36 ∷ []) $ free1 ! $ move ! (33 ∷ 34 ∷ []) $ free1 ! $ move ! (0 ∷ 32 ∷ []) $ free1 ! $ move ! (29 ∷ 30 ∷ []) $ free1 ! $ move ! (27 ∷ 28 ∷ []) $ free1 ! $ move ! (25 ∷ 26 ∷ []) $ free1 ! $ move ! (23 ∷ 24 ∷ []) $ free1 ! $ move ! (21 ∷ 22 ∷ []) $ free1 ! $ move ! (19 ∷ 20 ∷ []) $ free1 ! $ move ! (17 ∷ 18 ∷ []) $ free1 ! $ move ! (15 ∷ 16 ∷ []) $ free1 ! $ move ! (13 ∷ 14 ∷ []) $ free1 ! $ move ! (11 ∷ 12 ∷ []) $ free1 ! $ move ! (9 ∷ 10 ∷ []) $ free1 ! $ free0 ! $
         keep ! (7 ∷ 0 ∷ 5 ∷ 4 ∷ 2 ∷ 1 ∷ []) $ by ! (exits r v (ts .1 .1 .1 .1 .1 .0) (ts .1 .1 .1 .1 .1 .1 .0) (ts .1 .1 .1 .1 .1 .1 .1 .0) n₀ n₁ n₂ d))))))))))))))))))))))))))))))))))))))))))))))))
 
-module _ {M : Type 1} (𝓤 : URA M) (H : Heap 𝓤) (A : Atoms 𝓤) (W : Given 𝓤 H A) (mem′ : Memory → SProp 𝓤) (run : Routine → Fun 𝓤) (𝓣 : Tables 𝓤 H) (known-zero : Triple 𝓤 (𝓣 .C #records·zero-record) (Zero 𝓤 H A mem′ run)) (known-fill : Triple 𝓤 (𝓣 .C #records·fill-records) (Fill 𝓤 H A mem′ run)) (known-one : Triple 𝓤 (𝓣 .C #records·draw-record) (One 𝓤 H A mem′ run)) where
+module _ {M : Type 1} (𝓤 : URA M) (H : Heap 𝓤) (A : Atoms 𝓤) (W : Given 𝓤 H A) (mem′ : Memory → SProp 𝓤) (run : Routine → Fun 𝓤) (𝓣 : Tables 𝓤 H) (known-zero : Triple 𝓤 (𝓣 .C #flat-records·zero-record) (Zero 𝓤 H A mem′ run)) (known-fill : Triple 𝓤 (𝓣 .C #records·fill-records) (Fill 𝓤 H A mem′ run)) (known-one : Triple 𝓤 (𝓣 .C #records·draw-record) (One 𝓤 H A mem′ run)) where
   draw-in-16-walks : Walks 𝓤 H A f.ended stayed (WpFn 𝓤 H (𝓣 .C) (𝓣 .Λ) code.function) (f.clauses 𝓤 H A mem′ run)
   draw-in-16-walks = walked 𝓤 H A f.ended stayed (f.clauses 𝓤 H A mem′ run) (WpFn 𝓤 H (𝓣 .C) (𝓣 .Λ) code.function)
       (λ κs. (slice-vals, (slice-vals, (uint-vals w64, (uint-vals w64, (uint-vals w32, (uint-vals w32, (uint-vals w32, (slice-vals, (slice-vals, (slice-vals, tt)))))))))))
@@ -324,7 +324,7 @@ draw-in-16-spec 𝓤 H 𝓜 𝓖 𝓡 =
     entered 𝓤 H (tripleOf 𝓤 H (𝓖 .A) f.signature (f.spec 𝓤 H (𝓖 .A) (𝓜 .mem) (𝓡 .run)))
     (tables 𝓤 H 𝓜 𝓡 code.env .C) (tables 𝓤 H 𝓜 𝓡 code.env .Λ) #records·draw-in-16 code.function (code.unfolded 𝓤 H 𝓜 𝓡)
     (draw-in-16-meets 𝓤 H (𝓖 .A) (givenOf 𝓤 H 𝓜 𝓖) (𝓜 .mem) (𝓡 .run) (tablesOf 𝓤 H 𝓜 (tables 𝓤 H 𝓜 𝓡 code.env))
-    (cited 𝓤 H (Zero 𝓤 H (𝓖 .A) (𝓜 .mem) (𝓡 .run)) 𝓜 𝓡 code.env #records·zero-record zero-def.routine code.calls-records·zero-record (zero-thm.met 𝓤 H 𝓜 𝓖 𝓡))
+    (cited 𝓤 H (Zero 𝓤 H (𝓖 .A) (𝓜 .mem) (𝓡 .run)) 𝓜 𝓡 code.env #flat-records·zero-record zero-def.routine code.calls-flat-records·zero-record (zero-thm.met 𝓤 H 𝓜 𝓖 𝓡))
     (cited 𝓤 H (Fill 𝓤 H (𝓖 .A) (𝓜 .mem) (𝓡 .run)) 𝓜 𝓡 code.env #records·fill-records fill-def.routine code.calls-records·fill-records (fill-thm.met 𝓤 H 𝓜 𝓖 𝓡))
     (cited 𝓤 H (One 𝓤 H (𝓖 .A) (𝓜 .mem) (𝓡 .run)) 𝓜 𝓡 code.env #records·draw-record one-def.routine code.calls-records·draw-record (one-thm.met 𝓤 H 𝓜 𝓖 𝓡)))
 

@@ -39,9 +39,9 @@ use denote.Triple.Clauses.{ensured, lasts}
 use denote.Triple.Table.{entered, cited}
 use denote.Triple.Walked.{says, Stays, stay-dropped, gave-slice, walkOf, AllGo, goes-dropped, goes-gave-slice, Walks, ends-at, walked, walk-meets}
 use denote.Exit.{yes}
-use Rattle.records.specs.declared.SegmentRecord.{SegmentRecord}
-use Rattle.records.proofs.SegmentRecord as T
-use Rattle.records.proofs.SegmentRecord.Laws as T′
+use Rattle.flat_records.specs.declared.SegmentRecord.{SegmentRecord}
+use Rattle.flat_records.proofs.SegmentRecord as T
+use Rattle.flat_records.proofs.SegmentRecord.Laws as T′
 use Rattle.draw.specs.declared.DrawAnswer.{DrawAnswer}
 use Rattle.draw.specs.Draw.{three, leaves}
 use Rattle.draw.proofs.DrawAnswer as D

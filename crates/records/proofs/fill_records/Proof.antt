@@ -53,15 +53,15 @@ use denote.Triple.Clauses.{ensured, lasts}
 use denote.Triple.Table.{entered, cited}
 use denote.Triple.Walked.{says, Stays, stay-slice, stay-none, stay-none-slice, walkOf, AllGo, goes-slice, goes-none, goes-none-slice, Walks, ends-at, walked, walk-meets}
 use denote.Exit.{yes}
-use Rattle.records.specs.declared.SegmentRecord.{SegmentRecord}
+use Rattle.flat_records.specs.declared.SegmentRecord.{SegmentRecord}
 use Rattle.records.specs.Records.{zeroRecord, recordOf}
 use Rattle.records.proofs.Fills.{fills, length-fills, fills-all}
-use Rattle.records.proofs.SegmentRecord as T
-use Rattle.records.proofs.SegmentRecord.Laws as T′
-use Rattle.records.proofs.record_of as record-of
-use Rattle.records.proofs.record_of.Symbol as record-of-def
-use Rattle.records.proofs.record_of.Symbol.{name as #records·record-of}
-use Rattle.records.proofs.record_of.Met as record-of-thm
+use Rattle.flat_records.proofs.SegmentRecord as T
+use Rattle.flat_records.proofs.SegmentRecord.Laws as T′
+use Rattle.flat_records.proofs.record_of as record-of
+use Rattle.flat_records.proofs.record_of.Symbol as record-of-def
+use Rattle.flat_records.proofs.record_of.Symbol.{name as #flat-records·record-of}
+use Rattle.flat_records.proofs.record_of.Met as record-of-thm
 use Rattle.records.proofs.fill_records.Key.{name as #records·fill-records}
 use Rattle.records.proofs.fill_records as f
 use Rattle.records.proofs.fill_records.Statement as stated
@@ -155,7 +155,7 @@ module _ {M : Type 1} (𝓤 : URA M) (H : Heap 𝓤) (A : Atoms 𝓤) (W : Given
       nothing ! $ move ! (1 ∷ 0 ∷ []) $ fjoin ! $ owned ! usize (Is usize) (uint-makes 𝓤 H A W w64) c _ (refl, c-fits) $ fjoin ! $ move ! (2 ∷ 0 ∷ []) $ fjoin ! $ move ! (1 ∷ 0 ∷ []) $ fjoin ! $ frame ! $
       feqI ! (List Val) (vunit ∷ []) (vunit ∷ []) refl $ done !
 
-  module _ (𝓣 : Tables 𝓤 H) (known : Triple 𝓤 (𝓣 .C #records·record-of) (RecordOf 𝓤 H A mem run)) (room : Room T.the-row n) (l₀ l₁ l₂ l₃ l₄ l₅ l₆ l₇ l₈ l₉ : ℕ) where
+  module _ (𝓣 : Tables 𝓤 H) (known : Triple 𝓤 (𝓣 .C #flat-records·record-of) (RecordOf 𝓤 H A mem run)) (room : Room T.the-row n) (l₀ l₁ l₂ l₃ l₄ l₅ l₆ l₇ l₈ l₉ : ℕ) where
     abbrev C : Calls 𝓤 H
     C = 𝓣 .C
 
@@ -265,7 +265,7 @@ module _ {M : Type 1} (𝓤 : URA M) (H : Heap 𝓤) (A : Atoms 𝓤) (W : Given
         (loop-rule 𝓤 H (W .laws) 𝓣 _<_ (Nat·lt-wfRel .wf) En mir-of.turn-1 Left Inv turns n)
 
   -- the MIR, up to the loop: the borrow is opened once, before it
-  walk : (𝓣 : Tables 𝓤 H) → Triple 𝓤 (𝓣 .C #records·record-of) (RecordOf 𝓤 H A mem run) → length (xr .now) < 2 ^ 64 → length (ur .now) < 2 ^ 64 → Room T.the-row n
+  walk : (𝓣 : Tables 𝓤 H) → Triple 𝓤 (𝓣 .C #flat-records·record-of) (RecordOf 𝓤 H A mem run) → length (xr .now) < 2 ^ 64 → length (ur .now) < 2 ^ 64 → Room T.the-row n
       → ent 𝓤 (onEntry 𝓤 H A f.signature (κ, (κo, (κ′, tt))) (q, (qo, (q′, tt))) x at) (WpFn 𝓤 H (𝓣 .C) (𝓣 .Λ) code.function (flat-val ∷ owner-val ∷ vint w64 c ∷ sliceVal (b, o) n ∷ []) Post)
   walk 𝓣 known flat-fits owner-fits room =
       qed W ((‵ (flft κ q) ⊛ ‵ (flft κo qo) ⊛ ‵ (flft κ′ q′) ⊛ ‵ ftrue) ∷ ‵ (owns (ShrSlice (named 0) κ f32 ∷ ShrSlice (named 1) κo u64 ∷ usize ∷ MutSlice (named 2) κ′ T.the-row ∷ []) x at) ∷ []) ∵ enter ! (𝓣 .C) (𝓣 .Λ) code.function (flat-val ∷ owner-val ∷ vint w64 c ∷ sliceVal (b, o) n ∷ []) _ $
@@ -280,7 +280,7 @@ module _ {M : Type 1} (𝓤 : URA M) (H : Heap 𝓤) (A : Atoms 𝓤) (W : Given
       keep ! (0 ∷ 19 ∷ 17 ∷ 15 ∷ 13 ∷ 11 ∷ 6 ∷ 10 ∷ 5 ∷ 9 ∷ 21 ∷ 23 ∷ 25 ∷ 27 ∷ 29 ∷ 1 ∷ 2 ∷ 3 ∷ 30 ∷ 28 ∷ 26 ∷ 24 ∷ 22 ∷ 20 ∷ 18 ∷ 16 ∷ 14 ∷ 12 ∷ []) $ by ! (loops 𝓣 known room l₀ l₁ l₂ l₃ l₄ l₅ l₆ l₇ l₈ l₉)))))))))))
 
 module _ {M : Type 1} (𝓤 : URA M) (H : Heap 𝓤) (A : Atoms 𝓤) (W : Given 𝓤 H A) (mem : Memory → SProp 𝓤) (run : Routine → Fun 𝓤) (𝓣 : Tables 𝓤 H) where
-  fill-records-walks : Triple 𝓤 (𝓣 .C #records·record-of) (RecordOf 𝓤 H A mem run) → Walks 𝓤 H A f.ended stayed (WpFn 𝓤 H (𝓣 .C) (𝓣 .Λ) code.function) (f.clauses 𝓤 H A mem run)
+  fill-records-walks : Triple 𝓤 (𝓣 .C #flat-records·record-of) (RecordOf 𝓤 H A mem run) → Walks 𝓤 H A f.ended stayed (WpFn 𝓤 H (𝓣 .C) (𝓣 .Λ) code.function) (f.clauses 𝓤 H A mem run)
   fill-records-walks known = walked 𝓤 H A f.ended stayed (f.clauses 𝓤 H A mem run) (WpFn 𝓤 H (𝓣 .C) (𝓣 .Λ) code.function) (λ κs. (slice-vals, (slice-vals, (uint-vals w64, (slice-vals, tt))))) (λ κs. (shr-slice-tells (named 0) (κs .0) f32, (shr-slice-tells (named 1) (κs .1 .0) u64, (uint-tells w64, (mut-slice-tells (named 2) (κs .1 .1 .0) T.the-row, tt)))))
       (λ κs qs bounds a _ are. via 𝓤 _ (fst∗ 𝓤 _ (emp 𝓤))
       (walk 𝓤 H A W mem run (κs .0) (κs .1 .0) (κs .1 .1 .0) (qs .0) (qs .1 .0) (qs .1 .1 .0) (a .0) (a .1 .0) (a .1 .1 .0) (a .1 .1 .1 .0 .ptr .0) (a .1 .1 .1 .0 .ptr .1) (a .1 .1 .1 .0 .name) (a .1 .1 .1 .0 .now) (are .1 .1 .0 .1) 𝓣 known (are .0 .0 .1 .0) (are .1 .0 .0 .1 .0) (are .1 .1 .1 .0 .0 .1)))
@@ -288,7 +288,7 @@ module _ {M : Type 1} (𝓤 : URA M) (H : Heap 𝓤) (A : Atoms 𝓤) (W : Given
   goes : AllGo 𝓤 H A W 3 (f.signature .params) (f.ended .kept) stayed
   goes = (goes-none-slice 𝓤 H A W 3 (0 ∷ []) tt (plain (λ _. f32)) yes, (goes-none-slice 𝓤 H A W 3 (1 ∷ []) tt (plain (λ _. u64)) yes, (goes-none 𝓤 H A W 3 (λ _. usize) yes (λ κs x f. refl), (goes-slice 𝓤 H A W 3 2 tt (plain (λ _. T.the-row)), tt))))
 
-  fill-records-meets : Triple 𝓤 (𝓣 .C #records·record-of) (RecordOf 𝓤 H A mem run) → Meets 𝓤 H A f.signature (WpFn 𝓤 H (𝓣 .C) (𝓣 .Λ) code.function) (f.spec 𝓤 H A mem run)
+  fill-records-meets : Triple 𝓤 (𝓣 .C #flat-records·record-of) (RecordOf 𝓤 H A mem run) → Meets 𝓤 H A f.signature (WpFn 𝓤 H (𝓣 .C) (𝓣 .Λ) code.function) (f.spec 𝓤 H A mem run)
   fill-records-meets known = walk-meets 𝓤 H A f.ended stayed W goes (f.clauses 𝓤 H A mem run) (WpFn 𝓤 H (𝓣 .C) (𝓣 .Λ) code.function) (WpFn-mono 𝓤 H (W .laws) 𝓣 code.function) (fill-records-walks known)
 
 pub fill-records-spec : {M : Type 1} → stated.statement M
@@ -297,6 +297,6 @@ fill-records-spec 𝓤 H 𝓜 𝓖 𝓡 =
     entered 𝓤 H (tripleOf 𝓤 H (𝓖 .A) f.signature (f.spec 𝓤 H (𝓖 .A) (𝓜 .mem) (𝓡 .run)))
     (tables 𝓤 H 𝓜 𝓡 code.env .C) (tables 𝓤 H 𝓜 𝓡 code.env .Λ) #records·fill-records code.function (code.unfolded 𝓤 H 𝓜 𝓡)
     (fill-records-meets 𝓤 H (𝓖 .A) (givenOf 𝓤 H 𝓜 𝓖) (𝓜 .mem) (𝓡 .run) (tablesOf 𝓤 H 𝓜 (tables 𝓤 H 𝓜 𝓡 code.env))
-    (cited 𝓤 H (RecordOf 𝓤 H (𝓖 .A) (𝓜 .mem) (𝓡 .run)) 𝓜 𝓡 code.env #records·record-of record-of-def.routine code.calls-records·record-of (record-of-thm.met 𝓤 H 𝓜 𝓖 𝓡)))
+    (cited 𝓤 H (RecordOf 𝓤 H (𝓖 .A) (𝓜 .mem) (𝓡 .run)) 𝓜 𝓡 code.env #flat-records·record-of record-of-def.routine code.calls-flat-records·record-of (record-of-thm.met 𝓤 H 𝓜 𝓖 𝓡)))
 
 -- Assumes nothing.

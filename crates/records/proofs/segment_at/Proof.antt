@@ -41,14 +41,14 @@ use denote.Triple.Spec.{Meets, tripleOf}
 use denote.Triple.Table.{entered, cited}
 use denote.Triple.Walked.{says, Stays, stay-none-slice, stay-none, walkOf, AllGo, goes-none-slice, goes-none, Walks, ends-at, walked, walk-meets}
 use denote.Exit.{yes}
-use Rattle.records.specs.declared.SegmentRecord.{SegmentRecord}
+use Rattle.flat_records.specs.declared.SegmentRecord.{SegmentRecord}
 use Rattle.records.specs.Records.{zeroRecord}
-use Rattle.records.proofs.SegmentRecord as T
-use Rattle.records.proofs.SegmentRecord.Laws as T′
-use Rattle.records.proofs.zero_record as zero
-use Rattle.records.proofs.zero_record.Symbol as zero-def
-use Rattle.records.proofs.zero_record.Symbol.{name as #records·zero-record}
-use Rattle.records.proofs.zero_record.Met as zero-thm
+use Rattle.flat_records.proofs.SegmentRecord as T
+use Rattle.flat_records.proofs.SegmentRecord.Laws as T′
+use Rattle.flat_records.proofs.zero_record as zero
+use Rattle.flat_records.proofs.zero_record.Symbol as zero-def
+use Rattle.flat_records.proofs.zero_record.Symbol.{name as #flat-records·zero-record}
+use Rattle.flat_records.proofs.zero_record.Met as zero-thm
 use Rattle.records.proofs.segment_at.Key.{name as #records·segment-at}
 use Rattle.records.proofs.segment_at as f
 use Rattle.records.proofs.segment_at.Statement as stated
@@ -109,7 +109,7 @@ module _ {M : Type 1} (𝓤 : URA M) (H : Heap 𝓤) (A : Atoms 𝓤) (W : Given
   said : (r : SegmentRecord) → ent 𝓤 (ensured 𝓤 H A zero.ended (zero.clauses 𝓤 H A mem run) tt tt tt r) (fact 𝓤 (r ≡ zeroRecord))
   said r = exE 𝓤 _ (λ ws. snd∗ 𝓤 (sem 𝓤 H A (lasts zero.ended tt tt ws)) (fact 𝓤 (r ≡ zeroRecord)))
 
-  module _ (C : Calls 𝓤 H) (Λ : Loops 𝓤 H) (fm : FmC 𝓤 H (W .laws) C) (known : Triple 𝓤 (C #records·zero-record) (Zero 𝓤 H A mem run)) where
+  module _ (C : Calls 𝓤 H) (Λ : Loops 𝓤 H) (fm : FmC 𝓤 H (W .laws) C) (known : Triple 𝓤 (C #flat-records·zero-record) (Zero 𝓤 H A mem run)) where
     walk : Room T.the-row (length ys) → i < 2 ^ 64 → ent 𝓤 (onEntry 𝓤 H A f.signature (κ, tt) (q, tt) x at)
         (WpFn 𝓤 H C Λ code.function (sliceVal (b, o) (length ys) ∷ vint w64 i ∷ []) Post)
     walk room gi =
@@ -152,7 +152,7 @@ module _ {M : Type 1} (𝓤 : URA M) (H : Heap 𝓤) (A : Atoms 𝓤) (W : Given
         keep ! (1 ∷ 2 ∷ 3 ∷ 0 ∷ []) $ by ! (exits r w (e ∙ sym (List·getD-eq-default ys zeroRecord (nltb→le i (length ys) failed)))))))))))))))))
 
 module _ {M : Type 1} (𝓤 : URA M) (H : Heap 𝓤) (A : Atoms 𝓤) (W : Given 𝓤 H A) (mem : Memory → SProp 𝓤) (run : Routine → Fun 𝓤) where
-  segment-at-walks : (C : Calls 𝓤 H) (Λ : Loops 𝓤 H) → FmC 𝓤 H (W .laws) C → Triple 𝓤 (C #records·zero-record) (Zero 𝓤 H A mem run) → Walks 𝓤 H A f.ended stayed (WpFn 𝓤 H C Λ code.function) (f.clauses 𝓤 H A mem run)
+  segment-at-walks : (C : Calls 𝓤 H) (Λ : Loops 𝓤 H) → FmC 𝓤 H (W .laws) C → Triple 𝓤 (C #flat-records·zero-record) (Zero 𝓤 H A mem run) → Walks 𝓤 H A f.ended stayed (WpFn 𝓤 H C Λ code.function) (f.clauses 𝓤 H A mem run)
   segment-at-walks C Λ fm known = walked 𝓤 H A f.ended stayed (f.clauses 𝓤 H A mem run) (WpFn 𝓤 H C Λ code.function) (λ κs. (slice-vals, (uint-vals w64, tt))) (λ κs. (shr-slice-tells (named 0) (κs .0) T.the-row, (uint-tells w64, tt)))
       (λ κs qs bounds a g are. via 𝓤 _ (fst∗ 𝓤 _ (emp 𝓤))
       (walk 𝓤 H A W mem run (κs .0) (qs .0) (a .0 .ptr .0) (a .0 .ptr .1) (a .0 .name) (a .0 .now) (a .1 .0) C Λ fm known (are .0 .0 .1) (are .1 .0 .1)))
@@ -160,7 +160,7 @@ module _ {M : Type 1} (𝓤 : URA M) (H : Heap 𝓤) (A : Atoms 𝓤) (W : Given
   goes : AllGo 𝓤 H A W 1 (f.signature .params) (f.ended .kept) stayed
   goes = (goes-none-slice 𝓤 H A W 1 (0 ∷ []) tt (plain (λ _. T.the-row)) yes, (goes-none 𝓤 H A W 1 (λ _. usize) yes (λ κs x f. refl), tt))
 
-  segment-at-meets : (𝓣 : Tables 𝓤 H) → Triple 𝓤 (𝓣 .C #records·zero-record) (Zero 𝓤 H A mem run) → Meets 𝓤 H A f.signature (WpFn 𝓤 H (𝓣 .C) (𝓣 .Λ) code.function) (f.spec 𝓤 H A mem run)
+  segment-at-meets : (𝓣 : Tables 𝓤 H) → Triple 𝓤 (𝓣 .C #flat-records·zero-record) (Zero 𝓤 H A mem run) → Meets 𝓤 H A f.signature (WpFn 𝓤 H (𝓣 .C) (𝓣 .Λ) code.function) (f.spec 𝓤 H A mem run)
   segment-at-meets 𝓣 known = walk-meets 𝓤 H A f.ended stayed W goes (f.clauses 𝓤 H A mem run) (WpFn 𝓤 H (𝓣 .C) (𝓣 .Λ) code.function) (WpFn-mono 𝓤 H (W .laws) 𝓣 code.function) (segment-at-walks (𝓣 .C) (𝓣 .Λ) (fmOf 𝓤 H (W .laws) 𝓣) known)
 
 pub segment-at-spec : {M : Type 1} → stated.statement M
@@ -169,6 +169,6 @@ segment-at-spec 𝓤 H 𝓜 𝓖 𝓡 =
     entered 𝓤 H (tripleOf 𝓤 H (𝓖 .A) f.signature (f.spec 𝓤 H (𝓖 .A) (𝓜 .mem) (𝓡 .run)))
     (tables 𝓤 H 𝓜 𝓡 code.env .C) (tables 𝓤 H 𝓜 𝓡 code.env .Λ) #records·segment-at code.function (code.unfolded 𝓤 H 𝓜 𝓡)
     (segment-at-meets 𝓤 H (𝓖 .A) (givenOf 𝓤 H 𝓜 𝓖) (𝓜 .mem) (𝓡 .run) (tablesOf 𝓤 H 𝓜 (tables 𝓤 H 𝓜 𝓡 code.env))
-    (cited 𝓤 H (Zero 𝓤 H (𝓖 .A) (𝓜 .mem) (𝓡 .run)) 𝓜 𝓡 code.env #records·zero-record zero-def.routine code.calls-records·zero-record (zero-thm.met 𝓤 H 𝓜 𝓖 𝓡)))
+    (cited 𝓤 H (Zero 𝓤 H (𝓖 .A) (𝓜 .mem) (𝓡 .run)) 𝓜 𝓡 code.env #flat-records·zero-record zero-def.routine code.calls-flat-records·zero-record (zero-thm.met 𝓤 H 𝓜 𝓖 𝓡)))
 
 -- Assumes nothing.

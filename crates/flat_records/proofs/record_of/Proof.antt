@@ -8,10 +8,10 @@ use lib.Ieee.{Float}
 use borrow.Author.Tests.{lt-ltb, le-ltb}
 use Rattle.segments.specs.declared.Segment.{Segment}
 use Rattle.segments.specs.Segment.{segmentAt}
-use Rattle.records.specs.Records.{joinedOf, zeroRecord, recordOf}
+use Rattle.flat_records.specs.Records.{joinedOf, zeroRecord, recordOf}
 use borrow.Author.Needs.{needs}
-use Rattle.records.proofs.record_of.Statement.{statement}
-use Rattle.records.proofs.record_of.Tie as tie
+use Rattle.flat_records.proofs.record_of.Statement.{statement}
+use Rattle.flat_records.proofs.record_of.Tie as tie
 
 shown : (xs : List Float) (us : List ℕ) (c k : ℕ) → k < c → k < length xs / 8 → k < length us → joinedOf (segmentAt xs k) (getD us k 0) ≡ recordOf xs us c k
 unfolding recordOf

@@ -1,9 +1,9 @@
 -- The definition's two tests are those of the code.
 use mathlib.Core.Path.{sym}
 use native.Mathlib.Omega.{arith}
-use Rattle.records.proofs.Alone.{known-here, not-counted, not-fitting}
-use Rattle.records.proofs.is_known.Statement.{statement}
-use Rattle.records.proofs.is_known.Tie as tie
+use Rattle.flat_records.proofs.Known.{known-here, not-counted, not-fitting}
+use Rattle.flat_records.proofs.is_known.Statement.{statement}
+use Rattle.flat_records.proofs.is_known.Tie as tie
 
 returns : tie.Need-returns
 returns c =

@@ -1,8 +1,8 @@
 -- `records::zero_record` meets its contract: the definition is unfolded.
 use borrow.Author.Needs.{needs}
-use Rattle.records.specs.Records.{zeroRecord}
-use Rattle.records.proofs.zero_record.Statement.{statement}
-use Rattle.records.proofs.zero_record.Tie as tie
+use Rattle.flat_records.specs.Records.{zeroRecord}
+use Rattle.flat_records.proofs.zero_record.Statement.{statement}
+use Rattle.flat_records.proofs.zero_record.Tie as tie
 
 returns : tie.Need-returns
 unfolding zeroRecord

@@ -1,0 +1,2 @@
+-- The laws of the crate `flat_records`.
+pub mod Known

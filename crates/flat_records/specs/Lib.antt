@@ -1,0 +1,2 @@
+-- The definitions of the crate `flat_records`.
+pub mod Records
