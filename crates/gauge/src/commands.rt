@@ -1,6 +1,4 @@
 // The commands, by their words.
-use crate::arguments;
-
 pub enum Command {
     Read,
     Rows,
@@ -18,13 +16,13 @@ pub enum Command {
 
 // A command that makes a file or takes one in.
 fn making_at(i: usize) -> Command {
-    if arguments::is_argument(i, b"draw") {
+    if asking::is_argument(i, b"draw") {
         return Command::Draw;
     }
-    if arguments::is_argument(i, b"trace") {
+    if asking::is_argument(i, b"trace") {
         return Command::Trace;
     }
-    if arguments::is_argument(i, b"svg") {
+    if asking::is_argument(i, b"svg") {
         return Command::Svg;
     }
     Command::None
@@ -32,16 +30,16 @@ fn making_at(i: usize) -> Command {
 
 // A command of a table or of a profile, or one of those.
 fn table_at(i: usize) -> Command {
-    if arguments::is_argument(i, b"bands") {
+    if asking::is_argument(i, b"bands") {
         return Command::Bands;
     }
-    if arguments::is_argument(i, b"table") {
+    if asking::is_argument(i, b"table") {
         return Command::Table;
     }
-    if arguments::is_argument(i, b"check") {
+    if asking::is_argument(i, b"check") {
         return Command::Check;
     }
-    if arguments::is_argument(i, b"profile") {
+    if asking::is_argument(i, b"profile") {
         return Command::Profile;
     }
     making_at(i)
@@ -49,16 +47,16 @@ fn table_at(i: usize) -> Command {
 
 // The command that argument i is.
 pub fn command_at(i: usize) -> Command {
-    if arguments::is_argument(i, b"read") {
+    if asking::is_argument(i, b"read") {
         return Command::Read;
     }
-    if arguments::is_argument(i, b"rows") {
+    if asking::is_argument(i, b"rows") {
         return Command::Rows;
     }
-    if arguments::is_argument(i, b"touch") {
+    if asking::is_argument(i, b"touch") {
         return Command::Touch;
     }
-    if arguments::is_argument(i, b"why") {
+    if asking::is_argument(i, b"why") {
         return Command::Why;
     }
     table_at(i)

@@ -1,20 +1,18 @@
 // What a list of decoded values or a trace file holds, what it draws, which rows and bands, whose a pixel is, why a segment sits where it does, its row table and another maker's, whether it meets the fineness profile,
 // either made from the other, and its line drawing: `gauge read`, `gauge draw`, `gauge rows`, `gauge bands`, `gauge touch`, `gauge why`, `gauge table`, `gauge check`, `gauge profile`, `gauge trace`, `gauge svg`.
 // A program has no exit status: with `--status` it is written as a digit to descriptor 3 (0: done, 1: refused, 2: wrong use).
-mod arguments;
 mod commands;
-mod options;
 mod rooms;
 
 ghost use Prim.Native.Nat.{_≤_};
-use arguments::Number;
+use asking::Number;
+use asking::Options;
 use canvas::Asked;
 use canvas::Task;
 use commands::Command;
 use contents::Tried;
 use drawing::Wanted;
 use files::Loaded;
-use options::Options;
 
 // As many as a list of 4096 splines and 2^20 points has.
 const VALUES: usize = 2633730;
@@ -225,10 +223,10 @@ fn is_within(n: u32, most: u32) -> bool {
 fn two_at(i: u8) -> Two
     requires { ⌜ i ≤ 60 ⌝ }
 {
-    let Number::Is(a) = arguments::argument(i as usize) else {
+    let Number::Is(a) = asking::argument(i as usize) else {
         return Two::Not;
     };
-    let Number::Is(b) = arguments::argument(i as usize + 1) else {
+    let Number::Is(b) = asking::argument(i as usize + 1) else {
         return Two::Not;
     };
     Two::Are(a, b)
@@ -298,7 +296,7 @@ fn touch(i: u8, options: Options) -> u8
 fn why_in(i: u8, width: u32, height: u32, options: Options) -> u8
     requires { ⌜ i ≤ 40 ⌝ }
 {
-    match arguments::argument(i as usize + 3) {
+    match asking::argument(i as usize + 3) {
         Number::Is(n) => perform(i as usize, task(options, width, height, Asked::Why(n))),
         _ => words::wrong(2, b"the number of a segment is due\n", &[]),
     }
@@ -330,7 +328,7 @@ fn profile(i: u8, more: usize, options: Options) -> u8
     let edition = if more == 1 {
         1
     } else {
-        options::edition_at(i as usize + 1)
+        asking::edition_at(i as usize + 1)
     };
     perform(i as usize, task(options, 0, 0, Asked::Profile(edition)))
 }
@@ -457,10 +455,10 @@ fn trace_in(i: u8, options: Options) -> u8
 fn trace(i: u8, options: Options) -> u8
     requires { ⌜ i ≤ 40 ⌝ }
 {
-    if arguments::is_argument(i as usize, b"out") {
+    if asking::is_argument(i as usize, b"out") {
         return trace_out(i + 1, options);
     }
-    if arguments::is_argument(i as usize, b"in") {
+    if asking::is_argument(i as usize, b"in") {
         return trace_in(i + 1, options);
     }
     usage()
@@ -507,7 +505,7 @@ fn svg_in(i: u8, wanted: Wanted) -> u8 {
 fn svg_in_one(i: u8) -> u8
     requires { ⌜ i ≤ 60 ⌝ }
 {
-    match arguments::argument(i as usize + 1) {
+    match asking::argument(i as usize + 1) {
         Number::Is(n) => svg_in(i, Wanted::One(n)),
         _ => words::wrong(2, b"the number of a trace is due\n", &[]),
     }
@@ -518,13 +516,13 @@ fn svg(i: u8, more: usize, options: Options) -> u8
     requires { ⌜ i ≤ 40 ⌝ }
 {
     if more == 5 {
-        return if arguments::is_argument(i as usize, b"out") {
+        return if asking::is_argument(i as usize, b"out") {
             svg_out(i + 1, options)
         } else {
             usage()
         };
     }
-    if !arguments::is_argument(i as usize, b"in") {
+    if !asking::is_argument(i as usize, b"in") {
         return usage();
     }
     match more {
@@ -563,7 +561,7 @@ fn run_words(at: u8, more: usize, options: Options) -> u8
 fn run_from(at: u8) -> u8
     requires { ⌜ at ≤ 2 ⌝ }
 {
-    let options = options::options_from(at);
+    let options = asking::options_from(at);
     if !options.good {
         return usage();
     }
@@ -590,7 +588,7 @@ fn tell(status: u8) {
 }
 
 fn main() {
-    if arguments::is_argument(1, b"--status") {
+    if asking::is_argument(1, b"--status") {
         tell(run_from(2));
     } else {
         run_from(1);

@@ -1,4 +1,4 @@
-// Arguments taken apart.
+// Arguments taken apart. What stands in them is the caller's, so nothing is promised of it.
 use text::Parsed;
 
 // An argument that is a number.
@@ -7,7 +7,10 @@ pub enum Number {
     Not,
 }
 
-pub fn is_argument(i: usize, word: &[u8]) -> bool {
+// Whether argument i is this word.
+pub fn is_argument(i: usize, word: &[u8]) -> bool
+    ensures { λ _. ⊤ₛ }
+{
     let mut held = [0u8; 16];
     let n = os::arg(i, &mut held);
     if os::errno() != 0 {
@@ -16,7 +19,10 @@ pub fn is_argument(i: usize, word: &[u8]) -> bool {
     text::same(&held[..n], word)
 }
 
-pub fn argument(i: usize) -> Number {
+// The number that argument i says.
+pub fn argument(i: usize) -> Number
+    ensures { λ _. ⊤ₛ }
+{
     let mut held = [0u8; 16];
     let n = os::arg(i, &mut held);
     if os::errno() != 0 {

@@ -93,7 +93,9 @@ fn with_desk(o: Options) -> Options
 }
 
 // An edition that is no number, or 0, is none that there is.
-pub fn edition_at(i: usize) -> u32 {
+pub fn edition_at(i: usize) -> u32
+    ensures { λ r. ⌜ 1 ≤ r ⌝ }
+{
     match arguments::argument(i) {
         Number::Is(edition) => if edition == 0 { 3 } else { edition },
         Number::Not => 3,
