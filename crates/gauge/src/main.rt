@@ -2,7 +2,6 @@
 // either made from the other, and its line drawing: `gauge read`, `gauge draw`, `gauge rows`, `gauge bands`, `gauge touch`, `gauge why`, `gauge table`, `gauge check`, `gauge profile`, `gauge trace`, `gauge svg`.
 // A program has no exit status: with `--status` it is written as a digit to descriptor 3 (0: done, 1: refused, 2: wrong use).
 mod commands;
-mod rooms;
 
 ghost use Prim.Native.Nat.{_≤_};
 use asking::Number;
