@@ -1,18 +1,20 @@
-# What `./gauge`, `./library` and `./test` share: whether the kit is the one that README.md names, and a line that tells how far the proving is.
+# What `./gauge`, `./library` and `./test` share: whether the kit is one that README.md names, a line that tells how far the proving is, and where the prover has its scratch files.
 # Sourced with $top, the repository's top.
 #   kit_ready                  whether rt can be used; else $kit_missing says in a line what is wrong
-#   telling_starts WHO CRATE.. counts from now on, under this name, the crates that are proved of these and all that they need
-#   telling_ends               no more of it
+#   proving_starts WHO CRATE.. counts from now on, under this name, the crates that are proved of these and all that they need
+#   proving_ends               no more of it
 # At a terminal the line stays in its place; elsewhere there is one every half minute. It goes to standard error.
 
-telling=''
+telling='' scratch=''
 
 kit_ready() {
     kit_missing='the command rt of the Rattle kit is not on PATH, and nothing is proved without it: put the bin folder of the kit there'
     command -v rt >/dev/null 2>&1 || return 1
-    pinned=$(sed -n 's/.*`rt version`: `\([^`]*\)`.*/\1/p' "$top/README.md")
+    # The line that names the kits: the one that is due, and others that prove the same.
+    named=$(grep -F '`rt version`' "$top/README.md")
+    pinned=$(printf '%s\n' "$named" | sed -n 's/.*`rt version`: `\([^`]*\)`.*/\1/p')
     here=$(rt version 2>/dev/null)
-    [ "$here" != "$pinned" ] || return 0
+    case $named in *"\`$here\`"*) return 0 ;; esac
     kit_missing="the command rt on PATH does not tell its version: the kit due is $pinned"
     [ -n "$here" ] || return 1
     kit_missing="the kit here, $here, is older than $pinned, which README.md names"
@@ -58,18 +60,38 @@ tell_on() { # WHO CRATES EDITS
         line="$line, $((took / 60)) min $((took % 60)) s"
         if [ -t 2 ]; then printf '\r%s\033[K\r' "$line" >&2; else printf '%s\n' "$line" >&2; fi
     done
+    scratch_away
 }
 
-telling_starts() { # WHO CRATE..
+# The prover hands itself the modules of a crate as files, thousands a check, and removes them: on a disk that took up to a third of a check's processor time.
+# So they stand in memory, unless TMPDIR names another place, too little is free, or nothing may be started there, as rt does with the programs that it has built.
+scratch_in_memory() {
+    memory=/dev/shm
+    [ -z "${TMPDIR-}" ] && [ -w "$memory" ] && [ "$(df -Pk "$memory" | awk 'NR == 2 { print $4 }')" -ge 2097152 ] || return 0
+    scratch=$(mktemp -d "$memory/aktyrbuz.XXXXXX") || { scratch=''; return 0; }
+    printf '#!/bin/sh\n' >"$scratch/trial" && chmod 755 "$scratch" "$scratch/trial"
+    if "$scratch/trial" 2>/dev/null; then TMPDIR=$scratch && export TMPDIR; else scratch_away; fi
+}
+
+scratch_away() {
+    [ -n "$scratch" ] || return 0
+    rm -rf "$scratch"
+    [ "${TMPDIR-}" != "$scratch" ] || unset TMPDIR
+    scratch=''
+}
+
+proving_starts() { # WHO CRATE..
     who=$1
     shift
+    scratch_in_memory
     mark=$top/host/target/proving.mark
     mkdir -p "$top/host/target" && : >"$mark"
     tell_on "$who" "$(crates_of "$@")" "$(find "$top/crates" -path '*/must-fail/*.edit' | wc -l)" >/dev/null &
     telling=$!
 }
 
-telling_ends() {
+proving_ends() {
+    scratch_away
     [ -n "$telling" ] || return 0
     { kill "$telling" && wait "$telling"; } 2>/dev/null
     telling=''
