@@ -21,7 +21,7 @@ use Rattle.bands_laws.proofs.Rows.{band-rows}
 use Rattle.bands_laws.proofs.Refusals.{bands-place, bands-refused, bands-refused-exactly, bands-done, bands-done-exactly, bands-else-done, band-place, band-refused, band-refused-exactly, band-done, band-done-exactly, band-else-done}
 use Rattle.bands_laws.proofs.Fresh as laws
 use Rattle.bands_laws.proofs.Alike as alike
-use Rattle.bands_laws.proofs.Accepted.{bands-same, band-same}
+use Rattle.aktyrbuz.proofs.AcceptedBands.{bands-same, band-same}
 use Rattle.bands_laws.proofs.Hides as after
 use Rattle.makers_laws.proofs.Built.{fits-drawing, kept-fit, kept-is-right}
 use Rattle.aktyrbuz.specs.Calls.{ReachCall, HideCall, withBits}

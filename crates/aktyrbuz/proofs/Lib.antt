@@ -10,4 +10,5 @@ pub mod ListCodes
 pub mod ProfileNumbers
 pub mod MakersNumbers
 pub mod BandsNumbers
+pub mod AcceptedBands
 pub mod Bands

@@ -5,5 +5,4 @@ pub mod Refusals
 pub mod Numbers
 pub mod Fresh
 pub mod Alike
-pub mod Accepted
 pub mod Hides
