@@ -129,7 +129,7 @@ pub fn say(
         width,
         &mut cells,
     ) {
-        BandsAnswer::Refused(code, place) => words::of_building(code, place),
+        BandsAnswer::Refused(code, place) => refusals::of_building(code, place),
         BandsAnswer::Done(made) => say_bands(made, height, &cells),
     }
 }

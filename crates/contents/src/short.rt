@@ -55,7 +55,7 @@ fn refuse_list(code: Code, place: usize, list: &[u32]) -> Tried
     if codes::number_of(code) == 7 {
         return Tried::Room;
     }
-    Tried::Status(words::of_reading(code, place, list, crate::CONFIGURED))
+    Tried::Status(refusals::of_reading(code, place, list, crate::CONFIGURED))
 }
 
 // A list that is read in lent rooms.
@@ -112,7 +112,7 @@ fn refuse_trace(code: Code, place: usize, bytes: &[u8]) -> Tried
     if codes::number_of(code) == 7 {
         return Tried::Room;
     }
-    Tried::Status(words::of_trace(code, place, bytes))
+    Tried::Status(refusals::of_trace(code, place, bytes))
 }
 
 // A trace file that is read in lent rooms.

@@ -1,17 +1,21 @@
 // What a list of decoded values or a trace file holds, what it draws, which rows and bands, whose a pixel is, why a segment sits where it does, its row table and another maker's, whether it meets the fineness profile,
 // either made from the other, and its line drawing: `gauge read`, `gauge draw`, `gauge rows`, `gauge bands`, `gauge touch`, `gauge why`, `gauge table`, `gauge check`, `gauge profile`, `gauge trace`, `gauge svg`.
 // A program has no exit status: with `--status` it is written as a digit to descriptor 3 (0: done, 1: refused, 2: wrong use).
-mod commands;
-
 ghost use Prim.Native.Nat.{_≤_};
+use asking::Command;
+use asking::Kind;
 use asking::Number;
 use asking::Options;
+use asking::Two;
+use asking::kind_at;
+use asking::kind_of;
+use asking::pixel_at;
+use asking::size_at;
 use canvas::Asked;
 use canvas::Task;
-use commands::Command;
 use contents::Tried;
-use drawing::Wanted;
 use files::Loaded;
+use taking::Wanted;
 
 // As many as a list of 4096 splines and 2^20 points has.
 const VALUES: usize = 2633730;
@@ -23,21 +27,6 @@ const BYTES: usize = 33554432;
 const SHORT_BYTES: usize = 65536;
 
 const SHORT_VALUES: usize = 32768;
-
-// The size of an image or a pixel of it, by two arguments.
-enum Two {
-    Are(u32, u32),
-    Not,
-}
-
-// What a file's name says of its kind: a picture of either kind, a trace file, a line drawing, or another.
-enum Kind {
-    Tones,
-    Floats,
-    Trace,
-    Drawing,
-    Other,
-}
 
 fn usage() -> u8 {
     words::wrong(
@@ -211,42 +200,6 @@ fn read(i: u8, options: Options) -> u8 {
     status
 }
 
-fn is_within(n: u32, most: u32) -> bool {
-    if n == 0 {
-        return false;
-    }
-    n <= most
-}
-
-// The two numbers that the arguments from i on say.
-fn two_at(i: u8) -> Two
-    requires { ⌜ i ≤ 60 ⌝ }
-{
-    let Number::Is(a) = asking::argument(i as usize) else {
-        return Two::Not;
-    };
-    let Number::Is(b) = asking::argument(i as usize + 1) else {
-        return Two::Not;
-    };
-    Two::Are(a, b)
-}
-
-// The width and the height that the arguments from i on say.
-fn size_at(i: u8) -> Two
-    requires { ⌜ i ≤ 60 ⌝ }
-{
-    let Two::Are(width, height) = two_at(i) else {
-        return Two::Not;
-    };
-    if !is_within(width, 8388608) {
-        return Two::Not;
-    }
-    if !is_within(height, 16384) {
-        return Two::Not;
-    }
-    Two::Are(width, height)
-}
-
 fn rows(i: u8, options: Options) -> u8
     requires { ⌜ i ≤ 40 ⌝ }
 {
@@ -254,22 +207,6 @@ fn rows(i: u8, options: Options) -> u8
         Two::Not => say_size(),
         Two::Are(width, height) => perform(i as usize, task(options, width, height, Asked::Rows)),
     }
-}
-
-// The column and the row, in an image of this size, that the arguments from i on say.
-fn pixel_at(i: u8, width: u32, height: u32) -> Two
-    requires { ⌜ i ≤ 60 ⌝ }
-{
-    let Two::Are(x, y) = two_at(i) else {
-        return Two::Not;
-    };
-    if width <= x {
-        return Two::Not;
-    }
-    if height <= y {
-        return Two::Not;
-    }
-    Two::Are(x, y)
 }
 
 // The traces of the file that argument i names that have a pixel of an image of this size.
@@ -330,38 +267,6 @@ fn profile(i: u8, more: usize, options: Options) -> u8
         asking::edition_at(i as usize + 1)
     };
     perform(i as usize, task(options, 0, 0, Asked::Profile(edition)))
-}
-
-// Whether a name ends so.
-fn ends_in(path: &[u8], ending: &[u8]) -> bool {
-    if path.len() < ending.len() {
-        return false;
-    }
-    let from = path.len() - ending.len();
-    text::same(&path[from..], ending)
-}
-
-fn kind_of(path: &[u8]) -> Kind {
-    if ends_in(path, b".ppm") {
-        return Kind::Tones;
-    }
-    if ends_in(path, b".pfm") {
-        return Kind::Floats;
-    }
-    if ends_in(path, b".trace") {
-        return Kind::Trace;
-    }
-    if ends_in(path, b".svg") {
-        return Kind::Drawing;
-    }
-    Kind::Other
-}
-
-// What the name that argument i is says.
-fn kind_at(i: usize) -> Kind {
-    let mut held = io::buffer();
-    let n = os::arg(i, &mut held);
-    kind_of(&held[..n])
 }
 
 // What is asked of the file that argument i names, into a file of this name.
@@ -483,7 +388,7 @@ fn svg_first(bytes: &[u8], n: usize, wanted: Wanted) -> u8 {
     if bytes.len() < n {
         return 2;
     }
-    drawing::say(&bytes[0..n], wanted)
+    taking::say(&bytes[0..n], wanted)
 }
 
 // The traces of the drawing that argument i names, whose bytes go to a room.
@@ -535,8 +440,8 @@ fn svg(i: u8, more: usize, options: Options) -> u8
 fn run_words(at: u8, more: usize, options: Options) -> u8
     requires { ⌜ at ≤ 20 ⌝ }
 {
-    let command = commands::command_at(at as usize);
-    if !commands::may_have(command, more) {
+    let command = asking::command_at(at as usize);
+    if !asking::may_have(command, more) {
         return usage();
     }
     let i = at + 1;

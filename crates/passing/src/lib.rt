@@ -53,7 +53,7 @@ fn write_list(fd: i32, list: &[u32], n: usize, counts: &[u32]) -> u8
 fn refuse(code: Code, place: usize) -> u8
     ensures { λ r. ⌜ r ≤ 3 ⌝ }
 {
-    words::of_trace(code, place, &[])
+    refusals::of_trace(code, place, &[])
 }
 
 // A trace file that goes to a room first, in version 2 with this edition, or in version 1 where the edition is 0. The room is lent as an array: its length is then known by its type, and no proof counts its cells.
@@ -134,7 +134,7 @@ fn list_in(
         list,
     ) {
         WriteAnswer::Refused(code, place) => {
-            words::of_writing(code, place, counts.len(), CONFIGURED)
+            refusals::of_writing(code, place, counts.len(), CONFIGURED)
         }
         WriteAnswer::Done(n) => write_list(fd, list, n, counts),
     }

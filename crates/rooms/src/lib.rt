@@ -253,7 +253,7 @@ fn list_in(
         coefficients,
     ) {
         ReadAnswer::Refused(code, place) => {
-            words::of_reading(code, place, list, list::limit(contents::CONFIGURED, pixels))
+            refusals::of_reading(code, place, list, list::limit(contents::CONFIGURED, pixels))
         }
         ReadAnswer::Done(splines, points, adjustment) => answer_first(
             counts,
@@ -299,7 +299,7 @@ fn trace_in(
     ensures { λ r. ⌜ r ≤ 3 ⌝ }
 {
     match trace2_read::trace_read2(bytes, counts, starts, deltas, coefficients) {
-        FileAnswer::Refused(code, place) => words::of_trace(code, place, bytes),
+        FileAnswer::Refused(code, place) => refusals::of_trace(code, place, bytes),
         FileAnswer::Done(splines, points, adjustment, edition) => answer_first(
             counts,
             starts,

@@ -205,16 +205,16 @@ fn say_spline(
 {
     let at = deltas_before(counts, k);
     if counts.len() <= k {
-        return words::of_building(Code::Room, k);
+        return refusals::of_building(Code::Room, k);
     }
     if starts.len() / 2 <= k {
-        return words::of_building(Code::Room, k);
+        return refusals::of_building(Code::Room, k);
     }
     if deltas.len() < at {
-        return words::of_building(Code::Room, k);
+        return refusals::of_building(Code::Room, k);
     }
     if coefficients.len() / 128 <= k {
-        return words::of_building(Code::Room, k);
+        return refusals::of_building(Code::Room, k);
     }
     say_first(
         &counts[k..],

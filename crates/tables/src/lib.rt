@@ -43,7 +43,7 @@ fn refuse(code: Code, place: usize) -> Built
     if codes::number_of(code) == 7 {
         return Built::Room;
     }
-    Built::Status(words::of_building(code, place))
+    Built::Status(refusals::of_building(code, place))
 }
 
 // In lent rooms. X gains nothing of Y and B all of it, as usual; the precision that is asked for, and the lesser area limit.

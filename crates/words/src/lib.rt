@@ -1,17 +1,8 @@
 // Sentences: a text in which each `#` stands for the next of some numbers, and each `~` for the next one with its sign.
-mod points;
-mod refusals;
-mod traces;
-
 ghost use mathlib.Core.Path.{_≡_};
 ghost use Prim.Native.Nat.{_≤_};
 ghost use lib.ListN.{length};
 ghost use Rattle.io.specs.Counts.{Counts};
-pub use points::of_points;
-pub use refusals::of_building;
-pub use refusals::of_reading;
-pub use traces::of_trace;
-pub use traces::of_writing;
 
 // The bytes of the longest line, and more.
 const LINE: usize = 256;

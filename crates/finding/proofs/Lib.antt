@@ -1,0 +1,2 @@
+-- The proofs of the crate `finding`.
+pub mod Passed

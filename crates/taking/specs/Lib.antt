@@ -1,0 +1,2 @@
+-- The definitions of the crate `taking`.
+pub mod Steps
