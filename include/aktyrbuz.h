@@ -57,6 +57,8 @@ float aktyrbuz_ln(float x);
  * At most min(configured, pixels / 2) splines and as many points are taken; configured is usually 2^20.
  * Rooms for S splines of P points in all: S counts (points of each spline), 2S starts (x, y), 2P deltas (x, y of each double delta)
  * and 128S coefficients (32 each for X, Y, B and sigma). Cells past these, and all cells after a refusal, are 0.
+ * Checks, value by value, each after SHORT: at the spline count SPLINES, then ROOM of counts, starts and coefficients; COORD at each start; spline by spline POINTS, then ROOM of deltas,
+ * at its point count, and DELTA at each pair; TRAIL last.
  * Place: an index of the list, of a pair that of its x; SHORT: the length of the list. Counts: splines, points, adjustment. */
 uint32_t aktyrbuz_read(const uint32_t *list, size_t list_len, uint32_t configured, uint32_t pixels,
                        uint32_t *counts, size_t counts_len, float *starts, size_t starts_len,
@@ -64,6 +66,7 @@ uint32_t aktyrbuz_read(const uint32_t *list, size_t list_len, uint32_t configure
 
 /* Writes a description as the list that is read back as it, under the same two limits. Here the lengths are exact (SHAPE).
  * Cells of the list past the last value, and all after a refusal, are 0.
+ * Checks: SHAPE, SPLINES, COORD, then spline by spline POINTS and DELTA, then ROOM.
  * Place: the index in the list that the value would have, of a pair that of its x; SHAPE: 0; ROOM: the length lent. Counts: values written. */
 uint32_t aktyrbuz_write(const uint32_t *counts, size_t counts_len, const float *starts, size_t starts_len,
                         const int32_t *deltas, size_t deltas_len, const int32_t *coefficients, size_t coefficients_len,
@@ -77,6 +80,8 @@ uint32_t aktyrbuz_write(const uint32_t *counts, size_t counts_len, const float *
  * 1/sigma, 0.25 sigma times multiplier, three colours); owners one cell a segment, the number of its spline, which never falls from one segment to the next;
  * height + 1 row_starts; entries. Row y lists entries[row_starts[y]] up to but not including entries[row_starts[y + 1]], ascending. As many segments fit as
  * both segments and owners have room for. Cells past the used part, and all cells after a refusal, are 0.
+ * Checks: SIZE, SHAPE, ROOM of row_starts; then spline by spline POSITION of the start, pair by pair DELTA, POSITION of the delta, DISTANCE and POSITION of the point, then AREA
+ * and COINCIDE; then spline by spline ROOM of path, walk and segments; then ROOM of entries.
  * Place: the number of a spline; SIZE, SHAPE, and ROOM of row_starts and entries: 0. Counts: segments, entries, estimate, and how many of the segments are faint: their distance is NaN,
  * so that they sit at row 0 and column 0 wherever their centre is. */
 uint32_t aktyrbuz_build(const uint32_t *counts, size_t counts_len, const float *starts, size_t starts_len,
