@@ -27,14 +27,14 @@ use Rattle.bands_laws.specs.Done.{BandsDone, BandDone}
 use Rattle.bands_laws.proofs.Rows.{rows-bad, good-or-bad}
 
 -- a code and a place that a table of refusals gives
-record Given (Refusal : Code → ℕ → Type 0) : Type 0 where
+record Refusing (Refusal : Code → ℕ → Type 0) : Type 0 where
   code : Code
   place : ℕ
   refusal : Refusal code place
 
 -- an answer that is told apart by a code and a place
 module _ {Refusal : Code → ℕ → Type 0} (answer : BandsAnswer) (told : (c : Code) (p : ℕ) → Refusal c p → answer ≡ Refused c p) where
-  given-is : (c : Code) (p : ℕ) → Given Refusal → answer ≡ Refused c p → Refusal c p
+  given-is : (c : Code) (p : ℕ) → Refusing Refusal → answer ≡ Refused c p → Refusal c p
   given-is c p g e =
       let q : Refused (g .code) (g .place) ≡ Refused c p = sym (told (g .code) (g .place) (g .refusal)) ∙ e in
       let u : g .code ≡ c = cc in
@@ -88,7 +88,7 @@ module _ (t : Table) (s : Sight) (W room : ℕ) where
   early-place (codes.EarlyRefusal.trace w f d b) = refl
   early-place (codes.EarlyRefusal.room w l h) = refl
 
-  fits-or-early : SummaryFits t s W room ⊎ Given (EarlyRefusal t s W room)
+  fits-or-early : SummaryFits t s W room ⊎ Refusing (EarlyRefusal t s W room)
   fits-or-early =
       ⊎-elim (λ w. inr (record { code = Code.Size; place = 0; refusal = codes.EarlyRefusal.size w })) (λ w.
       ⊎-elim (λ f.
@@ -134,7 +134,7 @@ module _ (t : Table) (s : Sight) (W room : ℕ) where
       bands-fine (early-passed t s W room (d .fits) _ ∙ ⊎-elim (λ e. rw e) (λ o. absurd (d .rows o)) (good-or-bad t s 0 (t .height)))
       ∙ ap (λ (m : ℕ). leaves (Done m) (freshCells t s W room)) (sym (d .told))
 
-  bands-either : BandsDone t s W room (bandsIn (t .height)) ⊎ Given (BandsRefusal t s W room)
+  bands-either : BandsDone t s W room (bandsIn (t .height)) ⊎ Refusing (BandsRefusal t s W room)
   bands-either =
       ⊎-elim (λ f.
       ⊎-elim (λ e. inl (record { fits = f; rows = λ o. good-not-bad e o; told = refl }))
@@ -200,7 +200,7 @@ module _ (t : Table) (s : Sight) (W b : ℕ) (cells : List ℕ) where
       band-fine (early-passed t s W (length cells) (d .fits) _ ∙ ⊎-elim (λ (e : bandGood t s b ≡ true). rw (lt-ltb b (bandsIn (t .height)) (d .in-image)) (ap (λ (g : Bool). orFault g Code.Table Fine) e)) (λ o. absurd (d .rows o)) (good-or-bad t s (rowOfBand b) (rowsIn (t .height) b)))
       ∙ ap (λ (m : ℕ). leaves (Done m) (putBand cells b (bandNumbers t s W b))) (sym (d .told))
 
-  band-either : BandDone t s W (length cells) b (bandsIn (t .height)) ⊎ Given (BandRefusal t s W (length cells) b)
+  band-either : BandDone t s W (length cells) b (bandsIn (t .height)) ⊎ Refusing (BandRefusal t s W (length cells) b)
   band-either =
       ⊎-elim (λ f.
       ⊎-elim (λ h.

@@ -60,9 +60,9 @@ point-decides p = both-decide (range-decides (p .x)) (range-decides (p .y))
 
 -- ---- magnitudes
 
-below : (v : ℤ) → belowDeltaLimit v ≡ true → natAbs v < 2 ^ 30
-below (pos n) h = ltb-true n 1073741824 h
-below (negsuc n) h = let k : n < 1073741823 = ltb-true n 1073741823 (both (ltb n 1073741823) true h .0) in omega arith
+magnitude-below : (v : ℤ) → belowDeltaLimit v ≡ true → natAbs v < 2 ^ 30
+magnitude-below (pos n) h = ltb-true n 1073741824 h
+magnitude-below (negsuc n) h = let k : n < 1073741823 = ltb-true n 1073741823 (both (ltb n 1073741823) true h .0) in omega arith
 
 is-below : (v : ℤ) → natAbs v < 2 ^ 30 → belowDeltaLimit v ≡ true
 is-below (pos n) h = lt-ltb n 1073741824 h
@@ -81,7 +81,7 @@ is-above (pos n) h = le-ltb n 1073741824 h
 is-above (negsuc n) h = rw (le-ltb n 1073741823 (omega arith))
 
 magnitude-decides : (v : ℤ) → Decides (belowDeltaLimit v) (natAbs v < 2 ^ 30) (2 ^ 30 ≤ natAbs v)
-magnitude-decides v = record { passed = below v; passes = is-below v; failed = above v; fails = is-above v }
+magnitude-decides v = record { passed = magnitude-below v; passes = is-below v; failed = above v; fails = is-above v }
 
 pub double-delta-decides : (p : Pair) → Decides (validDoubleDelta p) (Small p) (Large p)
 unfolding validDoubleDelta

@@ -21,7 +21,7 @@ use Rattle.shade.proofs.Blocks.{passed}
 use Rattle.desks.specs.Desks.{Sight, hiddenIn, shown}
 use Rattle.columns.specs.Columns.{pixel, between, count, updates}
 use Rattle.columns.proofs.Columns.{count-between, count-cong, ranged, has-columns}
-use Rattle.couples.specs.Couples.{Cuts, shadedInRange, addedIn, addedShown}
+use Rattle.couples.specs.Couples.{Cuts, shadedInRange, shadedInRangeBy, shownChannel}
 
 -- ---- which columns lie in a range
 
@@ -87,10 +87,10 @@ module _ (s : Sight) (segs : List Float) (i x0 n : ℕ) (b : Bool) (g : Segment)
         go true = refl
         go false = ap (λ (t : Segment). cond (hasColumn t (x0 + k)) (shaded t y (x0 + k) c v) v) q
 
-    pub range-shown : (xs : List Float) → edit (shadedInRange g r y x0 c) xs ≡ addedShown c segs s y x0 n (i ∷ []) xs
+    pub range-shown : (xs : List Float) → edit (shadedInRange g r y x0 c) xs ≡ shownChannel c segs s y x0 n (i ∷ []) xs
     range-shown xs = edit-cong (shadedInRange g r y x0 c) _ xs (λ k v l. cell k v)
 
-    pub ranged-shown : (xs : List Float) → edit (ranged (λ x v. shaded g y x c v) (r .first) (r .past) x0 n) xs ≡ addedShown c segs s y x0 n (i ∷ []) xs
+    pub ranged-shown : (xs : List Float) → edit (ranged (λ x v. shaded g y x c v) (r .first) (r .past) x0 n) xs ≡ shownChannel c segs s y x0 n (i ∷ []) xs
     ranged-shown xs = edit-cong (ranged (λ x v. shaded g y x c v) (r .first) (r .past) x0 n) _ xs (λ k v l. whole k v ∙ cell k v)
       where
         whole : (k : ℕ) (v : Float) → ranged (λ x w. shaded g y x c w) (r .first) (r .past) x0 n k v ≡ shadedInRange g r y x0 c k v
@@ -109,11 +109,11 @@ held g y x m v1 v2 v3 e l p q r = λ k h. r k h ∙ ap (intensityAt g) (passed (
 
 module _ (g : Segment) (r : Range) (locals : List Float) (x0 c : ℕ) where
   -- the part of a channel that holds the range, come back
-  pub added-part : (xs ys : List Float) → x0 ≤ r .first → r .first ≤ r .past → r .past ≤ x0 + length xs → ys ≡ edit (λ k v. shadedByIntensity g (getD locals k nan) c v) (take (r .past - x0 - (r .first - x0)) (drop (r .first - x0) xs)) → take (r .first - x0) xs ++ (ys ++ drop (r .past - x0 - (r .first - x0)) (drop (r .first - x0) xs)) ≡ edit (addedIn g r locals x0 c) xs
+  pub added-part : (xs ys : List Float) → x0 ≤ r .first → r .first ≤ r .past → r .past ≤ x0 + length xs → ys ≡ edit (λ k v. shadedByIntensity g (getD locals k nan) c v) (take (r .past - x0 - (r .first - x0)) (drop (r .first - x0) xs)) → take (r .first - x0) xs ++ (ys ++ drop (r .past - x0 - (r .first - x0)) (drop (r .first - x0) xs)) ≡ edit (shadedInRangeBy g r locals x0 c) xs
   added-part xs ys h k l e =
       ap (λ (m : List Float). take a xs ++ (m ++ drop w (drop a xs))) (e ∙ edit-cong (λ i v. shadedByIntensity g (getD locals i nan) c v) (λ i v. f (a + i) v) (take w (drop a xs)) (λ i v m. ap (λ (j : ℕ). shadedByIntensity g (getD locals j nan) c v) (omega arith)))
       ∙ edit-part f xs a w (omega arith)
-      ∙ edit-cong (λ i v. cond (inside a w i) (f i v) v) (addedIn g r locals x0 c) xs (λ i v m. same i v)
+      ∙ edit-cong (λ i v. cond (inside a w i) (f i v) v) (shadedInRangeBy g r locals x0 c) xs (λ i v m. same i v)
     where
       a : ℕ
       a = r .first - x0
@@ -124,7 +124,7 @@ module _ (g : Segment) (r : Range) (locals : List Float) (x0 c : ℕ) where
       f : ℕ → Float → Float
       f i v = shadedByIntensity g (getD locals (i - a) nan) c v
 
-      same : (i : ℕ) (v : Float) → cond (inside a w i) (f i v) v ≡ addedIn g r locals x0 c i v
+      same : (i : ℕ) (v : Float) → cond (inside a w i) (f i v) v ≡ shadedInRangeBy g r locals x0 c i v
       same i v =
           ⊎-elim
           (λ m. rw (lt-leb a i m, lt-leb (r .first) (x0 + i) (omega arith)))
@@ -135,11 +135,11 @@ module _ (g : Segment) (r : Range) (locals : List Float) (x0 c : ℕ) where
           (lt-or-ge i a)
 
   -- a range whose intensities are those of row y
-  pub added-shaded : (y : ℕ) (xs : List Float) → Holds (r .past - r .first) (λ k. localIntensity g y (r .first + k)) locals → edit (addedIn g r locals x0 c) xs ≡ edit (shadedInRange g r y x0 c) xs
+  pub added-shaded : (y : ℕ) (xs : List Float) → Holds (r .past - r .first) (λ k. localIntensity g y (r .first + k)) locals → edit (shadedInRangeBy g r locals x0 c) xs ≡ edit (shadedInRange g r y x0 c) xs
   unfolding Holds
-  added-shaded y xs h = edit-cong (addedIn g r locals x0 c) (shadedInRange g r y x0 c) xs (λ i v l. same i v)
+  added-shaded y xs h = edit-cong (shadedInRangeBy g r locals x0 c) (shadedInRange g r y x0 c) xs (λ i v l. same i v)
     where
-      same : (i : ℕ) (v : Float) → addedIn g r locals x0 c i v ≡ shadedInRange g r y x0 c i v
+      same : (i : ℕ) (v : Float) → shadedInRangeBy g r locals x0 c i v ≡ shadedInRange g r y x0 c i v
       same i v =
           ⊎-elim
           (λ m. rw (lt-leb (r .first) (x0 + i) m))
@@ -150,7 +150,7 @@ module _ (g : Segment) (r : Range) (locals : List Float) (x0 c : ℕ) where
           (lt-or-ge (x0 + i) (r .first))
 
 -- two ranges, one after the other
-pub added-two : (one two : Segment) (p q : Range) (v w : List Float) (y x0 c : ℕ) (xs ys zs : List Float) → Holds (p .past - p .first) (λ k. localIntensity one y (p .first + k)) v → Holds (q .past - q .first) (λ k. localIntensity two y (q .first + k)) w → ys ≡ edit (addedIn one p v x0 c) xs → zs ≡ edit (addedIn two q w x0 c) ys → zs ≡ edit (shadedInRange two q y x0 c) (edit (shadedInRange one p y x0 c) xs)
+pub added-two : (one two : Segment) (p q : Range) (v w : List Float) (y x0 c : ℕ) (xs ys zs : List Float) → Holds (p .past - p .first) (λ k. localIntensity one y (p .first + k)) v → Holds (q .past - q .first) (λ k. localIntensity two y (q .first + k)) w → ys ≡ edit (shadedInRangeBy one p v x0 c) xs → zs ≡ edit (shadedInRangeBy two q w x0 c) ys → zs ≡ edit (shadedInRange two q y x0 c) (edit (shadedInRange one p y x0 c) xs)
 added-two one two p q v w y x0 c xs ys zs h k e f =
     f ∙ added-shaded two q w x0 c y ys k ∙ ap (edit (shadedInRange two q y x0 c)) (e ∙ added-shaded one p v x0 c y xs h)
 
@@ -165,11 +165,11 @@ module _ (s : Sight) (segs : List Float) (y x0 n : ℕ)
   pub two-small : p .past - p .first + (q .past - q .first) ≤ n + n
   two-small = omega (arith, ci .0, ci .1, ci .2, cj .0, cj .1, cj .2)
 
-  pub two-ranged : (c : ℕ) (xs ys zs : List Float) → ys ≡ edit (ranged (λ x v. shaded one y x c v) (p .first) (p .past) x0 n) xs → zs ≡ edit (ranged (λ x v. shaded two y x c v) (q .first) (q .past) x0 n) ys → zs ≡ addedShown c segs s y x0 n (j ∷ []) (addedShown c segs s y x0 n (i ∷ []) xs)
-  two-ranged c xs ys zs e f = f ∙ ranged-shown s segs j x0 n b two q hj gj cj c y ys ∙ ap (addedShown c segs s y x0 n (j ∷ [])) (e ∙ ranged-shown s segs i x0 n a one p hi gi ci c y xs)
+  pub two-ranged : (c : ℕ) (xs ys zs : List Float) → ys ≡ edit (ranged (λ x v. shaded one y x c v) (p .first) (p .past) x0 n) xs → zs ≡ edit (ranged (λ x v. shaded two y x c v) (q .first) (q .past) x0 n) ys → zs ≡ shownChannel c segs s y x0 n (j ∷ []) (shownChannel c segs s y x0 n (i ∷ []) xs)
+  two-ranged c xs ys zs e f = f ∙ ranged-shown s segs j x0 n b two q hj gj cj c y ys ∙ ap (shownChannel c segs s y x0 n (j ∷ [])) (e ∙ ranged-shown s segs i x0 n a one p hi gi ci c y xs)
 
-  pub two-narrow : (c : ℕ) (xs ys : List Float) → ys ≡ edit (shadedInRange two q y x0 c) (edit (shadedInRange one p y x0 c) xs) → ys ≡ addedShown c segs s y x0 n (j ∷ []) (addedShown c segs s y x0 n (i ∷ []) xs)
-  two-narrow c xs ys e = e ∙ range-shown s segs j x0 n b two q hj gj cj c y _ ∙ ap (addedShown c segs s y x0 n (j ∷ [])) (range-shown s segs i x0 n a one p hi gi ci c y xs)
+  pub two-narrow : (c : ℕ) (xs ys : List Float) → ys ≡ edit (shadedInRange two q y x0 c) (edit (shadedInRange one p y x0 c) xs) → ys ≡ shownChannel c segs s y x0 n (j ∷ []) (shownChannel c segs s y x0 n (i ∷ []) xs)
+  two-narrow c xs ys e = e ∙ range-shown s segs j x0 n b two q hj gj cj c y _ ∙ ap (shownChannel c segs s y x0 n (j ∷ [])) (range-shown s segs i x0 n a one p hi gi ci c y xs)
 
 -- a part of a channel that has been edited
 pub still-within : (f : ℕ → Float → Float) (a b : ℕ) (xs ys : List Float) → ys ≡ edit f xs → a ≤ b + length xs → a ≤ b + length ys

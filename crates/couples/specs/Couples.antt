@@ -21,9 +21,9 @@ abbrev pub shadedInRange : Segment → Range → ℕ → ℕ → ℕ → ℕ →
 shadedInRange s r y x0 c k v = cond (between (r .first) (r .past) (x0 + k)) (shaded s y (x0 + k) c v) v
 
 -- the same by the intensities at the columns of the range
-abbrev pub addedIn : Segment → Range → List Float → ℕ → ℕ → ℕ → Float → Float
-addedIn s r locals x0 c k v = cond (between (r .first) (r .past) (x0 + k)) (shadedByIntensity s (getD locals (x0 + k - r .first) nan) c v) v
+abbrev pub shadedInRangeBy : Segment → Range → List Float → ℕ → ℕ → ℕ → Float → Float
+shadedInRangeBy s r locals x0 c k v = cond (between (r .first) (r .past) (x0 + k)) (shadedByIntensity s (getD locals (x0 + k - r .first) nan) c v) v
 
 -- n pixels of a channel of colour c, from column x0 of row y on, with those of the listed segments added that are shown
-abbrev pub addedShown : ℕ → List Float → Sight → ℕ → ℕ → ℕ → List ℕ → List Float → List Float
-addedShown c segments s y x0 n listed xs = edit (firstCells n (λ k v. pixel c segments y (x0 + k) (shown s listed) v)) xs
+abbrev pub shownChannel : ℕ → List Float → Sight → ℕ → ℕ → ℕ → List ℕ → List Float → List Float
+shownChannel c segments s y x0 n listed xs = edit (firstCells n (λ k v. pixel c segments y (x0 + k) (shown s listed) v)) xs

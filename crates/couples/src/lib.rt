@@ -8,7 +8,7 @@ ghost use Rattle.segments.specs.Ranges.{hasColumn};
 ghost use Rattle.shade.specs.Edit.{edit};
 ghost use Rattle.desks.specs.Desks.{sightOf, shown};
 ghost use Rattle.columns.specs.Columns.{updates};
-ghost use Rattle.couples.specs.Couples.{Cuts, shadedInRange, addedIn, addedShown};
+ghost use Rattle.couples.specs.Couples.{Cuts, shadedInRange, shadedInRangeBy, shownChannel};
 use columns::draw_columns;
 use columns::greatest;
 use columns::least;
@@ -50,9 +50,9 @@ fn add_in(
 )
     requires { ⌜ (x0 ≤ range .first) × (range .first ≤ range .past) × (range .past ≤ range .first + 32) ⌝ }
     requires { ⌜ (range .past ≤ x0 + length (now r0)) × (range .past ≤ x0 + length (now r1)) × (range .past ≤ x0 + length (now r2)) ⌝ }
-    ensures { λ _. ⌜ now (r0 .exit) ≡ edit (addedIn segment range (now (locals .entry)) x0 0) (now (r0 .entry)) ⌝ }
-    ensures { λ _. ⌜ now (r1 .exit) ≡ edit (addedIn segment range (now (locals .entry)) x0 1) (now (r1 .entry)) ⌝ }
-    ensures { λ _. ⌜ now (r2 .exit) ≡ edit (addedIn segment range (now (locals .entry)) x0 2) (now (r2 .entry)) ⌝ }
+    ensures { λ _. ⌜ now (r0 .exit) ≡ edit (shadedInRangeBy segment range (now (locals .entry)) x0 0) (now (r0 .entry)) ⌝ }
+    ensures { λ _. ⌜ now (r1 .exit) ≡ edit (shadedInRangeBy segment range (now (locals .entry)) x0 1) (now (r1 .entry)) ⌝ }
+    ensures { λ _. ⌜ now (r2 .exit) ≡ edit (shadedInRangeBy segment range (now (locals .entry)) x0 2) (now (r2 .entry)) ⌝ }
 {
     let a = (range.first - x0) as usize;
     let e = (range.past - x0) as usize;
@@ -115,9 +115,9 @@ pub fn draw_two(
     requires { ⌜ (x0 + n ≤ 2 ^ 23) × (y ≤ 2 ^ 23) ⌝ }
     requires { ⌜ (n ≤ length (now r0)) × (n ≤ length (now r1)) × (n ≤ length (now r2)) ⌝ }
     ensures { λ r. ⌜ r ≡ updates (now (segments .entry)) x0 n (shown (sightOf (now (owners .entry)) splines (now (bits .entry)) desk) (i ∷ [])) + updates (now (segments .entry)) x0 n (shown (sightOf (now (owners .entry)) splines (now (bits .entry)) desk) (j ∷ [])) ⌝ }
-    ensures { λ _. ⌜ now (r0 .exit) ≡ addedShown 0 (now (segments .entry)) (sightOf (now (owners .entry)) splines (now (bits .entry)) desk) y x0 n (j ∷ []) (addedShown 0 (now (segments .entry)) (sightOf (now (owners .entry)) splines (now (bits .entry)) desk) y x0 n (i ∷ []) (now (r0 .entry))) ⌝ }
-    ensures { λ _. ⌜ now (r1 .exit) ≡ addedShown 1 (now (segments .entry)) (sightOf (now (owners .entry)) splines (now (bits .entry)) desk) y x0 n (j ∷ []) (addedShown 1 (now (segments .entry)) (sightOf (now (owners .entry)) splines (now (bits .entry)) desk) y x0 n (i ∷ []) (now (r1 .entry))) ⌝ }
-    ensures { λ _. ⌜ now (r2 .exit) ≡ addedShown 2 (now (segments .entry)) (sightOf (now (owners .entry)) splines (now (bits .entry)) desk) y x0 n (j ∷ []) (addedShown 2 (now (segments .entry)) (sightOf (now (owners .entry)) splines (now (bits .entry)) desk) y x0 n (i ∷ []) (now (r2 .entry))) ⌝ }
+    ensures { λ _. ⌜ now (r0 .exit) ≡ shownChannel 0 (now (segments .entry)) (sightOf (now (owners .entry)) splines (now (bits .entry)) desk) y x0 n (j ∷ []) (shownChannel 0 (now (segments .entry)) (sightOf (now (owners .entry)) splines (now (bits .entry)) desk) y x0 n (i ∷ []) (now (r0 .entry))) ⌝ }
+    ensures { λ _. ⌜ now (r1 .exit) ≡ shownChannel 1 (now (segments .entry)) (sightOf (now (owners .entry)) splines (now (bits .entry)) desk) y x0 n (j ∷ []) (shownChannel 1 (now (segments .entry)) (sightOf (now (owners .entry)) splines (now (bits .entry)) desk) y x0 n (i ∷ []) (now (r1 .entry))) ⌝ }
+    ensures { λ _. ⌜ now (r2 .exit) ≡ shownChannel 2 (now (segments .entry)) (sightOf (now (owners .entry)) splines (now (bits .entry)) desk) y x0 n (j ∷ []) (shownChannel 2 (now (segments .entry)) (sightOf (now (owners .entry)) splines (now (bits .entry)) desk) y x0 n (i ∷ []) (now (r2 .entry))) ⌝ }
 {
     let one = Segment::at(segments, i);
     let p = part_of(one, desks::hidden(owners, splines, bits, desk, i), x0, n);

@@ -90,12 +90,12 @@ sum-whole f true true (suc m) zero h =
     rw (+ℤ-idr (negsuc m), e)
 sum-whole f true true (suc m) (suc n) h = ap (λ (k : ℕ). round f true k 1) (omega arith)
 
-below : ℤ → Bool
-below (pos n) = false
-below (negsuc n) = true
+below-zero : ℤ → Bool
+below-zero (pos n) = false
+below-zero (negsuc n) = true
 
-value : (f : Format) (z : ℤ) → natAbs z ≤ 2 ^ prec f → HasValue (ofInt f z) (below z) (natAbs z) 1
-unfolding ofInt below
+value : (f : Format) (z : ℤ) → natAbs z ≤ 2 ^ prec f → HasValue (ofInt f z) (below-zero z) (natAbs z) 1
+unfolding ofInt below-zero
 value f (pos n) h = round-whole f false n h
 value f (negsuc n) h = round-whole f true (suc n) h
 
@@ -106,32 +106,32 @@ neg-value (inf t) s n v = absurd v
 neg-value (fin t m e) s n v = (ap not (v .0), v .1)
 
 module _ (f : Format) (a b : ℤ) (g : natAbs a ≤ 2 ^ prec f) (h : natAbs b ≤ 2 ^ prec f) where
-  whole-is : (z : ℤ) → signed (below z) (natAbs z) ≡ z
-  unfolding below
+  whole-is : (z : ℤ) → signed (below-zero z) (natAbs z) ≡ z
+  unfolding below-zero
   whole-is (pos n) = refl
   whole-is (negsuc n) = refl
 
-  turned-is : (z : ℤ) → signed (not (below z)) (natAbs z) ≡ negℤ z
-  unfolding below
+  turned-is : (z : ℤ) → signed (not (below-zero z)) (natAbs z) ≡ negℤ z
+  unfolding below-zero
   turned-is (pos n) = refl
   turned-is (negsuc n) = refl
 
-  some : (z : ℤ) → below z ≡ true → 0 < natAbs z
-  unfolding below
+  some : (z : ℤ) → below-zero z ≡ true → 0 < natAbs z
+  unfolding below-zero
   some (pos n) e = absurd (let z : _≡_ {A = ℕ} 0 1 = cc in omega arith)
   some (negsuc n) e = omega arith
 
   pub add-wholes : add f (ofInt f a) (ofInt f b) ≡ ofInt f (a +ℤ b)
   add-wholes =
-      add-values f (ofInt f a) (ofInt f b) (below a) (below b) (natAbs a) (natAbs b) (value f a g) (value f b h)
-      ∙ sum-whole f (below a) (below b) (natAbs a) (natAbs b) (some a)
+      add-values f (ofInt f a) (ofInt f b) (below-zero a) (below-zero b) (natAbs a) (natAbs b) (value f a g) (value f b h)
+      ∙ sum-whole f (below-zero a) (below-zero b) (natAbs a) (natAbs b) (some a)
       ∙ rw (whole-is a, whole-is b)
 
   pub sub-wholes : sub f (ofInt f a) (ofInt f b) ≡ ofInt f (a -ℤ b)
   unfolding sub
   sub-wholes =
-      add-values f (ofInt f a) (neg (ofInt f b)) (below a) (not (below b)) (natAbs a) (natAbs b) (value f a g) (neg-value (ofInt f b) (below b) (natAbs b) (value f b h))
-      ∙ sum-whole f (below a) (not (below b)) (natAbs a) (natAbs b) (some a)
+      add-values f (ofInt f a) (neg (ofInt f b)) (below-zero a) (not (below-zero b)) (natAbs a) (natAbs b) (value f a g) (neg-value (ofInt f b) (below-zero b) (natAbs b) (value f b h))
+      ∙ sum-whole f (below-zero a) (not (below-zero b)) (natAbs a) (natAbs b) (some a)
       ∙ rw (whole-is a, turned-is b)
 
 -- Assumes nothing.

@@ -8,7 +8,7 @@ use Rattle.table.specs.Table.{Setting, BuildRooms, BuildOutcome, buildOf}
 use Rattle.profile.specs.declared.ProfileAnswer.{ProfileAnswer}
 use Rattle.profile.specs.Profile.{profileOf}
 use Rattle.profile.specs.Profile as profiling
-use Rattle.profile_build.specs.Building.{ProfileBuildOutcome, stoppedWith, checkOf, afterCheck, buildProfileOf}
+use Rattle.profile_build.specs.Building.{ProfileBuildOutcome, stoppedWith, checkProfileOf, afterCheck, buildProfileOf}
 use Rattle.profile_build.specs.Building as building
 use Rattle.aktyrbuz.specs.Exported.{BuildExport}
 use Rattle.aktyrbuz.specs.ProfileExported.{ProfileExport, profileExport, profileBuildExport}
@@ -31,7 +31,7 @@ decided-whole r ProfileAnswer.Meets o = refl
 
 build-whole : (d : Description) (i : Setting) (e : ℕ) (r : BuildRooms) → BuildWhole (buildProfileOf d i e r)
 unfolding buildProfileOf
-build-whole d i e r = decided-whole r (checkOf d (i .adjustment) (i .width) (i .height) e) (buildOf d i r)
+build-whole d i e r = decided-whole r (checkProfileOf d (i .adjustment) (i .width) (i .height) e) (buildOf d i r)
 
 tells-check : (d : Description) (a : ℤ) (e : ℕ) (x : ProfileExport) → ProfileExportCall d a e x → Tells (calls.ProfileCall d a e) profileExport x
 tells-check d a e x (checks κs counts starts deltas coefficients _ _ answer r counts′ starts′ deltas′ coefficients′ adjustment′ edition′ answer′ p) =

@@ -13,7 +13,7 @@ use borrow.Author.Tests.{lt-ltb, le-ltb, ltb-false, eq-eqb, ne-eqb}
 use Rattle.frame.specs.declared.End.the-variants.{At, Past}
 use Rattle.frame.specs.declared.Verdict.{Verdict}
 use Rattle.frame.specs.declared.Verdict.the-variants.{Whole, Short, Stranger, Version, Long, Damaged}
-use Rattle.frame.specs.Frame.{wordAt, sumFrom, sumOf, caseEnd, endFrom, allEnd, endOf, settledOf, settledEnd, verdictOf, heldFrom}
+use Rattle.frame.specs.Frame.{wordAt, sumFrom, sumOf, caseEnd, endFrom, allEnd, endOf, settledOf, settledEnd, frameSays, heldFrom}
 
 -- one word more is stored, and those before it stay
 pub words-more : (bytes words : List ℕ) (i : ℕ) {word : ℕ} → i < length words → word ≡ wordAt bytes (4 * i) → ((k : ℕ) → k < i → getD words k 0 ≡ wordAt bytes (4 * k)) → (k : ℕ) → k < i + 1 → getD (set words i word) k 0 ≡ wordAt bytes (4 * k)
@@ -100,27 +100,27 @@ pub settled-damaged : (words : List ℕ) (end : ℕ) {sum : ℕ} → length word
 unfolding settledOf
 settled-damaged words end h sum is-not = rw (le-ltb end (length words - 1) h, ne-eqb _ _ (λ e. is-not (sum ∙ e)))
 
-pub judged-short : (words : List ℕ) → length words < 4 → Short ≡ verdictOf words
-unfolding verdictOf
+pub judged-short : (words : List ℕ) → length words < 4 → Short ≡ frameSays words
+unfolding frameSays
 judged-short words h = rw (lt-ltb (length words) 4 h)
 
-pub judged-stranger : (words : List ℕ) → 4 ≤ length words → (getD words 0 0 ≡ 1448364865 → ⊥) → Stranger ≡ verdictOf words
-unfolding verdictOf
+pub judged-stranger : (words : List ℕ) → 4 ≤ length words → (getD words 0 0 ≡ 1448364865 → ⊥) → Stranger ≡ frameSays words
+unfolding frameSays
 judged-stranger words h magic = rw (le-ltb (length words) 4 h, ne-eqb (getD words 0 0) 1448364865 magic)
 
-pub judged-version : (words : List ℕ) → 4 ≤ length words → getD words 0 0 ≡ 1448364865 → (getD words 1 0 ≡ 1 → ⊥) → Version ≡ verdictOf words
-unfolding verdictOf
+pub judged-version : (words : List ℕ) → 4 ≤ length words → getD words 0 0 ≡ 1448364865 → (getD words 1 0 ≡ 1 → ⊥) → Version ≡ frameSays words
+unfolding frameSays
 judged-version words h magic version = rw (le-ltb (length words) 4 h, eq-eqb (getD words 0 0) 1448364865 magic, ne-eqb (getD words 1 0) 1 version)
 
-pub judged-on : (words : List ℕ) → 4 ≤ length words → getD words 0 0 ≡ 1448364865 → getD words 1 0 ≡ 1 → settledEnd words (endOf words) ≡ verdictOf words
-unfolding verdictOf
+pub judged-on : (words : List ℕ) → 4 ≤ length words → getD words 0 0 ≡ 1448364865 → getD words 1 0 ≡ 1 → settledEnd words (endOf words) ≡ frameSays words
+unfolding frameSays
 judged-on words h magic version = rw (le-ltb (length words) 4 h, eq-eqb (getD words 0 0) 1448364865 magic, eq-eqb (getD words 1 0) 1 version)
 
-pub on-past : (words : List ℕ) → settledEnd words (endOf words) ≡ verdictOf words → endOf words ≡ Past → Short ≡ verdictOf words
+pub on-past : (words : List ℕ) → settledEnd words (endOf words) ≡ frameSays words → endOf words ≡ Past → Short ≡ frameSays words
 unfolding settledEnd
 on-past words on past = rw past at on
 
-pub on-at : (words : List ℕ) {end : ℕ} → settledEnd words (endOf words) ≡ verdictOf words → endOf words ≡ At end → settledOf words end ≡ verdictOf words
+pub on-at : (words : List ℕ) {end : ℕ} → settledEnd words (endOf words) ≡ frameSays words → endOf words ≡ At end → settledOf words end ≡ frameSays words
 unfolding settledEnd
 on-at words on at = rw at at on
 
@@ -161,8 +161,8 @@ ends words whole =
     let r : (ltb (length words - 1) (allEnd words) ≡ false) × (settledOf words (allEnd words) ≡ Whole) = reached words (ltb (length words - 1) (allEnd words)) (allEnd words) whole in
     omega (arith, ltb-false (length words - 1) (allEnd words) (r .0), ltb-false (allEnd words) (length words - 1) (not-taken _ long-no (r .1) .0))
 
-pub whole-within : (words : List ℕ) → verdictOf words ≡ Whole → Within words
-unfolding verdictOf
+pub whole-within : (words : List ℕ) → frameSays words ≡ Whole → Within words
+unfolding frameSays
 whole-within words whole =
     let long : (ltb (length words) 4 ≡ false) × _ = not-taken _ short-no whole in
     let magic : (eqb (getD words 0 0) 1448364865 ≡ true) × _ = taken (eqb (getD words 0 0) 1448364865) stranger-no (long .1) in

@@ -56,15 +56,15 @@ settledEnd words Past = Short
 settledEnd words (At end) = settledOf words end
 
 -- a whole file: at least four words, `AKTV`, version 1, cases up to the last word, and that one right
-unfoldable pub verdictOf : List ℕ → Verdict
-verdictOf words =
+unfoldable pub frameSays : List ℕ → Verdict
+frameSays words =
     cond (ltb (length words) 4) Short
     (cond (eqb (getD words 0 0) 1448364865)
     (cond (eqb (getD words 1 0) 1) (settledEnd words (endOf words)) Version)
     Stranger)
 
 abbrev pub IsWhole : List ℕ → Type 0
-IsWhole words = verdictOf words ≡ Whole
+IsWhole words = frameSays words ≡ Whole
 
 -- how many of so many cases that begin at a place are of a kind
 unfoldable pub heldFrom : List ℕ → ℕ → ℕ → ℕ → ℕ

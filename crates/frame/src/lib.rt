@@ -3,7 +3,7 @@ ghost use mathlib.Core.Path.{_≡_};
 ghost use Prim.Native.Nat.{_+_, _<_, _≤_, min};
 ghost use lib.ListN.{length, getD};
 ghost use Rattle.io.specs.Counts.{Counts};
-ghost use Rattle.frame.specs.Frame.{wordAt, Words, sumOf, endOf, settledOf, verdictOf, IsWhole, heldOf};
+ghost use Rattle.frame.specs.Frame.{wordAt, Words, sumOf, endOf, settledOf, frameSays, IsWhole, heldOf};
 
 const MAGIC: u32 = 1448364865;
 
@@ -119,7 +119,7 @@ fn end_of_cases(words: &[u32]) -> End
 
 // What is right or wrong with a file of these words.
 pub fn judge(words: &[u32]) -> Verdict
-    ensures { λ r. ⌜ r ≡ verdictOf (now (words .entry)) ⌝ }
+    ensures { λ r. ⌜ r ≡ frameSays (now (words .entry)) ⌝ }
 {
     if words.len() < 4 {
         return Verdict::Short;

@@ -112,18 +112,18 @@ in-64 f n h = lt-of-le-of-lt h (go f)
     go binary32 = lit< tt
     go binary64 = lit< tt
 
-whole : (f : Format) (z : ℤ) → natAbs z ≤ 2 ^ 64 → NearestFraction f (ltZ z (pos 0)) (natAbs z) 1 (ofInt f z)
+nearest-whole : (f : Format) (z : ℤ) → natAbs z ≤ 2 ^ 64 → NearestFraction f (ltZ z (pos 0)) (natAbs z) 1 (ofInt f z)
 unfolding ofInt
-whole f (pos n) h = subst (λ (b : Bool). NearestFraction f b n 1 (round f false n 1)) (sym (not-under n)) (round-nearest f false n 1 (zero-lt-suc 0) (in-64 f n h))
+nearest-whole f (pos n) h = subst (λ (b : Bool). NearestFraction f b n 1 (round f false n 1)) (sym (not-under n)) (round-nearest f false n 1 (zero-lt-suc 0) (in-64 f n h))
   where
     not-under : (n : ℕ) → ltb n 0 ≡ false
     not-under n = is-false (ltb n 0) (le→nltb n 0 zero-le)
-whole f (negsuc n) h = round-nearest f true (suc n) 1 (zero-lt-suc 0) (in-64 f (suc n) h)
+nearest-whole f (negsuc n) h = round-nearest f true (suc n) 1 (zero-lt-suc 0) (in-64 f (suc n) h)
 
 pub conversions : Conversions
 unfolding narrow
 conversions = record {
-  whole = whole;
+  whole = nearest-whole;
   narrowed = λ f s m e l. round-nearest f s (m * up e) (down e) (down-pos e) l;
   narrowed-large = λ f s m e l. round-infinite f s (m * up e) (down e) (down-pos e) l;
   narrowed-infinity = λ f s. refl;

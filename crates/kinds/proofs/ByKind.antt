@@ -72,8 +72,8 @@ past n p t = go (ltb n p) (eqb p n) (nltb→le n p) (λ (e : p ≡ n). eq→eqb 
     go false true f g t = absurd t
     go false false f g t = lt-of-le-ne (f tt) (λ (e : p ≡ n). g e)
 
-uncapped : (n p : ℕ) → n < p → min n (p - 1) ≡ n
-uncapped n p l = omega arith
+within-cap : (n p : ℕ) → n < p → min n (p - 1) ≡ n
+within-cap n p l = omega arith
 
 -- ---- signed, from -2 ^ h to 2 ^ h - 1
 module _ {K : Type 0} (exact : ℤ → K) (notNumber below above : K) (h : ℕ) where
@@ -137,7 +137,7 @@ module _ {K : Type 0} (exact : ℤ → K) (notNumber below above : K) (h : ℕ) 
   signed-exact (fin false m e) a b =
       let n = m * up e / down e in
       let l : n < 2 ^ h = short (m * up e) (2 ^ h) (down e) (down-pos e) (ltb→lt (m * up e * 1) (1 * 2 ^ h * down e) b) in
-      ap (λ (z : ℕ). exact (pos z)) (uncapped n (2 ^ h) l) ∙ if-yes (ltb n (2 ^ h)) (exact (pos n)) above (lt→ltb n (2 ^ h) l)
+      ap (λ (z : ℕ). exact (pos z)) (within-cap n (2 ^ h) l) ∙ if-yes (ltb n (2 ^ h)) (exact (pos n)) above (lt→ltb n (2 ^ h) l)
 
   pub above-signed : (x : Float) → T (le (minus-two-to h) x) → T (not (lt x (two-to h))) → above ≡ kindBy exact notNumber below above (negℤ (pos (2 ^ h))) (pos (2 ^ h - 1)) x
   above-signed x a b = signed-above x a b ∙ signed-one exact notNumber below above h x
@@ -205,7 +205,7 @@ module _ {K : Type 0} (exact : ℕ → K) (notNumber below above : K) (w : ℕ) 
   unsigned-exact (fin false m e) a b =
       let n = m * up e / down e in
       let l : n < 2 ^ w = short (m * up e) (2 ^ w) (down e) (down-pos e) (ltb→lt (m * up e * 1) (1 * 2 ^ w * down e) b) in
-      ap exact (uncapped n (2 ^ w) l) ∙ if-yes (ltb n (2 ^ w)) (exact n) above (lt→ltb n (2 ^ w) l)
+      ap exact (within-cap n (2 ^ w) l) ∙ if-yes (ltb n (2 ^ w)) (exact n) above (lt→ltb n (2 ^ w) l)
 
   pub above-unsigned : (x : Float) → T (lt (minus-two-to 0) x) → T (not (lt x (two-to w))) → above ≡ kindBy (λ z. exact (natAbs z)) notNumber below above (pos 0) (pos (2 ^ w - 1)) x
   above-unsigned x a b = unsigned-above x a b ∙ unsigned-one exact notNumber below above w x

@@ -38,7 +38,7 @@ use Rattle.segments.specs.declared.Range.{Range}
 use Rattle.segments.specs.declared.Segment.{Segment}
 use Rattle.verdict.specs.Verdict.{shaped, orRefused}
 use Rattle.layers.specs.declared.Ran.{Ran}
-use Rattle.layers.specs.declared.Told.{Told}
+use Rattle.layers.specs.declared.JudgedTold.{JudgedTold}
 use Rattle.layers.specs.declared.Eight.{Eight}
 use Rattle.layers.specs.declared.Counted.{Counted}
 
@@ -82,10 +82,10 @@ abbrev pub judgedOf : Description → Given → Judged
 judgedOf d g = orRefused (shaped d) Shape (judgeOf d g)
 
 -- a judging's number, place and summed estimate
-abbrev pub judgedLeaves : ℕ → ℕ → ℕ → Told
+abbrev pub judgedLeaves : ℕ → ℕ → ℕ → JudgedTold
 judgedLeaves number place estimate = record { number = number; place = place; estimate = estimate }
 
-abbrev pub toldJudged : Judged → Told
+abbrev pub toldJudged : Judged → JudgedTold
 toldJudged (Fine total) = judgedLeaves 0 0 total
 toldJudged (Refused code k) = judgedLeaves (numberOf code) k 0
 

@@ -148,22 +148,22 @@ pub extern "C" fn layers_dequantize(
 }
 
 // The answer of a judging as numbers: the code's, the place and the summed estimate.
-struct Told {
+struct JudgedTold {
     number: u32,
     place: usize,
     estimate: u64,
 }
 
-fn told_judged(judged: Judged) -> Told
+fn told_judged(judged: Judged) -> JudgedTold
     ensures { λ r. ⌜ r ≡ toldJudged judged ⌝ }
 {
     match judged {
-        Judged::Fine(estimate) => Told {
+        Judged::Fine(estimate) => JudgedTold {
             number: 0,
             place: 0,
             estimate,
         },
-        Judged::Refused(code, place) => Told {
+        Judged::Refused(code, place) => JudgedTold {
             number: codes::number_of(code),
             place,
             estimate: 0,

@@ -266,10 +266,10 @@ pub record ListRead (limit : ℕ) (rooms : ListRooms) (l : List ℕ) (a : ℤ) (
   pub is : l ≡ listOf (described a zs ns ds cs)
   pub valid : Valid limit zs ns ds cs
 
-whole : (limit : ℕ) (rooms : ListRooms) (v : ℕ) (l l1 : List ℕ) (a : ℤ) (ys zs : List ℤ) (ns : List ℕ) (ds cs : List ℤ) (r : List ℕ) → v + 1 ≤ limit
+whole-list : (limit : ℕ) (rooms : ListRooms) (v : ℕ) (l l1 : List ℕ) (a : ℤ) (ys zs : List ℤ) (ns : List ℕ) (ds cs : List ℤ) (r : List ℕ) → v + 1 ≤ limit
     → (l ≡ startsList true (pos 0) (pos 0) ys ++ l1) × (length ys ≡ 2 * (v + 1)) × Near true ys → AfterRead limit (v + 1) ys l1 a zs ns ds cs r
     → ListRead limit rooms (v ∷ l) a zs ns ds cs r
-whole limit rooms v l l1 a ys zs ns ds cs r h g w =
+whole-list limit rooms v l l1 a ys zs ns ds cs r h g w =
     let count = w .rest .count in
     let one : length ns - 1 ≡ v = omega (arith, count) in
     record {
@@ -301,6 +301,6 @@ list-read limit rooms (v ∷ l) a zs ns ds cs r e =
     let b = then-got starts after x r (c2 .1) in
     let w = after-read t limit (rooms .deltas) (v + 1) (b .0) (b .1) a zs ns ds cs r (b .3) in
     let g = starts-read t true (pos 0) (pos 0) (v + 1) l (b .0) (b .1) (b .2) in
-    whole limit rooms v l (b .1) a (b .0) zs ns ds cs r (ltb-false limit (v + 1) (c1 .0)) g w
+    whole-list limit rooms v l (b .1) a (b .0) zs ns ds cs r (ltb-false limit (v + 1) (c1 .0)) g w
 
 -- Assumes nothing.

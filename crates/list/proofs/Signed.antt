@@ -70,8 +70,8 @@ pub record Below (x : ℤ) : Type 0 where
   pub small : k < 2 ^ 31
   pub turned : negsuc 0 -ℤ toZ w32 (ofZ w32 x) ≡ pos k
 
-pub below : (x : ℤ) → SFits w32 x → ltZ (toZ w32 (ofZ w32 x)) (pos 0) ≡ true → Below x
-below x f e = go x f (rw (toZ-ofZ {w = w32} {z = x} f) at e)
+pub tested-below : (x : ℤ) → SFits w32 x → ltZ (toZ w32 (ofZ w32 x)) (pos 0) ≡ true → Below x
+tested-below x f e = go x f (rw (toZ-ofZ {w = w32} {z = x} f) at e)
   where
     go : (x : ℤ) → SFits w32 x → ltZ x (pos 0) ≡ true → Below x
     go (pos n) f e = absurd (not-suc-le-zero (ltb-true n 0 e))

@@ -59,7 +59,7 @@ module _ (segs : List Float) (S : ℕ) (entries : List ℕ) (n : ℕ) where
 
 module _ (segs : List Float) (S H : ℕ) (starts entries : List ℕ) (n : ℕ) where
   -- a code and a place that the table of refusals gives
-  record Given : Type 0 where
+  record Refusing : Type 0 where
     code : Code
     place : ℕ
     refusal : CheckRefusal segs S H starts entries n code place
@@ -109,7 +109,7 @@ module _ (segs : List Float) (S H : ℕ) (starts entries : List ℕ) (n : ℕ) w
     last-in b zero e before = rw e (omega (arith, b))
     last-in b (suc h) e before = let r = before h (omega arith) in rw e (r .ends)
 
-    decided : CheckAccepted segs S H starts entries n n ⊎ Given
+    decided : CheckAccepted segs S H starts entries n n ⊎ Refusing
     decided =
         ⊎-elim
         (λ b.
@@ -137,7 +137,7 @@ module _ (segs : List Float) (S H : ℕ) (starts entries : List ℕ) (n : ℕ) w
         below : (a b : ℕ) → a ≤ b → (a ≡ b → ⊥) → a < b
         below a b h k = ⊎-elim (λ (l : a < b). l) (λ (l : b ≤ a). absurd (k (omega arith))) (split a b)
 
-        first-wrong : (getD starts 0 0 ≡ 0 → ⊥) → (h : ℕ) → H ≡ h → Given
+        first-wrong : (getD starts 0 0 ≡ 0 → ⊥) → (h : ℕ) → H ≡ h → Refusing
         first-wrong b zero e = record { code = Code.Table; place = H; refusal = row f (first-start e b) }
         first-wrong b (suc h) e = record { code = Code.Table; place = 0; refusal = row f (wrong-row {w = 0} (omega arith) (λ y k. absurd (omega arith)) (λ q. b (q .begins refl))) }
 
@@ -152,7 +152,7 @@ module _ (segs : List Float) (S H : ℕ) (starts entries : List ℕ) (n : ℕ) w
   pub accepted-told : {m : ℕ} → CheckAccepted segs S H starts entries n m → checkOf segs S H starts entries n ≡ Done m
   accepted-told a = done-told (a .fits) (a .right .begins) (a .right .rows) (a .right .closes) ∙ ap Done (sym (a .told))
 
-  either : CheckAccepted segs S H starts entries n n ⊎ Given
+  either : CheckAccepted segs S H starts entries n n ⊎ Refusing
   either =
       ⊎-elim (λ h. inr (record { code = Code.Size; place = 0; refusal = size h }))
       (λ l.
@@ -180,7 +180,7 @@ module _ (segs : List Float) (S H : ℕ) (starts entries : List ℕ) (n : ℕ) w
       placeOf (Done m) = 0
       placeOf (Refused a b) = b
 
-      same : (g : Given) → Refused (g .code) (g .place) ≡ Refused c p → CheckRefusal segs S H starts entries n c p
+      same : (g : Refusing) → Refused (g .code) (g .place) ≡ Refused c p → CheckRefusal segs S H starts entries n c p
       same g e =
           subst (λ (b : ℕ). CheckRefusal segs S H starts entries n c b) (ap placeOf e)
           (subst (λ (a : Code). CheckRefusal segs S H starts entries n a (g .place)) (ap codeOf e) (g .refusal))
@@ -192,7 +192,7 @@ module _ (segs : List Float) (S H : ℕ) (starts entries : List ℕ) (n : ℕ) w
       isRefused (Done k) = ⊥
       isRefused (Refused a b) = Unit
 
-      apart : (g : Given) → Refused (g .code) (g .place) ≡ Done m → ⊥
+      apart : (g : Refusing) → Refused (g .code) (g .place) ≡ Done m → ⊥
       apart g e = subst isRefused e tt
 
       countOf : CheckAnswer → ℕ

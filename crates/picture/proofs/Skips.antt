@@ -15,7 +15,7 @@ use lib.Ieee.Back.{round-whole}
 use lib.Ieee.Scale.{round-same}
 use lib.Ieee.Fits.{down-pos}
 use borrow.Author.Tests.{le-ltb}
-use Rattle.numbers.specs.Arith.{f}
+use Rattle.numbers.specs.Arith.{f, 1·0}
 use Rattle.roots.specs.Root.{sqrtOf}
 use Rattle.dequantize.specs.declared.Given.{Given}
 use Rattle.control_points.specs.declared.Pair.{Pair}
@@ -38,9 +38,6 @@ use Rattle.picture.specs.Owners.{Skipped}
 
 abbrev o : Float
 o = fin false 0 (pos 0)
-
-abbrev one : Float
-one = fin false 1 (pos 0)
 
 -- ---- a whole number less itself
 
@@ -69,7 +66,7 @@ whole-less-itself (negsuc n) h = less-itself (round binary32 true (suc n) 1) tru
 
 -- the walk stays where it begins
 stays : (x y : Float) → sub binary32 x x ≡ o → sub binary32 y y ≡ o
-    → walkIn 2 (x ∷ y ∷ []) ≡ Ended (toDraw (record { x = x; y = y }) one ∷ toDraw (record { x = x; y = y }) o ∷ [])
+    → walkIn 2 (x ∷ y ∷ []) ≡ Ended (toDraw (record { x = x; y = y }) 1·0 ∷ toDraw (record { x = x; y = y }) o ∷ [])
 unfolding walkIn walkFrom stretchOf stretchIn pointAt distanceOf sqrtOf add mul le ofBits
 stays x y a b = rw (a, b)
 
@@ -77,7 +74,7 @@ path-of-one : (start : Pair) → Curve.flat (pathOf start []) ≡ pointOf start 
 unfolding Curve.flat pathOf Curve.drawCentripetalCatmullRomSpline Curve.asPoints controlPoints laterPoints
 path-of-one start = refl
 
-no-length : (p : Point) → le (walkLength 2 (lastMultiplier (toDraw p one ∷ toDraw p o ∷ []))) (f 0) ≡ true
+no-length : (p : Point) → le (walkLength 2 (lastMultiplier (toDraw p 1·0 ∷ toDraw p o ∷ []))) (f 0) ≡ true
 unfolding walkLength lastMultiplier add mul ofInt ofBits le
 no-length p = refl
 
@@ -109,7 +106,7 @@ module _ (d : Description) (g : Given) (high : Bool) (k : ℕ) where
       record {
         start = a .start;
         begins = a .begins;
-        points = toDraw (pointOf (a .start)) one ∷ toDraw (pointOf (a .start)) o ∷ [];
+        points = toDraw (pointOf (a .start)) 1·0 ∷ toDraw (pointOf (a .start)) o ∷ [];
         walks = record { most = 2; ended = ap (walkIn 2) path ∙ walk };
         no-length = no-length (pointOf (a .start));
       }

@@ -17,7 +17,7 @@ use Rattle.polyline.specs.declared.Track.{Track}
 use Rattle.polyline.specs.declared.Judged.{Judged}
 use Rattle.polyline.specs.declared.Judged.the-variants.{On, Stop}
 use Rattle.polyline.specs.declared.Walked.the-variants.{Came, Halt}
-use Rattle.polyline.specs.Spots.{signedBy, figureAt, grownBy, spotOf, spotsFrom, whole, capped, spotsOf, cappedSpots}
+use Rattle.polyline.specs.Spots.{signedBy, figureAt, grownBy, spotOf, spotsFrom, uncapped, capped, spotsOf, cappedSpots}
 use Rattle.polyline.specs.Read.{judgedOf, afterPair, walkFrom, trackTo}
 use Rattle.polyline.proofs.Walks.{placeable-valid, unplaceable, walk-came}
 
@@ -114,7 +114,7 @@ came-same (s ∷ ss) t v e =
 
 -- ---- texts
 
-grown-capped : (f : Figure) (b : ℕ) → grownBy capped (capFigure f) b ≡ capFigure (grownBy whole f b)
+grown-capped : (f : Figure) (b : ℕ) → grownBy capped (capFigure f) b ≡ capFigure (grownBy uncapped f b)
 unfolding grownBy
 grown-capped f b = go (eqb b 44) (eqb b 45)
   where
@@ -133,16 +133,16 @@ spot-capped : (f : Figure) → spotOf (capFigure f) ≡ capSpot (spotOf f)
 unfolding spotOf
 spot-capped f = rw (value-capped (f .negative) (f .size))
 
-spots-capped : (bs : List ℕ) (f : Figure) (at : ℕ) → spotsFrom capped (capFigure f) at bs ≡ map capSpot (spotsFrom whole f at bs)
+spots-capped : (bs : List ℕ) (f : Figure) (at : ℕ) → spotsFrom capped (capFigure f) at bs ≡ map capSpot (spotsFrom uncapped f at bs)
 unfolding spotsFrom
 spots-capped [] f at = refl
 spots-capped (b ∷ bs) f at = go (eqb b 32) (λ g. spots-capped bs g (suc at))
   where
-    go : (t : Bool) → ((g : Figure) → spotsFrom capped (capFigure g) (suc at) bs ≡ map capSpot (spotsFrom whole g (suc at) bs)) →
+    go : (t : Bool) → ((g : Figure) → spotsFrom capped (capFigure g) (suc at) bs ≡ map capSpot (spotsFrom uncapped g (suc at) bs)) →
         cond t (spotOf (capFigure f) ∷ spotsFrom capped (figureAt (suc at)) (suc at) bs) (spotsFrom capped (grownBy capped (capFigure f) b) (suc at) bs)
-        ≡ map capSpot (cond t (spotOf f ∷ spotsFrom whole (figureAt (suc at)) (suc at) bs) (spotsFrom whole (grownBy whole f b) (suc at) bs))
+        ≡ map capSpot (cond t (spotOf f ∷ spotsFrom uncapped (figureAt (suc at)) (suc at) bs) (spotsFrom uncapped (grownBy uncapped f b) (suc at) bs))
     go true h = rw (spot-capped f, h (figureAt (suc at)))
-    go false h = rw (grown-capped f b) (h (grownBy whole f b))
+    go false h = rw (grown-capped f b) (h (grownBy uncapped f b))
 
 pub capped-is : (text : List ℕ) → cappedSpots text ≡ map capSpot (spotsOf text)
 unfolding cappedSpots spotsOf

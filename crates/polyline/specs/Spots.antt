@@ -39,8 +39,8 @@ spotsFrom hold f at (b ∷ bs) =
     cond (eqb b 32) (spotOf f ∷ spotsFrom hold (figureAt (suc at)) (suc at) bs) (spotsFrom hold (grownBy hold f b) (suc at) bs)
 
 -- sizes as they are
-abbrev pub whole : ℕ → ℕ
-whole n = n
+abbrev pub uncapped : ℕ → ℕ
+uncapped n = n
 
 -- sizes up to 2^24, which is beyond every position
 abbrev pub capped : ℕ → ℕ
@@ -51,7 +51,7 @@ abbrev pub ended : List ℕ → List ℕ
 ended text = text ++ 32 ∷ []
 
 unfoldable pub spotsOf : List ℕ → List Spot
-spotsOf text = spotsFrom whole (figureAt 0) 0 (ended text)
+spotsOf text = spotsFrom uncapped (figureAt 0) 0 (ended text)
 
 -- the same with sizes that fit a machine's number
 unfoldable pub cappedSpots : List ℕ → List Spot

@@ -13,7 +13,7 @@ use Rattle.control_points.specs.declared.Pair.{Pair}
 use Rattle.polyline.specs.declared.Figure.{Figure}
 use Rattle.polyline.specs.declared.Spot.{Spot}
 use Rattle.polyline.specs.Form.{IsDigit, IsLeading, Digits, Number, nought, plain, minus, PairForm, pair, PointsForm, last, more}
-use Rattle.polyline.specs.Spots.{signedBy, figureAt, grownBy, spotOf, spotsFrom, whole, ended, spotsOf}
+use Rattle.polyline.specs.Spots.{signedBy, figureAt, grownBy, spotOf, spotsFrom, uncapped, ended, spotsOf}
 use Rattle.polyline.specs.Write.{digitsOf, numberText, pairText, laterText, pointsText}
 use Rattle.polyline.proofs.Digits.{digits-small, digits-large}
 use Rattle.polyline_laws.specs.Says.{Says, firstByte, Said, FormSays, OneSaying}
@@ -156,17 +156,17 @@ figure begin x negative size = record { begin = begin; x = x; negative = negativ
 
 module _ (begin : ℕ) (x : ℤ) (s : Bool) where
   -- a byte that is a digit
-  digit-step : (size at b : ℕ) (r : List ℕ) → IsDigit b → spotsFrom whole (figure begin x s size) at (b ∷ r) ≡ spotsFrom whole (figure begin x s (10 * size + (b - 48))) (suc at) r
+  digit-step : (size at b : ℕ) (r : List ℕ) → IsDigit b → spotsFrom uncapped (figure begin x s size) at (b ∷ r) ≡ spotsFrom uncapped (figure begin x s (10 * size + (b - 48))) (suc at) r
   unfolding spotsFrom grownBy
   digit-step size at b r d = rw (ne-eqb b 32 (λ e. omega (arith, d .0)), ne-eqb b 44 (λ e. omega (arith, d .0)), ne-eqb b 45 (λ e. omega (arith, d .0)))
 
-  digits-step : (k n : ℕ) → n < k → (at : ℕ) (r : List ℕ) → spotsFrom whole (figure begin x s 0) at (digitsOf n ++ r) ≡ spotsFrom whole (figure begin x s n) (at + length (digitsOf n)) r
+  digits-step : (k n : ℕ) → n < k → (at : ℕ) (r : List ℕ) → spotsFrom uncapped (figure begin x s 0) at (digitsOf n ++ r) ≡ spotsFrom uncapped (figure begin x s n) (at + length (digitsOf n)) r
   digits-step zero n h at r = absurd (omega arith)
   digits-step (suc k) n h at r = go (ltb n 10) refl (λ e l. digits-step k (n / 10) (omega (arith, ltb-false n 10 e)) at l)
     where
       go : (t : Bool) → ltb n 10 ≡ t
-          → (ltb n 10 ≡ false → (l : List ℕ) → spotsFrom whole (figure begin x s 0) at (digitsOf (n / 10) ++ l) ≡ spotsFrom whole (figure begin x s (n / 10)) (at + length (digitsOf (n / 10))) l)
-          → spotsFrom whole (figure begin x s 0) at (digitsOf n ++ r) ≡ spotsFrom whole (figure begin x s n) (at + length (digitsOf n)) r
+          → (ltb n 10 ≡ false → (l : List ℕ) → spotsFrom uncapped (figure begin x s 0) at (digitsOf (n / 10) ++ l) ≡ spotsFrom uncapped (figure begin x s (n / 10)) (at + length (digitsOf (n / 10))) l)
+          → spotsFrom uncapped (figure begin x s 0) at (digitsOf n ++ r) ≡ spotsFrom uncapped (figure begin x s n) (at + length (digitsOf n)) r
       go true e ih =
           let h : n < 10 = ltb-true n 10 e in
           let v : 10 * 0 + (48 + n - 48) ≡ n = omega arith in
@@ -177,7 +177,7 @@ module _ (begin : ℕ) (x : ℤ) (s : Bool) where
           let v : 10 * (n / 10) + (48 + n % 10 - 48) ≡ n = omega arith in
           let w : suc (at + length (digitsOf (n / 10))) ≡ at + length (digitsOf (n / 10) ++ (48 + n % 10) ∷ []) = omega (arith, length-append (digitsOf (n / 10)) ((48 + n % 10) ∷ [])) in
           rw (digits-large n h)
-          (ap (λ (l : List ℕ). spotsFrom whole (figure begin x s 0) at l) (append-assoc (digitsOf (n / 10)) ((48 + n % 10) ∷ []) r)
+          (ap (λ (l : List ℕ). spotsFrom uncapped (figure begin x s 0) at l) (append-assoc (digitsOf (n / 10)) ((48 + n % 10) ∷ []) r)
           ∙ ih e ((48 + n % 10) ∷ r) ∙ digit-step (n / 10) (at + length (digitsOf (n / 10))) (48 + n % 10) r (omega arith, omega arith) ∙ rw (v, w))
 
 -- the sign and the size of a number
@@ -193,47 +193,47 @@ sign-size : (z : ℤ) → signedBy (negative z) (size z) ≡ z
 sign-size (pos n) = refl
 sign-size (negsuc n) = refl
 
-minus-step : (begin : ℕ) (x : ℤ) (at : ℕ) (r : List ℕ) → spotsFrom whole (figure begin x false 0) at (45 ∷ r) ≡ spotsFrom whole (figure begin x true 0) (suc at) r
+minus-step : (begin : ℕ) (x : ℤ) (at : ℕ) (r : List ℕ) → spotsFrom uncapped (figure begin x false 0) at (45 ∷ r) ≡ spotsFrom uncapped (figure begin x true 0) (suc at) r
 unfolding spotsFrom grownBy
 minus-step begin x at r = refl
 
 number-step : (begin : ℕ) (x z : ℤ) (at : ℕ) (r : List ℕ)
-    → spotsFrom whole (figure begin x false 0) at (numberText z ++ r) ≡ spotsFrom whole (figure begin x (negative z) (size z)) (at + length (numberText z)) r
+    → spotsFrom uncapped (figure begin x false 0) at (numberText z ++ r) ≡ spotsFrom uncapped (figure begin x (negative z) (size z)) (at + length (numberText z)) r
 unfolding numberText
 number-step begin x (pos n) at r = digits-step begin x false (suc n) n (omega arith) at r
 number-step begin x (negsuc n) at r =
     let w : suc at + length (digitsOf (suc n)) ≡ at + suc (length (digitsOf (suc n))) = omega arith in
     minus-step begin x at (digitsOf (suc n) ++ r) ∙ digits-step begin x true (suc (suc n)) (suc n) (omega arith) (suc at) r ∙ rw w
 
-comma-step : (begin : ℕ) (x : ℤ) (s : Bool) (n at : ℕ) (r : List ℕ) → spotsFrom whole (figure begin x s n) at (44 ∷ r) ≡ spotsFrom whole (figure begin (signedBy s n) false 0) (suc at) r
+comma-step : (begin : ℕ) (x : ℤ) (s : Bool) (n at : ℕ) (r : List ℕ) → spotsFrom uncapped (figure begin x s n) at (44 ∷ r) ≡ spotsFrom uncapped (figure begin (signedBy s n) false 0) (suc at) r
 unfolding spotsFrom grownBy
 comma-step begin x s n at r = refl
 
 space-step : (begin : ℕ) (x : ℤ) (s : Bool) (n at : ℕ) (r : List ℕ)
-    → spotsFrom whole (figure begin x s n) at (32 ∷ r) ≡ record { begin = begin; point = record { x = x; y = signedBy s n } } ∷ spotsFrom whole (figureAt (suc at)) (suc at) r
+    → spotsFrom uncapped (figure begin x s n) at (32 ∷ r) ≡ record { begin = begin; point = record { x = x; y = signedBy s n } } ∷ spotsFrom uncapped (figureAt (suc at)) (suc at) r
 unfolding spotsFrom spotOf
 space-step begin x s n at r = refl
 
 pair-step : (p : Pair) (at : ℕ) (r : List ℕ)
-    → spotsFrom whole (figureAt at) at (pairText p ++ 32 ∷ r) ≡ record { begin = at; point = p } ∷ spotsFrom whole (figureAt (suc (at + length (pairText p)))) (suc (at + length (pairText p))) r
+    → spotsFrom uncapped (figureAt at) at (pairText p ++ 32 ∷ r) ≡ record { begin = at; point = p } ∷ spotsFrom uncapped (figureAt (suc (at + length (pairText p)))) (suc (at + length (pairText p))) r
 unfolding pairText
 pair-step p at r =
     let a = numberText (p .x) in
     let b = numberText (p .y) in
     let w : suc (at + length a) + length b ≡ at + length (a ++ 44 ∷ b) = omega (arith, length-append a (44 ∷ b)) in
-    ap (spotsFrom whole (figureAt at) at) (append-assoc a (44 ∷ b) (32 ∷ r))
+    ap (spotsFrom uncapped (figureAt at) at) (append-assoc a (44 ∷ b) (32 ∷ r))
     ∙ number-step at (pos 0) (p .x) at (44 ∷ (b ++ 32 ∷ r))
     ∙ comma-step at (pos 0) (negative (p .x)) (size (p .x)) (at + length a) (b ++ 32 ∷ r)
     ∙ number-step at (signedBy (negative (p .x)) (size (p .x))) (p .y) (suc (at + length a)) (32 ∷ r)
     ∙ space-step at (signedBy (negative (p .x)) (size (p .x))) (negative (p .y)) (size (p .y)) (suc (at + length a) + length b) r
     ∙ rw (sign-size (p .x), sign-size (p .y), w)
 
-points-step : (ps : List Pair) (at : ℕ) → 0 < length ps → spotsFrom whole (figureAt at) at (pointsText ps ++ 32 ∷ []) ≡ spotsBy at ps
+points-step : (ps : List Pair) (at : ℕ) → 0 < length ps → spotsFrom uncapped (figureAt at) at (pointsText ps ++ 32 ∷ []) ≡ spotsBy at ps
 unfolding pointsText laterText spotsFrom
 points-step [] at h = absurd (omega arith)
-points-step (p ∷ []) at h = ap (λ (l : List ℕ). spotsFrom whole (figureAt at) at (l ++ 32 ∷ [])) (append-none (pairText p)) ∙ pair-step p at []
+points-step (p ∷ []) at h = ap (λ (l : List ℕ). spotsFrom uncapped (figureAt at) at (l ++ 32 ∷ [])) (append-none (pairText p)) ∙ pair-step p at []
 points-step (p ∷ q ∷ ps) at h =
-    ap (spotsFrom whole (figureAt at) at) (append-assoc (pairText p) (laterText (q ∷ ps)) (32 ∷ []))
+    ap (spotsFrom uncapped (figureAt at) at) (append-assoc (pairText p) (laterText (q ∷ ps)) (32 ∷ []))
     ∙ pair-step p at (pointsText (q ∷ ps) ++ 32 ∷ [])
     ∙ ap (λ (l : List Spot). record { begin = at; point = p } ∷ l) (points-step (q ∷ ps) (suc (at + length (pairText p))) (omega arith))
 

@@ -27,7 +27,7 @@ use Rattle.polyline.specs.declared.Track.the-variants.{Empty, At}
 use Rattle.polyline.specs.declared.Walked.{Walked}
 use Rattle.polyline.specs.declared.Walked.the-variants.{Came, Halt}
 use Rattle.polyline.specs.Stages.{textOf}
-use Rattle.polyline.specs.Spots.{figureAt, whole, spotsOf, cappedSpots}
+use Rattle.polyline.specs.Spots.{figureAt, uncapped, spotsOf, cappedSpots}
 use Rattle.polyline.specs.Read.{walkFrom, deltasFrom, firstPoint, startOf, laterOf, andThen, walkVerdict, roomFor, pairsVerdict, pointsVerdict, leaves, outcome, readPointsOf}
 use Rattle.polyline.proofs.Walks.{First, walk-first, deltas-length, spots-some}
 use Rattle.polyline.proofs.Capped.{capped-is, walk-capped, came-same, capSpot}
@@ -49,7 +49,7 @@ pub record Scanned (text : List ℕ) (run : Run) (d d′ : List ℤ) : Type 0 wh
 
 some : (text : List ℕ) → 0 < length (spotsOf text)
 unfolding spotsOf
-some text = spots-some whole text (figureAt 0) 0
+some text = spots-some uncapped text (figureAt 0) 0
 
 pub scanned : (text : List ℕ) (run : Run) (d d′ : List ℤ) → ScanLeaves (cappedSpots text) (On run) d d′ → Scanned text run d d′
 scanned text run d d′ l =

@@ -62,8 +62,8 @@ abbrev pub asBuilt : BuildOutcome → ProfileBuildOutcome
 asBuilt o = leaves (ofBuild (o .answer)) (o .path) (o .walk) (o .segments) (o .owners) (o .starts) (o .entries)
 
 -- SIZE, then the check of the profile
-unfoldable pub checkOf : Description → ℤ → ℕ → ℕ → ℕ → ProfileAnswer
-checkOf d adjustment width height edition = cond (sized width height) (answerOf d adjustment edition) (ProfileAnswer.Refused Code.Size 0)
+unfoldable pub checkProfileOf : Description → ℤ → ℕ → ℕ → ℕ → ProfileAnswer
+checkProfileOf d adjustment width height edition = cond (sized width height) (answerOf d adjustment edition) (ProfileAnswer.Refused Code.Size 0)
 
 abbrev pub afterCheck : BuildRooms → ProfileAnswer → BuildOutcome → ProfileBuildOutcome
 afterCheck r (ProfileAnswer.Refused c p) o = stoppedWith r (Refused c p)
@@ -72,4 +72,4 @@ afterCheck r ProfileAnswer.Meets o = asBuilt o
 
 -- SIZE, SHAPE, EDITION, PROFILE, then as building
 unfoldable pub buildProfileOf : Description → Setting → ℕ → BuildRooms → ProfileBuildOutcome
-buildProfileOf d i edition r = afterCheck r (checkOf d (i .adjustment) (i .width) (i .height) edition) (buildOf d i r)
+buildProfileOf d i edition r = afterCheck r (checkProfileOf d (i .adjustment) (i .width) (i .height) edition) (buildOf d i r)

@@ -3,7 +3,7 @@ ghost use mathlib.Core.Path.{_≡_};
 ghost use Rattle.dequantize.specs.Judge.{descriptionOf};
 ghost use Rattle.table.specs.Table.{roomsOf, settingOf};
 ghost use Rattle.verdict.specs.Verdict.{sized};
-ghost use Rattle.profile_build.specs.Building.{ofBuild, checkOf, leaves, stoppedWith, toldOf, buildProfileOf};
+ghost use Rattle.profile_build.specs.Building.{ofBuild, checkProfileOf, leaves, stoppedWith, toldOf, buildProfileOf};
 use codes::Code;
 use profile::ProfileAnswer;
 use table::BuildAnswer;
@@ -59,7 +59,7 @@ fn check(
     height: u32,
     edition: u32,
 ) -> ProfileAnswer
-    ensures { λ r. ⌜ r ≡ checkOf (descriptionOf (now (counts .entry)) (now (starts .entry)) (now (deltas .entry)) (now (coefficients .entry))) adjustment width height edition ⌝ }
+    ensures { λ r. ⌜ r ≡ checkProfileOf (descriptionOf (now (counts .entry)) (now (starts .entry)) (now (deltas .entry)) (now (coefficients .entry))) adjustment width height edition ⌝ }
 {
     if !size_good(width, height) {
         return ProfileAnswer::Refused(Code::Size, 0);

@@ -26,7 +26,7 @@ use Rattle.profile.specs.declared.ProfileAnswer.{ProfileAnswer}
 use Rattle.profile.specs.Profile.{answerOf}
 use Rattle.profile_build.specs.declared.ProfileBuildAnswer.{ProfileBuildAnswer}
 use Rattle.profile_build.specs.declared.ProfileBuildAnswer.the-variants.{Done, Broken, Refused}
-use Rattle.profile_build.specs.Building.{ProfileBuildOutcome, ofBuild, stoppedWith, asBuilt, checkOf, afterCheck, buildProfileOf}
+use Rattle.profile_build.specs.Building.{ProfileBuildOutcome, ofBuild, stoppedWith, asBuilt, checkProfileOf, afterCheck, buildProfileOf}
 use Rattle.profile_laws.specs.Rules.{Meeting, Breaking, Says, meets, breaks, refuses}
 use Rattle.profile_laws.specs.Rules as rules
 use Rattle.profile_laws.specs.Refusals.{Sized, Plain, BreaksRule, DoneByBuild, UnknownEdition, ProfileBuildRefusal, size, shape, edition, building}
@@ -60,16 +60,16 @@ module _ (d : Description) (i : Setting) (e : ℕ) (r : BuildRooms) where
 
   -- ---- what each case leaves
 
-  decided : (x : ProfileAnswer) → checkOf d (i .adjustment) (i .width) (i .height) e ≡ x → whole ≡ afterCheck r x (buildOf d i r)
+  decided : (x : ProfileAnswer) → checkProfileOf d (i .adjustment) (i .width) (i .height) e ≡ x → whole ≡ afterCheck r x (buildOf d i r)
   unfolding buildProfileOf
   decided x q = ap (λ (t : ProfileAnswer). afterCheck r t (buildOf d i r)) q
 
-  checked : Sized i → (x : ProfileAnswer) → Says d (i .adjustment) e x → checkOf d (i .adjustment) (i .width) (i .height) e ≡ x
-  unfolding checkOf
+  checked : Sized i → (x : ProfileAnswer) → Says d (i .adjustment) e x → checkProfileOf d (i .adjustment) (i .width) (i .height) e ≡ x
+  unfolding checkProfileOf
   checked s x y = rw (is-sized i s) (said d (i .adjustment) e x y)
 
-  too-large : (2 ^ 23 < i .width) ⊎ (2 ^ 23 < i .height) → checkOf d (i .adjustment) (i .width) (i .height) e ≡ ProfileAnswer.Refused Code.Size 0
-  unfolding checkOf
+  too-large : (2 ^ 23 < i .width) ⊎ (2 ^ 23 < i .height) → checkProfileOf d (i .adjustment) (i .width) (i .height) e ≡ ProfileAnswer.Refused Code.Size 0
+  unfolding checkProfileOf
   too-large h = rw (not-sized i h)
 
   pub as-build : Plain d i e r → whole ≡ asBuilt (buildOf d i r)

@@ -146,8 +146,8 @@ lasts-past c (at (negsuc k)) y n t = absurd t
 lasts-past c over y n t = absurd t
 
 -- ---- rows
-abbrev top : ℕ
-top = 9223372036854775807
+abbrev mostI64 : ℕ
+mostI64 = 9223372036854775807
 
 row-begins : (b : Bound) (y : ℕ) → y < 9223372036854775807 → beginsBy b y ≡ leZ (heldI64 b) (pos y)
 row-begins under y h = refl
@@ -160,8 +160,8 @@ row-begins (at (negsuc n)) y h = go (min (suc n) 9223372036854775808)
 row-begins over y h = never-reached 9223372036854775807 y h
 
 -- one more of what is not the largest, and of the largest
-one-more : (k y : ℕ) → k < top → ltZ (pos y) (oneMoreI64 (pos k)) ≡ ltb y (k + 1)
-one-more k y h = ap (λ (t : Bool). ltZ (pos y) (cond t (negℤ (pos 9223372036854775808)) (pos (k + 1)))) (is-false (leb top k) (lt→nleb top k h))
+one-more : (k y : ℕ) → k < mostI64 → ltZ (pos y) (oneMoreI64 (pos k)) ≡ ltb y (k + 1)
+one-more k y h = ap (λ (t : Bool). ltZ (pos y) (cond t (negℤ (pos 9223372036854775808)) (pos (k + 1)))) (is-false (leb mostI64 k) (lt→nleb mostI64 k h))
 
 row-lasts : (b : Bound) (y : ℕ) → Not 9223372036854775807 b → lastsTo 9223372036854775808 b y ≡ ltZ (pos y) (oneMoreI64 (heldI64 b))
 row-lasts under y n = refl

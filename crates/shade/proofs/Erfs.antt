@@ -14,7 +14,7 @@ use lib.Ieee.Order.{round-mono}
 use lib.Ieee.Scale.{round-same}
 use lib.Ieee.Back.{whole-unique}
 use borrow.Author.Tests.{lt-ltb, le-ltb, ne-eqb}
-use Rattle.numbers.specs.Arith.{f, _⊕_, _⊖_, _⊗_, _⊘_}
+use Rattle.numbers.specs.Arith.{f, 1·0, _⊕_, _⊖_, _⊗_, _⊘_}
 use Rattle.numbers.specs.Magnitude.{absOf, signOf, withSign}
 use Rattle.approximations.specs.Erf.{erfCore, fastErff}
 use Rattle.numbers.proofs.Zero.{yes, no, null, under, not-under}
@@ -76,9 +76,6 @@ plus-add (fin false m e) (fin true n d) p q = absurd (true≢false q)
 plus-add (fin false m e) (fin false n d) p q = sign-round binary32 false (m * up e * down d + n * up d * down e) (down e * down d)
 
 -- ---- beside 1
-abbrev one : Float
-one = fin false 1 (pos 0)
-
 -- 1 or more, and from 0 through 1; a NaN passes
 abbrev Big : Float → Type 0
 Big nan = T true
@@ -97,8 +94,8 @@ or-split false b t = inr t
 lt-or-eq : (a b : ℕ) → T (ltb a b || (eqb a b && true)) → a ≤ b
 lt-or-eq a b t = elim (or-split (ltb a b) (eqb a b && true) t) [ inl u ↦ le-of-lt (ltb→lt a b u) | inr u ↦ le-of-eq (eqb→eq a b (and-l (eqb a b) true u)) ]
 
-big-of : (y : Float) → signOf y ≡ false → T (le one y) → Big y
-unfolding le signOf
+big-of : (y : Float) → signOf y ≡ false → T (le 1·0 y) → Big y
+unfolding le signOf ofBits
 big-of nan p h = absurd h
 big-of (inf s) p h = p
 big-of (fin true m e) p h = absurd (true≢false p)
@@ -107,8 +104,8 @@ big-of (fin false m e) p h = (refl, go (m * up e) (down e) (lt-or-eq (1 * up (po
     go : (n d : ℕ) → 1 * 1 * d ≤ n * 1 → d ≤ n
     go n d l = omega arith
 
-small-of : (y : Float) → signOf y ≡ false → T (le y one) → Small y
-unfolding le signOf
+small-of : (y : Float) → signOf y ≡ false → T (le y 1·0) → Small y
+unfolding le signOf ofBits
 small-of nan p h = absurd h
 small-of (inf true) p h = absurd (true≢false p)
 small-of (inf false) p h = absurd h
@@ -118,8 +115,8 @@ small-of (fin false m e) p h = (refl, go (m * up e) (down e) (lt-or-eq (m * up e
     go : (n d : ℕ) → n * 1 ≤ 1 * 1 * d → n ≤ d
     go n d l = omega arith
 
-one-is : round binary32 false 1 1 ≡ one
-unfolding round
+one-is : round binary32 false 1 1 ≡ 1·0
+unfolding round ofBits
 one-is = refl
 
 big-round : (a b : ℕ) → 0 < b → b ≤ a → Big (round binary32 false a b)
@@ -128,8 +125,8 @@ big-round a b B h = big-of (round binary32 false a b) (sign-round binary32 false
 small-round : (a b : ℕ) → 0 < b → a ≤ b → Small (round binary32 false a b)
 small-round a b B h = small-of (round binary32 false a b) (sign-round binary32 false a b) (subst (λ (z : Float). T (le (round binary32 false a b) z)) one-is (round-mono binary32 a b 1 1 B (zero-lt-suc 0) (omega arith)))
 
-big-sum : (t : Float) → signOf t ≡ false → Big (t ⊕ one)
-unfolding add signOf
+big-sum : (t : Float) → signOf t ≡ false → Big (t ⊕ 1·0)
+unfolding add signOf ofBits
 big-sum nan p = tt
 big-sum (inf s) p = p
 big-sum (fin true m e) p = absurd (true≢false p)
@@ -150,8 +147,8 @@ small-square (inf s) h = absurd h
 small-square (fin true m e) h = absurd (true≢false (h .0))
 small-square (fin false m e) h = small-round (m * up e * (m * up e)) (down e * down e) (mul-pos (down-pos e) (down-pos e)) (mul-le-mul (h .1) (h .1))
 
-small-inverse : (y : Float) → Big y → Small (one ⊘ y)
-unfolding div
+small-inverse : (y : Float) → Big y → Small (1·0 ⊘ y)
+unfolding div ofBits
 small-inverse nan h = tt
 small-inverse (inf true) h = absurd (true≢false h)
 small-inverse (inf false) h = (refl, omega arith)
@@ -167,8 +164,8 @@ small-inverse (fin false (suc n) d) h =
     go : (n v : ℕ) → v ≤ n → 1 * 1 * v ≤ n * 1
     go n v l = omega arith
 
-plus-rest : (z : Float) → Small z → signOf (one ⊖ z) ≡ false
-unfolding sub neg add sum signOf
+plus-rest : (z : Float) → Small z → signOf (1·0 ⊖ z) ≡ false
+unfolding sub neg add sum signOf ofBits
 plus-rest nan h = refl
 plus-rest (inf s) h = absurd h
 plus-rest (fin true m e) h = absurd (true≢false (h .0))

@@ -7,12 +7,12 @@ use mir.Syntax.{Width}
 use mir.Val.{toZ, hbits}
 use mir.Facts.{toZ-pos}
 
-below : (k : ℕ) → negsuc 0 -ℤ pos k ≡ negsuc k
-below zero = refl
-below (suc k) = rw zero-add refl
+less-by : (k : ℕ) → negsuc 0 -ℤ pos k ≡ negsuc k
+less-by zero = refl
+less-by (suc k) = rw zero-add refl
 
 -- minus one, less what it lacks
 pub lacking : (w : Width) (k : ℕ) → k < 2 ^ hbits w → negsuc 0 -ℤ toZ w k ≡ negsuc k
-lacking w k h = rw (toZ-pos w {n = k} h) (below k)
+lacking w k h = rw (toZ-pos w {n = k} h) (less-by k)
 
 -- Assumes nothing.

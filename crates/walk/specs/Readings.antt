@@ -6,6 +6,7 @@ use Prim.Native.Nat.{ℕ, zero, suc, _<_}
 use native.Mathlib.Omega.{arith}
 use lib.IntN.{pos, negsuc}
 use lib.Ieee.{Float, fin, add, sub, mul, div, le, ofInt, ofBits}
+use Rattle.numbers.specs.Arith.{1·0}
 use Rattle.roots.specs.Root.{sqrtOf}
 use Rattle.curve.specs.declared.Point.{Point}
 use Rattle.walk.specs.declared.Stretch.the-variants.{Emits}
@@ -14,26 +15,23 @@ use Rattle.walk.specs.Walk.{Ended, More, PointToDraw, toDraw, before, di
 abbrev o : Float
 o = fin false 0 (pos 0)
 
-abbrev one : Float
-one = fin false 1 (pos 0)
-
 -- the point (x, 0) with a multiplier
 abbrev at : Float → Float → PointToDraw
 at x m = toDraw (record { x = x; y = o }) m
 
 -- (0, 0), (2.5, 0): four points, multipliers 1, 1, 1, 0.5
 pub four : walkIn 8388608 (o ∷ o ∷ fin false 5 (negsuc 0) ∷ o ∷ [])
-    ≡ Ended (at o one ∷ at one one ∷ at (fin false 1 (pos 1)) one ∷ at (fin false 5 (negsuc 0)) (fin false 1 (negsuc 0)) ∷ [])
+    ≡ Ended (at o 1·0 ∷ at 1·0 1·0 ∷ at (fin false 1 (pos 1)) 1·0 ∷ at (fin false 5 (negsuc 0)) (fin false 1 (negsuc 0)) ∷ [])
 unfolding walkIn walkFrom stretchOf stretchIn pointAt distanceOf sqrtOf add sub mul div le ofBits
 four = refl
 
 -- (0, 0), (1, 0): three points, the last multiplier 0
-pub three : walkIn 8388608 (o ∷ o ∷ one ∷ o ∷ []) ≡ Ended (at o one ∷ at one one ∷ at one o ∷ [])
+pub three : walkIn 8388608 (o ∷ o ∷ 1·0 ∷ o ∷ []) ≡ Ended (at o 1·0 ∷ at 1·0 1·0 ∷ at 1·0 o ∷ [])
 unfolding walkIn walkFrom stretchOf stretchIn pointAt distanceOf sqrtOf add sub mul div le ofBits
 three = refl
 
 -- one point: two points, and a length of 0
-pub two : walkIn 8388608 (o ∷ o ∷ []) ≡ Ended (at o one ∷ at o o ∷ [])
+pub two : walkIn 8388608 (o ∷ o ∷ []) ≡ Ended (at o 1·0 ∷ at o o ∷ [])
 unfolding walkIn walkFrom stretchOf stretchIn pointAt distanceOf sqrtOf add sub mul div le ofBits
 two = refl
 
@@ -58,9 +56,9 @@ stays (suc (suc i)) h = absurd (omega arith)
 from : (k i : ℕ) → i < 2 → walkFrom k far i still ≡ More
 unfolding walkFrom ofBits
 from zero i h = refl
-from (suc k) i h = rw (stays i h) (ap (before (toDraw still one ∷ [])) (from k 1 (omega arith)))
+from (suc k) i h = rw (stays i h) (ap (before (toDraw still 1·0 ∷ [])) (from k 1 (omega arith)))
 
 pub endless : (k : ℕ) → walkIn k far ≡ More
 unfolding walkIn pointAt ofBits
 endless zero = refl
-endless (suc k) = ap (before (toDraw still one ∷ [])) (from k 0 (omega arith))
+endless (suc k) = ap (before (toDraw still 1·0 ∷ [])) (from k 0 (omega arith))

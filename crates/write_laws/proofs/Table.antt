@@ -50,22 +50,22 @@ pub data SplineRefusal (limit total place : ℕ) (ns : List ℕ) (ds : List ℤ)
       → SplineRefusal limit total place ns ds Delta (place + valuesBefore k ns + (1 + 2 * j))
 
 -- a code and a place that a description gives, under a limit, where its list has so many values and so many cells are lent
-pub data Given (ns : List ℕ) (ss : List Float) (ds cs : List ℤ) (limit size room : ℕ) : Code → ℕ → Type 0 where
+pub data Refusing (ns : List ℕ) (ss : List Float) (ds cs : List ℤ) (limit size room : ℕ) : Code → ℕ → Type 0 where
   -- 9: lengths disagree
-  shape : misshapen ns ss ds cs ≡ true → Given ns ss ds cs limit size room Shape 0
+  shape : misshapen ns ss ds cs ≡ true → Refusing ns ss ds cs limit size room Shape 0
   -- 2: a count of 0 or above the limit
-  splines : misshapen ns ss ds cs ≡ false → miscounted limit (length ns) ≡ true → Given ns ss ds cs limit size room Splines 0
+  splines : misshapen ns ss ds cs ≡ false → miscounted limit (length ns) ≡ true → Refusing ns ss ds cs limit size room Splines 0
   -- 3: pair k of the starts is the first that can't be written
   coord : misshapen ns ss ds cs ≡ false → miscounted limit (length ns) ≡ false
       → (k : ℕ) → FitPairs true k ss → unfitPair true ss k ≡ true
-      → Given ns ss ds cs limit size room Coord (1 + 2 * k)
+      → Refusing ns ss ds cs limit size room Coord (1 + 2 * k)
   -- 4 and 5: all starts can be written, and the splines give the code
   spline : misshapen ns ss ds cs ≡ false → miscounted limit (length ns) ≡ false → FitPairs true (length ns) ss
       → {c : Code} {p : ℕ} → SplineRefusal limit 0 (2 * length ns + 2) ns ds c p
-      → Given ns ss ds cs limit size room c p
+      → Refusing ns ss ds cs limit size room c p
   -- 7: nothing else is given, and the list is too short
   room : misshapen ns ss ds cs ≡ false → miscounted limit (length ns) ≡ false → FitPairs true (length ns) ss → pointsOf ns ≤ limit → Tame ds → room < size
-      → Given ns ss ds cs limit size room Room room
+      → Refusing ns ss ds cs limit size room Room room
 
 -- 0: nothing is given, and so many values are written
 pub record Passed (ns : List ℕ) (ss : List Float) (ds cs : List ℤ) (limit size room values : ℕ) : Type 0 where

@@ -22,7 +22,7 @@ use Rattle.write_judge.specs.declared.Verdict.the-variants.{Fine, Fault}
 use Rattle.writer.specs.declared.WriteAnswer.the-variants.{Done, Refused}
 use Rattle.write_judge.proofs.Checks.{fails, passes, passed, faults-before, fine-before, both-fine, agreed, content-shape, content-count, content-start, content-rest, content-fine}
 use Rattle.write_laws.specs.Refusals.{pointsBefore}
-use Rattle.write_laws.proofs.Table.{unfitPair, FitPairs, wildPair, valuesBefore, SplineRefusal, points, delta, Given, shape, splines, coord, spline, room, Passed}
+use Rattle.write_laws.proofs.Table.{unfitPair, FitPairs, wildPair, valuesBefore, SplineRefusal, points, delta, Refusing, shape, splines, coord, spline, room, Passed}
 use Rattle.write_laws.proofs.Accepts.{fine-tame, tame-fine, fine-splines, splines-fine}
 
 none : firstFault [] ≡ Fine
@@ -271,7 +271,7 @@ module _ (limit : ℕ) where
 
 module _ (ns : List ℕ) (ss : List Float) (ds cs : List ℤ) (limit size rooms : ℕ) where
   abbrev Here : Code → ℕ → Type 0
-  Here c p = Given ns ss ds cs limit size rooms c p
+  Here c p = Refusing ns ss ds cs limit size rooms c p
 
   abbrev content : List Check
   content = contentChecks ns ss ds cs limit
@@ -359,7 +359,7 @@ module _ (ns : List ℕ) (ss : List Float) (ds cs : List ℤ) (a : ℤ) (configu
   verdict = firstFault (contentChecks ns ss ds cs (limitOf configured pixels) ++ check (ltb rooms size) Room rooms ∷ [])
 
   pub refused-by-tests : (c : Code) (p : ℕ)
-      → writeOf ns ss ds cs a configured pixels rooms .answer ≡ Refused c p ↔ Given ns ss ds cs (limitOf configured pixels) size rooms c p
+      → writeOf ns ss ds cs a configured pixels rooms .answer ≡ Refused c p ↔ Refusing ns ss ds cs (limitOf configured pixels) size rooms c p
   unfolding writeOf
   refused-by-tests c p = (
     λ e. given-to ns ss ds cs (limitOf configured pixels) size rooms c p (told verdict e),

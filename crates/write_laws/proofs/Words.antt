@@ -26,7 +26,7 @@ use Rattle.write_judge.proofs.Starts.{unfit-any}
 use Rattle.write_steps.proofs.Stores.{list-length}
 use Rattle.write_laws.specs.Refusals.{Unfit, no-number, infinite, far, not-whole, minus-zero, negative-first, UnfitPair, WildPair, NoneOf, pointsBefore, countPlace, listSize, Started, WriteRefusal, WriteAccepted, WriteRefused}
 use Rattle.write_laws.specs.Refusals as words
-use Rattle.write_laws.proofs.Table.{unfitPair, FitPairs, wildPair, SplineRefusal, Given, Passed}
+use Rattle.write_laws.proofs.Table.{unfitPair, FitPairs, wildPair, SplineRefusal, Refusing, Passed}
 use Rattle.write_laws.proofs.Table as tests
 use Rattle.write_laws.proofs.When.{refused-by-tests, done-by-tests}
 
@@ -278,7 +278,7 @@ module _ (ns : List ℕ) (ss : List Float) (ds cs : List ℤ) (limit size room :
   fits-from s = fit-from (length ns) ss (omega (arith, s .shaped .starts)) (s .fit)
 
   module _ (is : misshapen ns ss ds cs ≡ false → size ≡ listSize (length ns) (pointsOf ns)) where
-    words-to : (c : Code) (p : ℕ) → Given ns ss ds cs limit size room c p → WriteRefusal ns ss ds cs limit room c p
+    words-to : (c : Code) (p : ℕ) → Refusing ns ss ds cs limit size room c p → WriteRefusal ns ss ds cs limit room c p
     words-to c p (tests.shape m) = words.shape (λ s. clash m (shaped-from s))
     words-to c p (tests.splines m n) = words.splines (shaped-to m) (miscounted-to limit (length ns) n)
     words-to c p (tests.coord m n k f u) =
@@ -292,7 +292,7 @@ module _ (ns : List ℕ) (ss : List Float) (ds cs : List ℤ) (limit size room :
         let all : take (2 * pointsOf ns) ds ≡ ds = take-all (2 * pointsOf ns) ds (omega (arith, s .1)) in
         words.room (started-to m n f) w (tame-to (pointsOf ns) ds (omega (arith, s .1)) (rw all t)) (omega (arith, is m, h))
 
-    words-from : (c : Code) (p : ℕ) → WriteRefusal ns ss ds cs limit room c p → Given ns ss ds cs limit size room c p
+    words-from : (c : Code) (p : ℕ) → WriteRefusal ns ss ds cs limit room c p → Refusing ns ss ds cs limit size room c p
     words-from c p (words.shape n) = tests.shape (holds (misshapen ns ss ds cs) shaped-to n)
     words-from c p (words.splines s n) = tests.splines (shaped-from s) (miscounted-from limit (length ns) n)
     words-from c p (words.coord s some few k inside none u) =
@@ -301,7 +301,7 @@ module _ (ns : List ℕ) (ss : List Float) (ds cs : List ℤ) (limit size room :
     words-from c p (words.points s k inside before after none) =
         let at : 2 * length ns + 2 + (2 * pointsBefore k ns + 129 * k) ≡ p = omega arith in
         let tame = tame-from (pointsBefore k ns) ds (omega (arith, s .shaped .deltas, points-most k ns)) none in
-        subst (λ (q : ℕ). Given ns ss ds cs limit size room c q) at
+        subst (λ (q : ℕ). Refusing ns ss ds cs limit size room c q) at
         (tests.spline (shaped-from (s .shaped)) (few-from s) (fits-from s) (tests.points k inside (omega arith) (omega arith) tame))
     words-from c p (words.delta s k j inside low before none wild) =
         let at : 2 * length ns + 2 + (2 * pointsBefore k ns + 129 * k) + (1 + 2 * j) ≡ p = omega arith in
@@ -309,7 +309,7 @@ module _ (ns : List ℕ) (ss : List Float) (ds cs : List ℤ) (limit size room :
         let most = points-most (suc k) ns in
         let tame = tame-from (pointsBefore k ns + j) ds (omega (arith, s .shaped .deltas, next, most)) none in
         let w = wild-pair-from ds (pointsBefore k ns + j) (omega (arith, s .shaped .deltas, next, most)) wild in
-        subst (λ (q : ℕ). Given ns ss ds cs limit size room c q) at
+        subst (λ (q : ℕ). Refusing ns ss ds cs limit size room c q) at
         (tests.spline (shaped-from (s .shaped)) (few-from s) (fits-from s) (tests.delta k j inside low (omega arith) tame w))
     words-from c p (words.room s w none h) =
         let all : take (2 * pointsOf ns) ds ≡ ds = take-all (2 * pointsOf ns) ds (omega (arith, s .shaped .deltas)) in

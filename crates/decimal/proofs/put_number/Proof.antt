@@ -6,7 +6,7 @@ use denote.Ref.{now}
 use lib.IntN.{pos}
 use mir.Syntax.{w32}
 use mir.Facts.{toZ-ofZ}
-use Rattle.list.proofs.Signed.{below, not-below}
+use Rattle.list.proofs.Signed.{tested-below, not-below}
 use Rattle.control_points.proofs.Pairs.{in-range-mag}
 use Rattle.decimal.proofs.Backs.{less, minus-word, minus-text, plain-text}
 use borrow.Author.Needs.{needs}
@@ -16,7 +16,7 @@ use Rattle.decimal.proofs.put_number.Tie as tie
 sub-n : tie.Need-sub-n
 sub-n c =
     let s = c .before .before in
-    let b = below (s .args .v) (s .fits .v) (c .if1 .taken) in
+    let b = tested-below (s .args .v) (s .fits .v) (c .if1 .taken) in
     let z = toZ-ofZ {w = w32} {z = s .args .v} (s .fits .v) in
     let k = in-range-mag (s .args .v) (s .pre .1) in
     rw (z, b .is, less (b .k)) (record { sfits = omega (arith, rw (b .is) at k) })
@@ -24,7 +24,7 @@ sub-n c =
 cast-n : tie.Need-cast-n
 cast-n c =
     let s = c .before .before in
-    let b = below (s .args .v) (s .fits .v) (c .if1 .taken) in
+    let b = tested-below (s .args .v) (s .fits .v) (c .if1 .taken) in
     let z = toZ-ofZ {w = w32} {z = s .args .v} (s .fits .v) in
     let k = in-range-mag (s .args .v) (s .pre .1) in
     rw (minus-word (s .args .v) (s .pre .1) (b .k) (b .is)) (tt, record { fits = omega (arith, rw (b .is) at k) })
@@ -54,7 +54,7 @@ same-length c = search needs
 returns : tie.Need-returns
 returns c =
     let s = c .before .before .before .before .before .before .before .before .before .before in
-    let b = below (s .args .v) (s .fits .v) (c .before .before .before .before .before .before .before .before .if1 .taken) in
+    let b = tested-below (s .args .v) (s .fits .v) (c .before .before .before .before .before .before .before .before .if1 .taken) in
     let z = toZ-ofZ {w = w32} {z = s .args .v} (s .fits .v) in
     let k = in-range-mag (s .args .v) (s .pre .1) in
     minus-text (s .args .v) (s .pre .1) (b .k) (b .is) (now (s .args .text)) _ _ (s .args .at) _ (c .before .before .before .before .before .before .put-byte .ensures) (rw (minus-word (s .args .v) (s .pre .1) (b .k) (b .is)) at (c .before .before .put-digits .ensures))

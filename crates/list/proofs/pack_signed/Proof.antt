@@ -4,28 +4,28 @@ use native.Mathlib.Omega.{arith}
 use mir.Syntax.{w32}
 use mir.Facts.{toZ-ofZ, toZ-pos}
 use Rattle.list.specs.List.{packSigned}
-use Rattle.list.proofs.Signed.{below, not-below}
+use Rattle.list.proofs.Signed.{tested-below, not-below}
 use Rattle.list.proofs.pack_signed.Statement.{statement}
 use Rattle.list.proofs.pack_signed.Tie as tie
 
 sub-m : tie.Need-sub-m
 sub-m c =
-    let b = below (c .before .args .signed) (c .before .fits .signed) (c .if1 .taken) in
+    let b = tested-below (c .before .args .signed) (c .before .fits .signed) (c .if1 .taken) in
     rw (b .turned) (record { sfits = b .small })
 
 cast-result : tie.Need-cast-result
 cast-result c =
-    let b = below (c .before .args .signed) (c .before .fits .signed) (c .if1 .taken) in
+    let b = tested-below (c .before .args .signed) (c .before .fits .signed) (c .if1 .taken) in
     rw (b .turned, toZ-pos w32 (b .small)) (tt, record { fits = omega (arith, b .small) })
 
 mul-result : tie.Need-mul-result
 mul-result c =
-    let b = below (c .before .args .signed) (c .before .fits .signed) (c .if1 .taken) in
+    let b = tested-below (c .before .args .signed) (c .before .fits .signed) (c .if1 .taken) in
     rw (b .turned, toZ-pos w32 (b .small)) (record { fits = omega (arith, b .small) })
 
 add-result : tie.Need-add-result
 add-result c =
-    let b = below (c .before .args .signed) (c .before .fits .signed) (c .if1 .taken) in
+    let b = tested-below (c .before .args .signed) (c .before .fits .signed) (c .if1 .taken) in
     rw (b .turned, toZ-pos w32 (b .small)) (record { fits = omega (arith, b .small) })
 
 cast-result-2 : tie.Need-cast-result-2
@@ -40,7 +40,7 @@ mul-result-2 c =
 
 returns : tie.Need-returns
 returns c =
-    let b = below (c .before .args .signed) (c .before .fits .signed) (c .if1 .taken) in
+    let b = tested-below (c .before .args .signed) (c .before .fits .signed) (c .if1 .taken) in
     rw (b .turned, toZ-pos w32 (b .small)) (sym (ap packSigned (b .is)))
 
 returns-2 : tie.Need-returns-2

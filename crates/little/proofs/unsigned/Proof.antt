@@ -6,23 +6,23 @@ use lib.IntN.{negsuc}
 use mir.Syntax.{w32}
 use mir.Facts.{toZ-ofZ, toZ-pos}
 use Rattle.little.specs.Little.{unsignedOf}
-use Rattle.list.proofs.Signed.{below, not-below}
+use Rattle.list.proofs.Signed.{tested-below, not-below}
 use Rattle.little.proofs.unsigned.Statement.{statement}
 use Rattle.little.proofs.unsigned.Tie as tie
 
 sub-result : tie.Need-sub-result
 sub-result c =
-    let b = below (c .before .args .signed) (c .before .fits .signed) (c .if1 .taken) in
+    let b = tested-below (c .before .args .signed) (c .before .fits .signed) (c .if1 .taken) in
     rw (b .turned) (record { sfits = b .small })
 
 cast-result : tie.Need-cast-result
 cast-result c =
-    let b = below (c .before .args .signed) (c .before .fits .signed) (c .if1 .taken) in
+    let b = tested-below (c .before .args .signed) (c .before .fits .signed) (c .if1 .taken) in
     rw (b .turned, toZ-pos w32 (b .small)) (tt, record { fits = omega (arith, b .small) })
 
 sub-result-2 : tie.Need-sub-result-2
 sub-result-2 c =
-    let b = below (c .before .args .signed) (c .before .fits .signed) (c .if1 .taken) in
+    let b = tested-below (c .before .args .signed) (c .before .fits .signed) (c .if1 .taken) in
     rw (b .turned, toZ-pos w32 (b .small)) (omega (arith, b .small))
 
 cast-result-2 : tie.Need-cast-result-2
@@ -32,7 +32,7 @@ cast-result-2 c =
 
 returns : tie.Need-returns
 returns c =
-    let b = below (c .before .args .signed) (c .before .fits .signed) (c .if1 .taken) in
+    let b = tested-below (c .before .args .signed) (c .before .fits .signed) (c .if1 .taken) in
     let e : 4294967295 - b .k ≡ unsignedOf (negsuc (b .k)) = omega arith in
     rw (b .turned, toZ-pos w32 (b .small)) (e ∙ sym (ap unsignedOf (b .is)))
 
