@@ -1,5 +1,7 @@
 -- The demands, as named statements on outcomes that the proved contracts of the calls allow (specs/Calls.antt). proofs/Demands.antt proves each, proofs/Readings.antt the table
 -- of readings. Definitions only.
+-- Beside this file: the tables of codes of read and write, and how many values a list has (specs/ListCodes.antt: ReadCodes, WriteCodes, WrittenSize); how many points a path has (`curve`,
+-- Curve.antt: PathLength); that the exports tell what the calls answer, and have one outcome (`exports`, Exports.antt: ExportsTellTheCalls, OneOutcomeExported), since a crate cannot speak of its own contracts.
 use mathlib.Core.Path.{_≡_}
 use mathlib.Core.Bool.{true, false, _&&_}
 use mathlib.Core.Logic.{_↔_}

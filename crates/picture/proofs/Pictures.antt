@@ -41,18 +41,18 @@ module _ {d : Description} {i : Setting} {r : BuildRooms} {o : BuildOutcome} {s 
 
   module _ (y : ℕ) (k : y < t .height) (ws : List ℕ) (cut : total ws ≡ W) (ps : List Part) (order : List·Permᴰ (cuts 0 ws) ps)
       (a w : Channels) (wide : Wide W a) (sum : ℕ) (drawn : Drawn t z y ps a sum w) where
-    whole : Whole t z y W a sum w
-    whole = parts.row-in-parts t z y W (desk-for b kept lent) (counts-for b kept lent) (bytes-for b kept lent) k (row-for b kept lent y k) h ws ps a w sum cut order wide drawn
+    row-whole : Whole t z y W a sum w
+    row-whole = parts.row-in-parts t z y W (desk-for b kept lent) (counts-for b kept lent) (bytes-for b kept lent) k (row-for b kept lent y k) h ws ps a w sum cut order wide drawn
 
     pub row-in-parts : RowPicture own y a w
-    row-in-parts = whole-picture y k whole
+    row-in-parts = whole-picture y k row-whole
 
     pub row-updates : sum ≡ rowPairs own W y
-    row-updates = whole .pairs ∙ kept-pairs b kept lent y k W
+    row-updates = row-whole .pairs ∙ kept-pairs b kept lent y k W
 
     -- each entry of the row is added at most once at each pixel
     pub row-updates-most : sum ≤ W * length (shownOf t z y)
-    row-updates-most = rw (whole .pairs) (images.updates-most (t .segments) 0 W (shownOf t z y))
+    row-updates-most = rw (row-whole .pairs) (images.updates-most (t .segments) 0 W (shownOf t z y))
 
   module _ (wss : List (List ℕ)) (tall : length wss ≡ t .height) (cut : Each W wss) (js : List Job) (order : List·Permᴰ (jobs 0 wss) js)
       (a w : image.Image) (wide : (y : ℕ) → Wide W (a y)) (sum : ℕ) (drawn : DrawnAll t z js a sum w) where

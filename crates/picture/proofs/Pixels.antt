@@ -57,9 +57,9 @@ module _ (flat : List Float) (segs : List Segment) (d : Segment) (at : (i : ℕ)
       rw (take-suc segs n d h, take-suc owners n 0 (omega arith))
       (not-hidden-append s (take n owners) (getD owners n 0 ∷ []) (take n segs) (getD segs n d ∷ []) (length-take n owners ∙ ap (min n) owned ∙ sym (length-take n segs)))
 
-  whole : front (length segs) ≡ notHidden s owners segs
+  all-shown : front (length segs) ≡ notHidden s owners segs
   unfolding front
-  whole = ap (λ (l : List Segment). notHidden s (take (length segs) owners) l) (take-length segs) ∙ ap (λ (l : List ℕ). notHidden s l segs) (ap (λ (n : ℕ). take n owners) (sym owned) ∙ take-length owners)
+  all-shown = ap (λ (l : List Segment). notHidden s (take (length segs) owners) l) (take-length segs) ∙ ap (λ (l : List ℕ). notHidden s l segs) (ap (λ (n : ℕ). take n owners) (sym owned) ∙ take-length owners)
 
   pixel-to : (c y x : ℕ) (v : Float) (n : ℕ) → n ≤ length segs → pixel c flat y x (listed has y n) v ≡ pixelOf c (front n) y x v
   unfolding listed front one-more
@@ -103,10 +103,10 @@ module _ (flat : List Float) (segs : List Segment) (d : Segment) (at : (i : ℕ)
 
   -- a pixel drawn by what is shown of its row
   pub pixel-is : (c y x : ℕ) (v : Float) → pixel c flat y x (listed has y (length segs)) v ≡ pixelOf c (notHidden s owners segs) y x v
-  pixel-is c y x v = pixel-to c y x v (length segs) (omega arith) ∙ ap (λ (l : List Segment). pixelOf c l y x v) whole
+  pixel-is c y x v = pixel-to c y x v (length segs) (omega arith) ∙ ap (λ (l : List Segment). pixelOf c l y x v) all-shown
 
   -- the updates of a row of W pixels
   pub pairs-are : (W y : ℕ) → updates flat 0 W (listed has y (length segs)) ≡ rowPairs (notHidden s owners segs) W y
-  pairs-are W y = pairs-to W y (length segs) (omega arith) ∙ ap (λ (l : List Segment). rowPairs l W y) whole
+  pairs-are W y = pairs-to W y (length segs) (omega arith) ∙ ap (λ (l : List Segment). rowPairs l W y) all-shown
 
 -- Assumes nothing.

@@ -55,12 +55,12 @@ wide-or-tall i e = go (leb (i .width) (2 ^ 23)) refl
     go true p = inr (leb-false (i .height) (2 ^ 23) (ap (λ (t : Bool). t && leb (i .height) (2 ^ 23)) (sym p) ∙ e))
 
 module _ (d : Description) (i : Setting) (e : ℕ) (r : BuildRooms) where
-  abbrev whole : ProfileBuildOutcome
-  whole = buildProfileOf d i e r
+  abbrev byProfile : ProfileBuildOutcome
+  byProfile = buildProfileOf d i e r
 
   -- ---- what each case leaves
 
-  decided : (x : ProfileAnswer) → checkProfileOf d (i .adjustment) (i .width) (i .height) e ≡ x → whole ≡ afterCheck r x (buildOf d i r)
+  decided : (x : ProfileAnswer) → checkProfileOf d (i .adjustment) (i .width) (i .height) e ≡ x → byProfile ≡ afterCheck r x (buildOf d i r)
   unfolding buildProfileOf
   decided x q = ap (λ (t : ProfileAnswer). afterCheck r t (buildOf d i r)) q
 
@@ -72,10 +72,10 @@ module _ (d : Description) (i : Setting) (e : ℕ) (r : BuildRooms) where
   unfolding checkProfileOf
   too-large h = rw (not-sized i h)
 
-  pub as-build : Plain d i e r → whole ≡ asBuilt (buildOf d i r)
+  pub as-build : Plain d i e r → byProfile ≡ asBuilt (buildOf d i r)
   as-build p = decided ProfileAnswer.Meets (checked (p .sized) ProfileAnswer.Meets (meets (p .meets)))
 
-  pub breaks-leaves : (rule k : ℕ) → BreaksRule d i e r rule k → whole ≡ stoppedWith r (Broken rule k)
+  pub breaks-leaves : (rule k : ℕ) → BreaksRule d i e r rule k → byProfile ≡ stoppedWith r (Broken rule k)
   breaks-leaves rule k b = decided (ProfileAnswer.Broken rule k) (checked (b .sized) (ProfileAnswer.Broken rule k) (breaks (b .breaks)))
 
   -- a build's refusal, every cell
@@ -83,7 +83,7 @@ module _ (d : Description) (i : Setting) (e : ℕ) (r : BuildRooms) where
   unfolding refusedWith stoppedWith
   stopped-is c p = refl
 
-  pub refusal-leaves : (c : Code) (p : ℕ) → ProfileBuildRefusal d i e r c p → whole ≡ stoppedWith r (Refused c p)
+  pub refusal-leaves : (c : Code) (p : ℕ) → ProfileBuildRefusal d i e r c p → byProfile ≡ stoppedWith r (Refused c p)
   refusal-leaves _ _ (size h) = decided (ProfileAnswer.Refused Code.Size 0) (too-large h)
   refusal-leaves _ _ (shape s n) = decided (ProfileAnswer.Refused Code.Shape 0) (checked s (ProfileAnswer.Refused Code.Shape 0) (refuses (rules.shape n)))
   refusal-leaves _ _ (edition s h n) = decided (ProfileAnswer.Refused Code.Edition 0) (checked s (ProfileAnswer.Refused Code.Edition 0) (refuses (rules.edition h n)))
@@ -111,7 +111,7 @@ module _ (d : Description) (i : Setting) (e : ℕ) (r : BuildRooms) where
 
   -- ---- the answers, exactly when
 
-  answer-of : {o : ProfileBuildOutcome} → whole ≡ o → whole .answer ≡ o .answer
+  answer-of : {o : ProfileBuildOutcome} → byProfile ≡ o → byProfile .answer ≡ o .answer
   answer-of q = ap (λ (t : ProfileBuildOutcome). t .answer) q
 
   stopped-answer : (x : ProfileBuildAnswer) → stoppedWith r x .answer ≡ x
@@ -131,7 +131,7 @@ module _ (d : Description) (i : Setting) (e : ℕ) (r : BuildRooms) where
   not-broken (BuildAnswer.Done s n t f) rule k q = let z : _≡_ {A = ℕ} 0 1 = cc in omega arith
   not-broken (BuildAnswer.Refused c p) rule k q = let z : _≡_ {A = ℕ} 0 1 = cc in omega arith
 
-  done-given : (s n t f : ℕ) → whole .answer ≡ Done s n t f → DoneByBuild d i e r s n t f
+  done-given : (s n t f : ℕ) → byProfile .answer ≡ Done s n t f → DoneByBuild d i e r s n t f
   done-given s n t f q = go way
     where
       go : Way → DoneByBuild d i e r s n t f
@@ -143,10 +143,10 @@ module _ (d : Description) (i : Setting) (e : ℕ) (r : BuildRooms) where
           let x : Refused c p ≡ Done s n t f = sym (stopped-answer (Refused c p)) ∙ sym (answer-of (refusal-leaves c p w)) ∙ q in
           absurd (let z : _≡_ {A = ℕ} 0 1 = cc in omega arith)
 
-  pub done-exactly : (s n t f : ℕ) → (whole .answer ≡ Done s n t f) ↔ DoneByBuild d i e r s n t f
+  pub done-exactly : (s n t f : ℕ) → (byProfile .answer ≡ Done s n t f) ↔ DoneByBuild d i e r s n t f
   done-exactly s n t f = (done-given s n t f, λ w. answer-of (as-build (w .fits)) ∙ ap (λ (b : BuildAnswer). ofBuild b) (w .built))
 
-  broken-given : (rule k : ℕ) → whole .answer ≡ Broken rule k → BreaksRule d i e r rule k
+  broken-given : (rule k : ℕ) → byProfile .answer ≡ Broken rule k → BreaksRule d i e r rule k
   broken-given rule k q = go way
     where
       go : Way → BreaksRule d i e r rule k
@@ -160,10 +160,10 @@ module _ (d : Description) (i : Setting) (e : ℕ) (r : BuildRooms) where
           let x : Refused c p ≡ Broken rule k = sym (stopped-answer (Refused c p)) ∙ sym (answer-of (refusal-leaves c p w)) ∙ q in
           absurd (let z : _≡_ {A = ℕ} 0 1 = cc in omega arith)
 
-  pub broken-exactly : (rule k : ℕ) → (whole .answer ≡ Broken rule k) ↔ BreaksRule d i e r rule k
+  pub broken-exactly : (rule k : ℕ) → (byProfile .answer ≡ Broken rule k) ↔ BreaksRule d i e r rule k
   broken-exactly rule k = (broken-given rule k, λ b. answer-of (breaks-leaves rule k b) ∙ stopped-answer (Broken rule k))
 
-  refusal-given : (c : Code) (p : ℕ) → whole .answer ≡ Refused c p → ProfileBuildRefusal d i e r c p
+  refusal-given : (c : Code) (p : ℕ) → byProfile .answer ≡ Refused c p → ProfileBuildRefusal d i e r c p
   refusal-given c p q = go way
     where
       go : Way → ProfileBuildRefusal d i e r c p
@@ -177,13 +177,13 @@ module _ (d : Description) (i : Setting) (e : ℕ) (r : BuildRooms) where
           let v : p′ ≡ p = cc in
           rw (← u, ← v) w
 
-  pub build-refused-exactly : (c : Code) (p : ℕ) → (whole .answer ≡ Refused c p) ↔ ProfileBuildRefusal d i e r c p
+  pub build-refused-exactly : (c : Code) (p : ℕ) → (byProfile .answer ≡ Refused c p) ↔ ProfileBuildRefusal d i e r c p
   build-refused-exactly c p = (refusal-given c p, λ w. answer-of (refusal-leaves c p w) ∙ stopped-answer (Refused c p))
 
   -- ---- a build by profile is a build
 
   -- refused otherwise than by PROFILE or EDITION
-  refusal-is-build : (c : Code) (p : ℕ) → (c ≡ Code.Edition → ⊥) → ProfileBuildRefusal d i e r c p → whole ≡ asBuilt (buildOf d i r)
+  refusal-is-build : (c : Code) (p : ℕ) → (c ≡ Code.Edition → ⊥) → ProfileBuildRefusal d i e r c p → byProfile ≡ asBuilt (buildOf d i r)
   refusal-is-build _ _ n (size h) =
       refusal-leaves Code.Size 0 (size h) ∙ sym (stopped-is Code.Size 0) ∙ ap (λ (o : BuildOutcome). asBuilt o) (sym (refused d i r (building.size h)))
   refusal-is-build _ _ n (shape s w) =
@@ -191,14 +191,14 @@ module _ (d : Description) (i : Setting) (e : ℕ) (r : BuildRooms) where
   refusal-is-build _ _ n (edition s h w) = absurd (n refl)
   refusal-is-build c p n (building q b) = as-build q
 
-  pub otherwise-is-build : (c : Code) (p : ℕ) → (c ≡ Code.Edition → ⊥) → whole .answer ≡ Refused c p → whole ≡ asBuilt (buildOf d i r)
+  pub otherwise-is-build : (c : Code) (p : ℕ) → (c ≡ Code.Edition → ⊥) → byProfile .answer ≡ Refused c p → byProfile ≡ asBuilt (buildOf d i r)
   otherwise-is-build c p n q = refusal-is-build c p n (refusal-given c p q)
 
   -- after a refusal every lent cell is zero
-  pub refused-zero : (c : Code) (p : ℕ) → whole .answer ≡ Refused c p → whole ≡ stoppedWith r (Refused c p)
+  pub refused-zero : (c : Code) (p : ℕ) → byProfile .answer ≡ Refused c p → byProfile ≡ stoppedWith r (Refused c p)
   refused-zero c p q = refusal-leaves c p (refusal-given c p q)
 
-  pub broken-zero : (rule k : ℕ) → whole .answer ≡ Broken rule k → whole ≡ stoppedWith r (Broken rule k)
+  pub broken-zero : (rule k : ℕ) → byProfile .answer ≡ Broken rule k → byProfile ≡ stoppedWith r (Broken rule k)
   broken-zero rule k q = breaks-leaves rule k (broken-given rule k q)
 
 -- ---- EDITION

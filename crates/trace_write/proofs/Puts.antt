@@ -145,20 +145,20 @@ module _ (h : ℕ) (ns : List ℕ) (ss : List Float) (ds cs : List ℤ) where
 
 -- what is left in bytes that were cleared: by the checks of the content, the file, and how long it is
 module _ (content : List Check) (file : List ℕ) (due room : ℕ) where
-  abbrev Told : WriteOutcome
-  Told = outcome room file (firstFault (content ++ check (ltb room due) Room 0 ∷ []))
+  abbrev judgedOutcome : WriteOutcome
+  judgedOutcome = outcome room file (firstFault (content ++ check (ltb room due) Room 0 ∷ []))
 
-  pub left-fault : (c : Code) (p : ℕ) (l : List ℕ) → l ≡ replicate room 0 → firstFault content ≡ Fault c p → leaves (Refused c p) l ≡ Told
+  pub left-fault : (c : Code) (p : ℕ) (l : List ℕ) → l ≡ replicate room 0 → firstFault content ≡ Fault c p → leaves (Refused c p) l ≡ judgedOutcome
   left-fault c p l z e = rw (faults-before content (check (ltb room due) Room 0 ∷ []) c p e, z)
 
   module _ (fine : firstFault content ≡ Fine) where
-    pub left-room : (l : List ℕ) → l ≡ replicate room 0 → length l < due → leaves (Refused Room 0) l ≡ Told
+    pub left-room : (l : List ℕ) → l ≡ replicate room 0 → length l < due → leaves (Refused Room 0) l ≡ judgedOutcome
     left-room l z h =
         let k : length l ≡ room = ap length z ∙ length-replicate {A = ℕ} room 0 in
         let t = fails (ltb room due) Room 0 [] (lt-ltb room due (omega arith)) in
         rw (fine-before content (check (ltb room due) Room 0 ∷ []) fine, t, z)
 
-    pub left-done : (l l′ : List ℕ) (n : ℕ) → l ≡ replicate room 0 → n ≡ due → length file ≡ due → n ≤ length l → l′ ≡ sets l 0 file → leaves (Done n) l′ ≡ Told
+    pub left-done : (l l′ : List ℕ) (n : ℕ) → l ≡ replicate room 0 → n ≡ due → length file ≡ due → n ≤ length l → l′ ≡ sets l 0 file → leaves (Done n) l′ ≡ judgedOutcome
     unfolding firstFault
     left-done l l′ n z e long h is =
         let k : length l ≡ room = ap length z ∙ length-replicate {A = ℕ} room 0 in
