@@ -14,7 +14,8 @@ use Rattle.dequantize.specs.Judge.{Description}
 use Rattle.table.specs.Table.{Setting, buildOf}
 use Rattle.table.specs.Table as building
 use Rattle.segments.specs.declared.Segment.{Segment}
-use Rattle.picture.specs.Picture.{Built, segmentsOf}
+use Rattle.picture.specs.Picture.{Built}
+use Rattle.picture.proofs.InRooms.{segmentsInRooms}
 use Rattle.picture.proofs.Makes.{built-are}
 use Rattle.desks.specs.Desks.{Sight}
 use Rattle.desks.specs.Agree.{Agree}
@@ -79,7 +80,7 @@ pub built-by : {d : Description} {i : Setting} {r : building.BuildRooms} {o : bu
 built-by {d} {i} {r} {o} b = record { outcome = build-equation d i r o (b .called); faint = b .faint; done = b .done }
 
 -- the segments that the description makes are those of the build
-pub kept-are : {d : Description} {i : Setting} {segments : List Segment} {t : Table} (k : KeptTable d i segments t) → segments ≡ segmentsOf d i (k .rooms)
+pub kept-are : {d : Description} {i : Setting} {segments : List Segment} {t : Table} (k : KeptTable d i segments t) → segments ≡ segmentsInRooms d i (k .rooms)
 kept-are {d} {i} {segments} k = built-are (built-by (k .done)) segments (k .makes)
 
 -- a table is alike to itself for sights that differ in bits that are not the desk's

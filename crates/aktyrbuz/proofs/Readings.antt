@@ -1,12 +1,12 @@
 -- The starred readings hold: each by computing, or by the cases of a float.
 use mathlib.Core.Path.{refl}
 use lib.Ieee.{Float, nan, inf, fin, round, add, sub}
-use Rattle.ieee754.specs.Readings.{round-two-and-a-half, round-minus-a-half, tie-down, tie-up, length-five}
+use Rattle.ieee754.proofs.Readings.{round-two-and-a-half, round-minus-a-half, tie-down, tie-up, length-five}
 use Rattle.dequantize.proofs.Readings.{level5-none, level5-below, level5-at, adjustment-8, adjustment-minus-8}
 use Rattle.wholes.specs.Whole.{wholeBy}
 use Rattle.kinds.specs.Kind.{kindBy}
 use Rattle.segments.specs.Ranges.{hasRow, hasColumn}
-use Rattle.segments.specs.Readings.{spot}
+use Rattle.segments.specs.Spot.{spot}
 use Rattle.aktyrbuz.specs.Demands.{Rows, Columns, Readings}
 
 nan-row : (x y : Float) → Rows (spot x y nan) 0 0

@@ -35,7 +35,7 @@ use Rattle.segments.specs.declared.Segment.{Segment}
 use Rattle.segments.specs.Segment.{segmentAt}
 use Rattle.kinds.specs.declared.KindI64.the-variants as I64
 use Rattle.segments.specs.Ranges.{rowEnd, hasRow, hasColumn}
-use Rattle.segments.specs.Readings.{spot}
+use Rattle.segments.specs.Spot.{spot}
 use Rattle.segments.specs.Expressions.{AsSplineRs}
 use Rattle.table.specs.Table.{Setting, buildOf, zeros}
 use Rattle.table.specs.Table as building

@@ -12,7 +12,7 @@ use Rattle.dequantize.specs.Judge.{Description, Shaped}
 use Rattle.segments.specs.declared.Segment.{Segment}
 use Rattle.segments.specs.Segment.{segmentAt}
 use Rattle.segments.specs.Ranges.{hasRow, hasColumn, rowEnd, columnEnd}
-use Rattle.segments.specs.Readings.{spot}
+use Rattle.segments.specs.Spot.{spot}
 use Rattle.table.specs.Table.{Setting, BuildRooms, BuildOutcome, givenOf}
 use Rattle.desks.specs.Desks.{Sight, sightOf, bitOf, hiddenIn}
 use Rattle.desks.specs.Agree.{OwnBitsAlike, Agree, NothingHidden}

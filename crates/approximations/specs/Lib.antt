@@ -2,4 +2,3 @@
 pub mod Cos
 pub mod Erf
 pub mod Ln
-pub mod Readings

@@ -27,7 +27,7 @@ abbrev 0·075 : Float
 abbrev 0·07 : Float
 0·07 = f 0x3d8f5c29
 
-abbrev 0·3333 : Float
+abbrev pub 0·3333 : Float
 0·3333 = f 0x3eaaa64c
 
 -- g 0, g 1, .. up to g (n - 1)

@@ -17,11 +17,12 @@ use Rattle.control_points.specs.declared.Traced.the-variants.{On, Stop}
 use Rattle.dequantize.specs.declared.Given.{Given}
 use Rattle.dequantize.specs.declared.Spline.{Spline}
 
-abbrev pub zeros : List Float
-zeros = replicate 32 (ofBits binary32 0)
+-- a row of coefficients that are all 0
+abbrev pub zeroRow : List Float
+zeroRow = replicate 32 (ofBits binary32 0)
 
 unfoldable pub refusedOf : Code → Spline
-refusedOf code = record { code = code; x = zeros; y = zeros; b = zeros; sigma = zeros; estimate = 0; coincide = false }
+refusedOf code = record { code = code; x = zeroRow; y = zeroRow; b = zeroRow; sigma = zeroRow; estimate = 0; coincide = false }
 
 -- what follows the control points: c the coefficients, and the Manhattan sum
 unfoldable pub finishedOf : List ℤ → Given → ℕ → Bool → Spline

@@ -7,11 +7,7 @@ use lib.Ieee.{Float, binary32, ofInt, toUnsigned}
 use Rattle.numbers.specs.Arith.{f, _⊗_}
 use Rattle.numbers.specs.Magnitude.{absOf}
 use Rattle.wholes.specs.Whole.{roundOf}
-use Rattle.dequantize.specs.Coefficients.{invAdjustedQuant}
-
--- sigma's of CHANNEL_WEIGHT
-abbrev 0·3333 : Float
-0·3333 = f 0x3eaaa64c
+use Rattle.dequantize.specs.Coefficients.{0·3333, invAdjustedQuant}
 
 abbrev 200·0 : Float
 200·0 = f 0x43480000

@@ -26,7 +26,7 @@ use Rattle.rows.specs.declared.Listed.the-variants as listed
 use Rattle.rows.specs.Rows as rows
 use Rattle.table.specs.Table.{Setting, settingOf, BuildRooms, BuildOutcome, givenOf, refusedWith, afterRows, afterPaint, afterJudge, buildOf}
 use Rattle.verdict.specs.Verdict.{verdictOf}
-use Rattle.table.specs.Refusals.{painted}
+use Rattle.table.proofs.InRooms.{painted}
 use Rattle.table.specs.Table as building
 use Rattle.desks.specs.Desks.{Sight}
 use Rattle.draw.specs.Draw.{Table, tableOf, Channels, three, DrawOutcome, drawOf, judgeOf}

@@ -8,3 +8,4 @@ pub mod Hypot
 pub mod WholeParts
 pub mod Conversions
 pub mod Ieee754
+pub mod Readings

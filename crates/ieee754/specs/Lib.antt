@@ -1,3 +1,2 @@
 -- The definitions of the crate `ieee754`.
 pub mod Ieee754
-pub mod Readings

@@ -9,7 +9,7 @@ use lib.Signed.{leZ-yes}
 use lib.Ieee.{nan, fin, add, sub, toSigned, toUnsigned}
 use Rattle.wholes.specs.Whole.{wholeBy}
 use Rattle.segments.specs.Ranges.{hasRow, hasColumn}
-use Rattle.segments.specs.Readings.{spot}
+use Rattle.segments.specs.Spot.{spot}
 use Rattle.segments.specs.declared.Segment.{Segment}
 use Rattle.segments.proofs.Expressions.{as-spline-rs}
 use Rattle.near.specs.Near.{Edge, apart}

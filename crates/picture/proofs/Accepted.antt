@@ -29,7 +29,7 @@ use Rattle.painting.specs.Painting.{strandOfSpline, Painted, All, NoRoomAt, aft
 use Rattle.faint.specs.Faint.{faintIn}
 use Rattle.table.specs.Table.{BuildRooms, Setting, BuildOutcome, givenOf, refusedWith, zeros, afterRows, afterJudge, buildOf}
 use Rattle.verdict.specs.Verdict.{verdictOf}
-use Rattle.table.specs.Refusals.{painted}
+use Rattle.table.proofs.InRooms.{painted}
 use Rattle.verdict.proofs.Checks.{ready}
 use Rattle.table.specs.declared.BuildAnswer.the-variants.{Done}
 

@@ -26,7 +26,8 @@ use Rattle.checks.proofs.Checks.{counts-facts, RowFacts, row-facts, RowFactsFor
 use Rattle.checks.proofs.Refusals.{counts-fit, span-fits}
 use Rattle.checks.proofs.Alike.{alike-row, kept-fits, kept-segment, kept-alike}
 use Rattle.draw.proofs.Alike.{alike-pixel, alike-updates}
-use Rattle.picture.specs.Picture.{Built, built, segmentsOf, pixelOf, rowPairs, Lists}
+use Rattle.picture.specs.Picture.{Built, built, pixelOf, rowPairs, Lists}
+use Rattle.picture.proofs.InRooms.{segmentsInRooms}
 use Rattle.picture.specs.Sights.{notHidden, KeptSight}
 use Rattle.picture.proofs.Shown.{seen, all-owned}
 use Rattle.picture.proofs.Makes.{built-are}
@@ -48,10 +49,10 @@ module _ {d : Description} {i : Setting} {r : BuildRooms} {o : BuildOutcome} {s 
   kept-counts = counts-fit t (kept-fits k (counts-facts (built i o s e) (counts-good b)))
 
   -- its segments are those of the description, number by number
-  pub kept-count : t .segmentCount ≡ length (segmentsOf d i r)
+  pub kept-count : t .segmentCount ≡ length (segmentsInRooms d i r)
   kept-count = sym (k .segment-count) ∙ built-table b .count
 
-  pub kept-is : (j : ℕ) (m : Segment) → j < t .segmentCount → segmentAt (t .segments) j ≡ getD (segmentsOf d i r) j m
+  pub kept-is : (j : ℕ) (m : Segment) → j < t .segmentCount → segmentAt (t .segments) j ≡ getD (segmentsInRooms d i r) j m
   kept-is j m h =
       let n : j < s = omega (arith, k .segment-count, h) in
       sym (kept-segment k j n) ∙ segment-is b j m (omega (arith, table-facts b .size, n)) ∙ ap (λ (l : List Segment). getD l j m) (segments-are b)
@@ -78,7 +79,7 @@ module _ {d : Description} {i : Setting} {r : BuildRooms} {o : BuildOutcome} {s 
   -- ---- with what is lent beside it for a desk
 
   module _ {segments : List Segment} {owners : List ℕ} {z : Sight} (w : KeptSight d i segments owners z) where
-    as-many : length owners ≡ length (segmentsOf d i r)
+    as-many : length owners ≡ length (segmentsInRooms d i r)
     as-many = makes-owned d (givenOf i) (i .high) (w .makes) ∙ ap length (built-are b segments (record { owners = owners; made = w .makes }))
 
     -- an owner is lent for each segment, and it is the number of a spline
@@ -123,10 +124,10 @@ module _ {d : Description} {i : Setting} {r : BuildRooms} {o : BuildOutcome} {s 
       facts-for = record { table = facts y l; all-owned = rw (alike y l .entries) owned-for }
 
       -- a pixel of the row, drawn by what is shown of it, and the updates of its first W pixels
-      pub kept-pixel : (c x : ℕ) (v : Float) → pixel c (t .segments) y x (shownOf t z y) v ≡ pixelOf c (notHidden z owners (segmentsOf d i r)) y x v
+      pub kept-pixel : (c x : ℕ) (v : Float) → pixel c (t .segments) y x (shownOf t z y) v ≡ pixelOf c (notHidden z owners (segmentsInRooms d i r)) y x v
       kept-pixel c x v = sym (alike-pixel alike-for facts-for c x v) ∙ row-pixel b z owners as-many (w .kept) y (low y l) c x v
 
-      pub kept-pairs : (W : ℕ) → updates (t .segments) 0 W (shownOf t z y) ≡ rowPairs (notHidden z owners (segmentsOf d i r)) W y
+      pub kept-pairs : (W : ℕ) → updates (t .segments) 0 W (shownOf t z y) ≡ rowPairs (notHidden z owners (segmentsInRooms d i r)) W y
       kept-pairs W = sym (alike-updates alike-for facts-for 0 W) ∙ row-pairs b z owners as-many (w .kept) y (low y l) W
 
       -- the desk is shown the segments of the table that have the row and are not hidden, once each, ascending

@@ -2,6 +2,7 @@
 pub mod Flat
 pub mod Shown
 pub mod Pixels
+pub mod InRooms
 pub mod Accepted
 pub mod Tables
 pub mod Listings

@@ -19,7 +19,8 @@ use Rattle.draw.specs.Image as image
 use Rattle.draw.specs.Image.{Job, jobs, Each, DrawnAll, pairs, mostPairs}
 use Rattle.draw.proofs.Parts as parts
 use Rattle.draw.proofs.Image as images
-use Rattle.picture.specs.Picture.{Built, built, segmentsOf, pixelOf, rowPairs, imagePairs, RowPicture}
+use Rattle.picture.specs.Picture.{Built, built, pixelOf, rowPairs, imagePairs, RowPicture}
+use Rattle.picture.proofs.InRooms.{segmentsInRooms}
 use Rattle.picture.specs.Sights.{notHidden, KeptSight}
 use Rattle.picture.proofs.Keeping.{desk-for, counts-for, bytes-for, row-for, kept-pixel, kept-pairs}
 
@@ -27,7 +28,7 @@ module _ {d : Description} {i : Setting} {r : BuildRooms} {o : BuildOutcome} {s 
     {segments : List Segment} {owners : List ℕ} {z : Sight} (lent : KeptSight d i segments owners z) (W : ℕ) (h : W ≤ 2 ^ 23) where
   -- the segments of the build that are not hidden for the desk
   abbrev own : List Segment
-  own = notHidden z owners (segmentsOf d i r)
+  own = notHidden z owners (segmentsInRooms d i r)
 
   whole-picture : (y : ℕ) → y < t .height → {a w : Channels} {sum : ℕ} → Whole t z y W a sum w → RowPicture own y a w
   whole-picture y k {a} {w} q = record { channel0 = q .channel0 ∙ same 0 (a .r0); channel1 = q .channel1 ∙ same 1 (a .r1); channel2 = q .channel2 ∙ same 2 (a .r2) }

@@ -32,7 +32,8 @@ use Rattle.desks.specs.Desks.{Sight, ownerIn, shown}
 use Rattle.checks.specs.Tables.{rowOf, shownOf}
 use Rattle.checks.specs.Checks.{allBelow, countsGood, entriesGood, rowGood}
 use Rattle.draw.specs.Draw.{pixel, updates}
-use Rattle.picture.specs.Picture.{Built, built, BuiltTable, segmentsOf, pixelOf, rowPairs}
+use Rattle.picture.specs.Picture.{Built, built, BuiltTable, pixelOf, rowPairs}
+use Rattle.picture.proofs.InRooms.{segmentsInRooms}
 use Rattle.picture.specs.Sights.{hides, notHidden}
 use Rattle.picture.proofs.Flat.{segment-at}
 use Rattle.picture.proofs.Shown.{seen, shown-listed}
@@ -101,8 +102,8 @@ module _ {d : Description} {i : Setting} {r : BuildRooms} {o : BuildOutcome} {s 
   facts = accepted d i r o s e estimate (b .faint) (b .outcome) (b .done)
 
   -- the segments that were drawn are those of the table, in their order
-  pub segments-are : facts .segs ≡ segmentsOf d i r
-  unfolding segmentsOf
+  pub segments-are : facts .segs ≡ segmentsInRooms d i r
+  unfolding segmentsInRooms
   segments-are = rw (facts .drawn)
 
   pub segment-is : (k : ℕ) (m : Segment) → k < length (facts .segs) → segmentAt (o .segments) k ≡ getD (facts .segs) k m
@@ -162,7 +163,7 @@ module _ {d : Description} {i : Setting} {r : BuildRooms} {o : BuildOutcome} {s 
         )
 
   -- what a desk is shown of a row, with the owners of the segments lent
-  module _ (z : Sight) (owners : List ℕ) (owned : length owners ≡ length (segmentsOf d i r)) (lent : take (length owners) (z .owners) ≡ owners) where
+  module _ (z : Sight) (owners : List ℕ) (owned : length owners ≡ length (segmentsInRooms d i r)) (lent : take (length owners) (z .owners) ≡ owners) where
     as-many : length owners ≡ length (facts .segs)
     as-many = owned ∙ ap length (sym segments-are)
 
@@ -181,19 +182,19 @@ module _ {d : Description} {i : Setting} {r : BuildRooms} {o : BuildOutcome} {s 
       shown-is = row-shown ∙ ap (listed (seen z (inRow (o .segments))) y) (sym (facts .size))
 
       -- a pixel of the row, drawn by what is shown of it, and the updates of its first W pixels
-      pub row-pixel : (c x : ℕ) (v : Float) → pixel c (o .segments) y x (shownOf (built i o s e) z y) v ≡ pixelOf c (notHidden z owners (segmentsOf d i r)) y x v
+      pub row-pixel : (c x : ℕ) (v : Float) → pixel c (o .segments) y x (shownOf (built i o s e) z y) v ≡ pixelOf c (notHidden z owners (segmentsInRooms d i r)) y x v
       row-pixel c x v =
           ap (λ (l : List ℕ). pixel c (o .segments) y x l v) shown-is
           ∙ pixel-is (o .segments) (facts .segs) none (λ k l. segment-is k none l) z owners as-many (seen z (inRow (o .segments))) shown-in c y x v
           ∙ ap (λ (l : List Segment). pixelOf c (notHidden z owners l) y x v) segments-are
 
-      pub row-pairs : (W : ℕ) → updates (o .segments) 0 W (shownOf (built i o s e) z y) ≡ rowPairs (notHidden z owners (segmentsOf d i r)) W y
+      pub row-pairs : (W : ℕ) → updates (o .segments) 0 W (shownOf (built i o s e) z y) ≡ rowPairs (notHidden z owners (segmentsInRooms d i r)) W y
       row-pairs W =
           ap (updates (o .segments) 0 W) shown-is
           ∙ pairs-are (o .segments) (facts .segs) none (λ k l. segment-is k none l) z owners as-many (seen z (inRow (o .segments))) shown-in W y
           ∙ ap (λ (l : List Segment). rowPairs (notHidden z owners l) W y) segments-are
 
-  pub built-table : BuiltTable d i r (segmentsOf d i r) o s e estimate
+  pub built-table : BuiltTable d i r (segmentsInRooms d i r) o s e estimate
   built-table = record {
     judged = facts .judged;
     count = sym (facts .size) ∙ ap length segments-are;

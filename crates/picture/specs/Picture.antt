@@ -13,12 +13,10 @@ use Rattle.points.specs.Points.{eights}
 use Rattle.segments.specs.declared.Segment.{Segment}
 use Rattle.segments.specs.Ranges.{hasRow, hasColumn}
 use Rattle.shade.specs.Shade.{shaded}
-use Rattle.painting.specs.Painting.{Painted, All, NoRoomAt}
 use Rattle.rows.specs.Rows.{listed, rows, startOf, upTo, inRow}
 use Rattle.rows.specs.Rows as listing
 use Rattle.table.specs.Table.{BuildRooms, Setting, givenOf, zeros, buildOf}
 use Rattle.table.specs.Table as build
-use Rattle.table.specs.Refusals.{painted}
 use Rattle.table.specs.declared.BuildAnswer.{BuildAnswer}
 use Rattle.draw.specs.Draw.{count, Table, tableOf, rowOf, Channels}
 use Rattle.shade.specs.Edit.{edit}
@@ -56,14 +54,6 @@ pub record Built (d : Description) (i : Setting) (r : BuildRooms) (o : build.Bui
 -- the table as drawing takes it: s segments, e entries, and a row start for each row of the image and one more
 abbrev pub built : Setting → build.BuildOutcome → ℕ → ℕ → Table
 built i o s e = tableOf (o .segments) s (o .entries) e (o .starts) (i .height)
-
-abbrev pub paintedSegments : Painted → List Segment
-paintedSegments (All segments owners) = segments
-paintedSegments (NoRoomAt k) = []
-
--- the segments of a description, in the order of its splines
-unfoldable pub segmentsOf : Description → Setting → BuildRooms → List Segment
-segmentsOf d i r = paintedSegments (painted d i r)
 
 -- what the table holds: the segments laid flat, the rows that list them, where each row starts, and zeros behind them and in the working cells; row y lists the segments
 -- that have it, once each, ascending

@@ -3,4 +3,4 @@ pub mod Segment
 pub mod Ranges
 pub mod Bounds
 pub mod Expressions
-pub mod Readings
+pub mod Spot

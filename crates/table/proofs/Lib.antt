@@ -1,6 +1,7 @@
 -- The laws of the crate `table`.
 pub mod Area
 pub mod Placing
+pub mod InRooms
 pub mod Users
 pub mod Segments
 pub mod Readings

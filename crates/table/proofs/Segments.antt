@@ -18,7 +18,7 @@ use Rattle.faint.specs.Faint.{faintIn}
 use Rattle.table.specs.declared.BuildAnswer.the-variants.{Done}
 use Rattle.table.specs.Table.{BuildRooms, Setting, BuildOutcome, givenOf, refusedWith, buildOf}
 use Rattle.table.specs.Segments.{Makes, entryTotal, NeedsMet, doneWith, BuildMakes, NoLess, SameTable, MakesOne, OwnsOne, EnoughIsDone, DoneMakes, MoreRoomNeverRefuses}
-use Rattle.table.specs.Refusals.{painted}
+use Rattle.table.proofs.InRooms.{painted}
 use Rattle.table.proofs.Users.{is-drawn, refused, met, Accepts, Refuses, either-way}
 
 pub one-owned : OwnsOne

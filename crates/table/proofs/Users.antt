@@ -28,7 +28,8 @@ use Rattle.table.specs.declared.BuildAnswer.the-variants.{Refused}
 use Rattle.table.specs.Table.{BuildRooms, Setting, BuildOutcome, givenOf, refusedWith, afterRows, afterPaint, afterJudge, buildOf}
 use Rattle.verdict.specs.Verdict.{sized, shaped, orRefused, verdictOf}
 use Rattle.table.specs.Segments.{entryTotal, Fits, NeedsMet, doneWith}
-use Rattle.table.specs.Refusals.{painted, BuildRefusal, size, shape, starts, judged, drawing, entries}
+use Rattle.table.specs.Refusals.{BuildRefusal, size, shape, starts, judged, drawing, entries}
+use Rattle.table.proofs.InRooms.{painted}
 use Rattle.verdict.proofs.Checks.{both, agreed}
 
 -- ---- tests

@@ -9,19 +9,11 @@ use Rattle.codes.specs.declared.Code.the-variants as Code
 use Rattle.dequantize.specs.Judge.{Description, Shaped}
 use Rattle.dequantize.specs.Refusals.{AllPass, FirstRefused}
 use Rattle.segments.specs.declared.Segment.{Segment}
-use Rattle.curve.specs.Curve.{pathRoom}
-use Rattle.walk.specs.Walk.{walkRoom}
-use Rattle.owners.specs.Owners.{ownedRoom}
-use Rattle.painting.specs.Painting.{Painted, paintOf}
 use Rattle.painting.specs.Segments.{Lacks, DrawnUpTo, FirstLacks}
 use Rattle.table.specs.Table.{Setting, BuildRooms, givenOf}
 use Rattle.table.specs.Segments.{Fits, entryTotal}
 
 module _ (d : Description) (i : Setting) (r : BuildRooms) where
-  -- all splines, drawn with the room that is lent
-  abbrev pub painted : Painted
-  painted = paintOf d (givenOf i) (i .high) (pathRoom (r .path)) (walkRoom (r .walk)) (ownedRoom (r .segments) (r .owners))
-
   -- the code and the place, when
   pub data BuildRefusal : Code → ℕ → Type 0 where
     -- 8: width or height above 2^23

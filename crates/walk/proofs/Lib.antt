@@ -3,3 +3,4 @@ pub mod Reaches
 pub mod Walking
 pub mod Fuel
 pub mod Answers
+pub mod Readings

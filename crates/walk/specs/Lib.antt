@@ -1,3 +1,2 @@
 -- The definitions of the crate `walk`.
 pub mod Walk
-pub mod Readings

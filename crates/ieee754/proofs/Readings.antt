@@ -30,3 +30,5 @@ tie-up = refl
 pub length-five : lengthOf (pos 3) (pos 4) ≡ fin false 5 (pos 0)
 unfolding lengthOf
 length-five = refl
+
+-- Assumes nothing.

@@ -34,3 +34,5 @@ ln-infinity = refl
 pub ln-nan : lnOf nan ≡ nan
 unfolding lnOf
 ln-nan = refl
+
+-- Assumes nothing.

@@ -62,3 +62,5 @@ pub endless : (k : ℕ) → walkIn k far ≡ More
 unfolding walkIn pointAt ofBits
 endless zero = refl
 endless (suc k) = ap (before (toDraw still 1·0 ∷ [])) (from k 0 (omega arith))
+
+-- Assumes nothing.

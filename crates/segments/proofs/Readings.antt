@@ -7,23 +7,10 @@ use lib.Ieee.{Float, nan, inf, fin, round, add, sub}
 use Rattle.wholes.specs.Whole.{wholeBy}
 use Rattle.kinds.specs.Kind.{kindBy}
 use Rattle.segments.specs.Ranges.{rowFirstOf, rowPastOf, columnFirstOf, columnPastOf, rowsOf, columnsOf}
-use Rattle.segments.specs.declared.Segment.{Segment}
+use Rattle.segments.specs.Spot.{spot}
 use Rattle.segments.specs.declared.Range.{Range}
 
--- a segment at x and y with a distance; its other floats do not matter here
-abbrev pub spot : Float → Float → Float → Segment
-spot x y d = record {
-  «center_x» = x;
-  «center_y» = y;
-  «maximum_distance» = d;
-  «inv_sigma» = nan;
-  «sigma_over_4_times_intensity» = nan;
-  color0 = nan;
-  color1 = nan;
-  color2 = nan;
-}
-
-abbrev pub half-open : ℕ → ℕ → Range
+abbrev half-open : ℕ → ℕ → Range
 half-open a b = record { first = a; past = b }
 
 -- cy 5, d 2.5: rows 3 to 8
@@ -53,3 +40,5 @@ unfolding columnsOf columnFirstOf columnPastOf kindBy wholeBy round add sub
 nan-column-0 nan y = refl
 nan-column-0 (inf s) y = refl
 nan-column-0 (fin s m e) y = refl
+
+-- Assumes nothing.
