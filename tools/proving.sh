@@ -80,9 +80,12 @@ scratch_away() {
     scratch=''
 }
 
+# rt starts so many crates or edits together and waits for all of them: a dozen keep two processors busy nearly to the end of each round.
 proving_starts() { # WHO CRATE..
     who=$1
     shift
+    RT_JOBS=${RT_JOBS:-12}
+    export RT_JOBS
     scratch_in_memory
     mark=$top/host/target/proving.mark
     mkdir -p "$top/host/target" && : >"$mark"
