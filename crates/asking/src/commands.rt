@@ -1,5 +1,4 @@
 // The commands, by their words.
-use crate::arguments;
 
 pub enum Command {
     Read,

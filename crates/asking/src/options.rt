@@ -1,7 +1,6 @@
 // The words that stand before a command: whether progress is told, the precision, what is hidden and for which desk, by which edition of the profile, and which edition a trace file holds.
 ghost use Prim.Native.Nat.{_+_, _≤_};
-use crate::arguments;
-use crate::arguments::Number;
+use arguments::Number;
 
 // `at` is the argument of the next word, `hide` that with the numbers of the hidden traces, 0 where there is none; `profile` and `edition` are editions, that of the profile and that of a trace file, 0 where none is asked for; `good` until a word stands twice or lacks its number.
 pub struct Options {

@@ -1,8 +1,7 @@
-// What is asked of a built table: a picture of it in an open file, or its rows in words.
+// A picture of a built table in an open file; and what a task is, of which a picture is one.
 ghost use Prim.Native.Nat.{_≤_, _<_};
 ghost use lib.ListN.{length};
 use draw::DrawAnswer;
-use hull::ReachAnswer;
 
 // The pixels that are drawn at a time, and the bytes that they take at most.
 const STRIP: u32 = 2048;
@@ -43,6 +42,33 @@ pub struct Task {
     pub desk: u32,
     pub profile: u32,
     pub edition: u32,
+}
+
+// The pixels of the image, as far as 32 bits hold them; where there is no image they limit nothing.
+pub fn pixels_of(task: Task) -> u32
+    ensures { λ _. ⊤ₛ }
+{
+    let width = task.width;
+    let height = task.height;
+    let area = numbers::saturating_mul(width as u64, height as u64);
+    if area == 0 {
+        return 4294967295;
+    }
+    if area < 4294967296 {
+        area as u32
+    } else {
+        4294967295
+    }
+}
+
+// The counts of a built table, in words; the status so far.
+pub fn say_built(segments: u32, faint: u32, entries: u32, estimate: u64) -> u8
+    ensures { λ r. ⌜ r ≤ 3 ⌝ }
+{
+    words::out(
+        b"# segments, # of them faint, # entries, estimate #\n",
+        &[segments as u64, faint as u64, entries as u64, estimate],
+    )
 }
 
 // How many updates a part took; or it was not drawn, or not written.
@@ -281,14 +307,16 @@ fn shown_in(owners: &[u64], entries: &[u32], bits: &[u8], desk: u32) -> usize
 }
 
 // How many entries of a row are shown.
-fn shown_of(
+pub fn shown_of(
     owners: &[u64],
     entries: &[u32],
     row_starts: &[u32],
     bits: &[u8],
     desk: u32,
     y: u32,
-) -> usize {
+) -> usize
+    ensures { λ _. ⊤ₛ }
+{
     let at = y as usize;
     if row_starts.len() <= at + 1 {
         return 0;
@@ -384,89 +412,4 @@ pub fn draw(
             ],
         ),
     }
-}
-
-fn say_row(y: u32, entries: usize, first: u32, past: u32) -> u8
-    ensures { λ r. ⌜ r ≤ 3 ⌝ }
-{
-    words::out(
-        b"row #: # entries, columns from # up to #\n",
-        &[y as u64, entries as u64, first as u64, past as u64],
-    )
-}
-
-// One row, where it shows any entry; the status so far.
-fn reach_row(
-    segments: &[f32],
-    owners: &[u64],
-    segment_count: u32,
-    entries: &[u32],
-    entry_count: u32,
-    row_starts: &[u32],
-    bits: &[u8],
-    task: Task,
-    y: u32,
-) -> u8
-    ensures { λ r. ⌜ r ≤ 3 ⌝ }
-{
-    let desk = task.desk;
-    let held = shown_of(owners, entries, row_starts, bits, desk, y);
-    if held == 0 {
-        return 0;
-    }
-    let height = task.height;
-    let width = task.width;
-    let splines = bits.len() as u64;
-    match hull::reach(
-        segments,
-        owners,
-        segment_count,
-        entries,
-        entry_count,
-        row_starts,
-        height,
-        splines,
-        bits,
-        desk,
-        y,
-        width,
-    ) {
-        ReachAnswer::Refused(_, _) => 0,
-        ReachAnswer::Done(first, past) => say_row(y, held, first, past),
-    }
-}
-
-// `gauge rows`: each row that shows entries, and its reach.
-pub fn rows(
-    segments: &[f32],
-    owners: &[u64],
-    segment_count: u32,
-    entries: &[u32],
-    entry_count: u32,
-    row_starts: &[u32],
-    bits: &[u8],
-    task: Task,
-) -> u8
-    ensures { λ r. ⌜ r ≤ 3 ⌝ }
-{
-    let height = task.height;
-    let mut y: u32 = 0;
-    while y < height {
-        let status = reach_row(
-            segments,
-            owners,
-            segment_count,
-            entries,
-            entry_count,
-            row_starts,
-            bits,
-            task,
-            y,
-        );
-        if status != 0 {
-            return status;
-        }
-        y += 1;
-    }
-    0
 }

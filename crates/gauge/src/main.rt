@@ -2,15 +2,15 @@
 // either made from the other, and its line drawing: `gauge read`, `gauge draw`, `gauge rows`, `gauge bands`, `gauge touch`, `gauge why`, `gauge table`, `gauge check`, `gauge profile`, `gauge trace`, `gauge svg`.
 // A program has no exit status: with `--status` it is written as a digit to descriptor 3 (0: done, 1: refused, 2: wrong use).
 ghost use Prim.Native.Nat.{_≤_};
+use arguments::Kind;
+use arguments::Number;
+use arguments::Two;
+use arguments::kind_at;
+use arguments::kind_of;
+use arguments::pixel_at;
+use arguments::size_at;
 use asking::Command;
-use asking::Kind;
-use asking::Number;
 use asking::Options;
-use asking::Two;
-use asking::kind_at;
-use asking::kind_of;
-use asking::pixel_at;
-use asking::size_at;
 use canvas::Asked;
 use canvas::Task;
 use contents::Tried;
@@ -232,7 +232,7 @@ fn touch(i: u8, options: Options) -> u8
 fn why_in(i: u8, width: u32, height: u32, options: Options) -> u8
     requires { ⌜ i ≤ 40 ⌝ }
 {
-    match asking::argument(i as usize + 3) {
+    match arguments::argument(i as usize + 3) {
         Number::Is(n) => perform(i as usize, task(options, width, height, Asked::Why(n))),
         _ => words::wrong(2, b"the number of a segment is due\n", &[]),
     }
@@ -359,10 +359,10 @@ fn trace_in(i: u8, options: Options) -> u8
 fn trace(i: u8, options: Options) -> u8
     requires { ⌜ i ≤ 40 ⌝ }
 {
-    if asking::is_argument(i as usize, b"out") {
+    if arguments::is_argument(i as usize, b"out") {
         return trace_out(i + 1, options);
     }
-    if asking::is_argument(i as usize, b"in") {
+    if arguments::is_argument(i as usize, b"in") {
         return trace_in(i + 1, options);
     }
     usage()
@@ -409,7 +409,7 @@ fn svg_in(i: u8, wanted: Wanted) -> u8 {
 fn svg_in_one(i: u8) -> u8
     requires { ⌜ i ≤ 60 ⌝ }
 {
-    match asking::argument(i as usize + 1) {
+    match arguments::argument(i as usize + 1) {
         Number::Is(n) => svg_in(i, Wanted::One(n)),
         _ => words::wrong(2, b"the number of a trace is due\n", &[]),
     }
@@ -420,13 +420,13 @@ fn svg(i: u8, more: usize, options: Options) -> u8
     requires { ⌜ i ≤ 40 ⌝ }
 {
     if more == 5 {
-        return if asking::is_argument(i as usize, b"out") {
+        return if arguments::is_argument(i as usize, b"out") {
             svg_out(i + 1, options)
         } else {
             usage()
         };
     }
-    if !asking::is_argument(i as usize, b"in") {
+    if !arguments::is_argument(i as usize, b"in") {
         return usage();
     }
     match more {
@@ -492,7 +492,7 @@ fn tell(status: u8) {
 }
 
 fn main() {
-    if asking::is_argument(1, b"--status") {
+    if arguments::is_argument(1, b"--status") {
         tell(run_from(2));
     } else {
         run_from(1);

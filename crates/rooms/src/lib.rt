@@ -216,21 +216,6 @@ fn answer_first(
     )
 }
 
-// The pixels of the image, as far as 32 bits hold them; where there is no image they limit nothing.
-fn pixels_of(task: Task) -> u32 {
-    let width = task.width;
-    let height = task.height;
-    let area = numbers::saturating_mul(width as u64, height as u64);
-    if area == 0 {
-        return 4294967295;
-    }
-    if area < 4294967296 {
-        area as u32
-    } else {
-        4294967295
-    }
-}
-
 // What is asked of a list that is read in lent rooms. They are arrays: the length of each is then known by its type, and no proof counts its cells.
 fn list_in(
     list: &[u32],
@@ -242,7 +227,7 @@ fn list_in(
 ) -> u8
     ensures { λ r. ⌜ r ≤ 3 ⌝ }
 {
-    let pixels = pixels_of(task);
+    let pixels = canvas::pixels_of(task);
     match reader::read(
         list,
         contents::CONFIGURED,

@@ -6,15 +6,6 @@ use canvas::Task;
 // As many as a description of this program has splines.
 const TRACES: usize = 4096;
 
-fn say_built(segments: u32, faint: u32, entries: u32, estimate: u64) -> u8
-    ensures { λ r. ⌜ r ≤ 3 ⌝ }
-{
-    words::out(
-        b"# segments, # of them faint, # entries, estimate #\n",
-        &[segments as u64, faint as u64, entries as u64, estimate],
-    )
-}
-
 // The picture, the bands or the rows of a table of these counts, without what the bytes hide, a byte a spline.
 fn show(
     segments: &[f32],
@@ -57,7 +48,7 @@ fn show(
                 width,
             )
         }
-        _ => canvas::rows(
+        _ => reaching::say(
             segments,
             owners,
             segment_count,
@@ -95,7 +86,7 @@ fn show_hidden(
     if status != 0 {
         return status;
     }
-    let status = say_built(segment_count, faint, entry_count, estimate);
+    let status = canvas::say_built(segment_count, faint, entry_count, estimate);
     if status != 0 {
         return status;
     }

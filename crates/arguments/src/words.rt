@@ -1,4 +1,4 @@
-// Arguments taken apart. What stands in them is the caller's, so nothing is promised of it.
+// Arguments as words and as numbers. What stands in them is the caller's, so nothing is promised of it.
 use text::Parsed;
 
 // An argument that is a number.

@@ -1,8 +1,8 @@
--- `canvas::rows` ends: it goes through the rows in order.
+-- `reaching::say` ends: it goes through the rows in order.
 use Prim.Native.Nat.{_-_, _≤_}
 use borrow.Author.Needs.{needs}
-use Rattle.canvas.proofs.rows.Statement.{statement}
-use Rattle.canvas.proofs.rows.Tie as tie
+use Rattle.reaching.proofs.say.Statement.{statement}
+use Rattle.reaching.proofs.say.Tie as tie
 
 abbrev Inv-loop : tie.InvT-loop
 Inv-loop segments owners segment-count entries entry-count row-starts bits task height y₀ y = y ≤ height
@@ -31,8 +31,8 @@ loop-again c = search needs
 returns-2 : tie.Need-returns-2 Inv-loop μ-loop
 returns-2 c = search needs
 
-pub rows-spec : {M : Type 1} → statement M
-rows-spec =
+pub say-spec : {M : Type 1} → statement M
+say-spec =
     tie.close
     (tie.spec
     Inv-loop

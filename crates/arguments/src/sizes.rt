@@ -1,7 +1,7 @@
 // Sizes and pixels, by two arguments.
 ghost use Prim.Native.Nat.{_≤_};
-use crate::arguments;
-use crate::arguments::Number;
+use crate::words;
+use crate::words::Number;
 
 // The size of an image or a pixel of it, by two arguments.
 pub enum Two {
@@ -20,10 +20,10 @@ fn is_within(n: u32, most: u32) -> bool {
 fn two_at(i: u8) -> Two
     requires { ⌜ i ≤ 60 ⌝ }
 {
-    let Number::Is(a) = arguments::argument(i as usize) else {
+    let Number::Is(a) = words::argument(i as usize) else {
         return Two::Not;
     };
-    let Number::Is(b) = arguments::argument(i as usize + 1) else {
+    let Number::Is(b) = words::argument(i as usize + 1) else {
         return Two::Not;
     };
     Two::Are(a, b)
