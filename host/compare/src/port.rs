@@ -51,19 +51,22 @@ fn told_write<T>(expected: &Result<Vec<T>, Refusal>) -> (u32, Answer) {
     }
 }
 
+/// What a build that is done tells.
+fn told_table(table: &Table) -> (u32, Answer) {
+    let counts = [
+        0,
+        table.segments.len() as i64,
+        table.entries.len() as i64,
+        table.estimate as i64,
+        table.faint as i64,
+    ];
+    (0, counts)
+}
+
 /// The code and answer that stand for a table that was built, or for a refusal.
 fn told_build(expected: &Result<Table, Refusal>) -> (u32, Answer) {
     match expected {
-        Ok(table) => (
-            0,
-            [
-                0,
-                table.segments.len() as i64,
-                table.entries.len() as i64,
-                table.estimate as i64,
-                table.faint as i64,
-            ],
-        ),
+        Ok(table) => told_table(table),
         Err(refusal) => told_refusal(refusal),
     }
 }

@@ -32,5 +32,5 @@ pub use list::{read, write, ListRooms};
 pub use numbers::set_ln;
 pub use polyline::{points_read, points_write};
 pub use profile::{build_profile, profile, Unmet};
-pub use table::{build, least_rooms, BuildRooms, AMPLE};
+pub use table::{build, least_rooms, measure, BuildRooms, Taken, AMPLE};
 pub use trace::{trace_read, trace_read2, trace_write, trace_write2};

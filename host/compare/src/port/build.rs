@@ -9,15 +9,16 @@ use cases::descriptions::{build_case, BuildCase, KINDS, OWNER_KINDS, SLOW_KINDS}
 use cases::random::Random;
 use cases::{bits, each, few, Code, FlatTable, Given, Refusal, Table};
 use model::list::well_shaped;
-use model::BuildRooms;
+use model::{BuildRooms, Taken};
 use oracle::Outcome;
 use port::{Answer, Buffers, Image};
+use std::borrow::Cow;
 use std::thread;
 
 const CASES_A_KIND: u64 = 1_200;
 const SLOW_CASES_A_KIND: u64 = 12;
 
-/// Rooms for a description that is refused before it is drawn, in records; the row starts are as many as are due.
+/// Rooms for a description that is refused before it is drawn, in records; the row starts are as many as are due, but for SIZE, which comes before them.
 const SOME: u64 = 40;
 /// No more row starts are lent than the tallest image has.
 const MOST_ROW_STARTS: u64 = (1 << 23) + 1;
@@ -55,21 +56,22 @@ fn compare_share(mut share: Tally, first: usize) -> Tally {
 fn compare_case(tally: &mut Tally, kind: &str, seed: u64) {
     let case = build_case(kind, seed);
     let whole = original(&case);
-    let Some(exact) = exact_rooms(&case) else {
+    let model = Expected::of(&case);
+    let Some(exact) = exact_rooms(&case, &model) else {
         return;
     };
     tally.cases += 1;
     for rooms in rooms(&exact, &mut Random::new("rooms", seed)) {
-        let expected = model::build(&case.description, &case.given, &rooms);
-        tally.called(&expected);
+        let expected = &*model.in_rooms(&case, &rooms, seed);
+        tally.called(expected);
         let built = PortBuilt::of(&case, &rooms);
         let mut wrong = Vec::new();
-        if !built.is(&expected) {
-            wrong.push(format!("model:     {:?}", told_build(&expected)));
+        if !built.is(expected) {
+            wrong.push(format!("model:     {:?}", told_build(expected)));
         }
-        if let (Some(original), true) = (&whole, rust_decides(&expected)) {
+        if let (Some(original), true) = (&whole, rust_decides(expected)) {
             tally.by_rust += 1;
-            if !same_outcome(original, &expected) || !built.is(original) {
+            if !same_outcome(original, expected) || !built.is(original) {
                 wrong.push(format!("spline.rs: {:?}", told_build(original)));
             }
         }
@@ -83,17 +85,68 @@ fn compare_case(tally: &mut Tally, kind: &str, seed: u64) {
     }
 }
 
+/// What the second reading builds of a case: once in ample rooms where it is done there, and else in each rooms.
+pub(super) struct Expected {
+    ample: Result<Table, Refusal>,
+    taken: Option<Taken>,
+}
+
+/// Of so many seeds one is built in each rooms in any case, and held against what follows from the ample ones.
+const BUILT_AGAIN: u64 = 16;
+
+impl Expected {
+    pub(super) fn of(case: &BuildCase) -> Expected {
+        match model::measure(&case.description, &case.given) {
+            Ok((table, taken)) => Expected {
+                ample: Ok(table),
+                taken: Some(taken),
+            },
+            Err(refusal) => Expected {
+                ample: Err(refusal),
+                taken: None,
+            },
+        }
+    }
+
+    pub(super) fn in_rooms(
+        &self,
+        case: &BuildCase,
+        rooms: &BuildRooms,
+        seed: u64,
+    ) -> Cow<'_, Result<Table, Refusal>> {
+        let built = || model::build(&case.description, &case.given, rooms);
+        let Some(taken) = &self.taken else {
+            return Cow::Owned(built());
+        };
+        let expected = match taken.in_rooms(rooms) {
+            Ok(()) => Cow::Borrowed(&self.ample),
+            Err(refusal) => Cow::Owned(Err(refusal)),
+        };
+        if seed % BUILT_AGAIN == 0 {
+            assert!(
+                same_outcome(&built(), &expected),
+                "what a build takes does not tell what it is in {rooms:?}: {case:?}"
+            );
+        }
+        expected
+    }
+}
+
 /// The lengths with which the build is just done, or some where it is refused; `None` for a table past all memory.
-pub(super) fn exact_rooms(case: &BuildCase) -> Option<BuildRooms> {
+pub(super) fn exact_rooms(case: &BuildCase, model: &Expected) -> Option<BuildRooms> {
+    let row_starts = match model.ample {
+        Err(refusal) if refusal.code == Code::Size => SOME,
+        _ => (u64::from(case.given.height) + 1).min(MOST_ROW_STARTS),
+    };
     let some = BuildRooms {
         path: 2 * SOME,
         walk: 3 * SOME,
         segments: 8 * SOME,
         owners: SOME,
-        row_starts: (u64::from(case.given.height) + 1).min(MOST_ROW_STARTS),
+        row_starts,
         entries: SOME,
     };
-    let least = model::least_rooms(&case.description, &case.given).unwrap_or(some);
+    let least = model.taken.as_ref().map_or(some, |taken| taken.least);
     let numbers = least.path + least.walk + least.segments + least.entries;
     (numbers <= MOST_NUMBERS).then_some(least)
 }

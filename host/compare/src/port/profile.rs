@@ -1,9 +1,9 @@
 //! The fineness profile: the check, and building by it with rooms exact, larger, one short each and none. A build by profile that the profile does
 //! not refuse is held against the build, every cell, and against spline.rs where that decides.
 
-use super::build::{exact_rooms, original, rooms, PortBuilt};
+use super::build::{exact_rooms, original, rooms, Expected, PortBuilt};
 use super::tally::Tally;
-use super::{guarded, parts, told_build, told_refusal};
+use super::{guarded, parts, told_build, told_refusal, told_table};
 use cases::profiles::{profile_case, ProfileCase, GREAT_KINDS, PROFILE_KINDS};
 use cases::random::Random;
 use cases::{each, few, Code, Refusal, Table};
@@ -65,14 +65,21 @@ pub fn compare_build(tally: &mut Tally) {
 /// With so many of the rooms.
 fn compare_case(tally: &mut Tally, kind: &str, seed: u64, most: usize) {
     let case = &profile_case(kind, seed);
-    let Some(exact) = exact_rooms(&case.case) else {
+    let model = Expected::of(&case.case);
+    let Some(exact) = exact_rooms(&case.case, &model) else {
         return;
     };
+    let met = model::profile(&case.case.description, case.edition).is_ok();
     tally.cases += 1;
     let whole = original(&case.case);
     let all = rooms(&exact, &mut Random::new("rooms", seed));
     for rooms in all.into_iter().take(most) {
-        let expected = expected_build(case, &rooms);
+        // What meets the profile is built as any other.
+        let built = met.then(|| model.in_rooms(&case.case, &rooms, seed));
+        let expected = match built.as_deref() {
+            Some(built) => built.as_ref().map_err(|&refusal| Unmet::from(refusal)),
+            None => Err(expected_build(case, &rooms).expect_err("an unmet profile")),
+        };
         tally.called(&refusal_of(&expected));
         let judged = expected.is_ok().then_some(whole.as_ref()).flatten();
         tally.by_rust += u64::from(judged.is_some());
@@ -95,14 +102,14 @@ pub fn expected_build(case: &ProfileCase, rooms: &BuildRooms) -> Result<Table, U
 pub fn wrong_build(
     case: &ProfileCase,
     rooms: &BuildRooms,
-    expected: &Result<Table, Unmet>,
+    expected: &Result<&Table, Unmet>,
     judged: Option<&Result<Table, Refusal>>,
 ) -> Option<String> {
     let built = PortBuilt::of_profile(&case.case, case.edition, rooms);
     let told = built.told();
     let nothing = Table::default();
     let (due, table) = match expected {
-        Ok(table) => (told_build(&Ok(table.clone())), table),
+        Ok(table) => (told_table(table), *table),
         Err(unmet) => (told_unmet(unmet), &nothing),
     };
     if told != due || !built.holds(table) {

@@ -27,6 +27,7 @@ pub fn build(bytes: &mut Bytes) {
     let (rooms, given) = rooms_and_image(bytes);
     let case = case(bytes, given);
     let expected = expected_build(&case, &rooms);
+    let expected = expected.as_ref().map_err(Clone::clone);
     let wrong = wrong_build(&case, &rooms, &expected, None);
     assert_eq!(wrong, None, "{case:?}, {rooms:?}");
 }

@@ -5,7 +5,7 @@ use crate::bands::width_by_turns;
 use crate::check::by_rust;
 use crate::draw::{without_hidden, Channels, Judge};
 use crate::port::bands::{judged, listing, making, refresh};
-use crate::port::build::{exact_rooms, image, original, rooms, rust_decides, PortBuilt};
+use crate::port::build::{exact_rooms, image, original, rooms, rust_decides, Expected, PortBuilt};
 use crate::port::check::{check, told};
 use crate::port::desks::one_hide;
 use crate::port::draw::{check as check_part, check_with_rust, drawn_part, expected_part, WIDTH};
@@ -119,7 +119,7 @@ impl Tables {
 
     /// Exact rooms or larger ones, now and then one short; `None` for a table that is too great.
     fn rooms(&self, case: &BuildCase, r: &mut Random) -> Option<BuildRooms> {
-        let exact = exact_rooms(case)?;
+        let exact = exact_rooms(case, &Expected::of(case))?;
         let numbers = exact.path + exact.walk + exact.segments + exact.row_starts + exact.entries;
         if numbers > MOST_NUMBERS {
             return None;
