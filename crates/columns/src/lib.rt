@@ -50,7 +50,7 @@ pub fn draw_columns(
     let a = (from - x0) as usize;
     let e = (to - x0) as usize;
     let width = to - from;
-    shade::add_segment(
+    blocks::add_segment(
         segment,
         y,
         from,

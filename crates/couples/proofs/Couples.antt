@@ -17,7 +17,7 @@ use Rattle.segments.specs.declared.Range.{Range}
 use Rattle.shade.specs.Edit.{edit, firstCells, inside}
 use Rattle.shade.specs.Shade.{sqd, dy2, intensityAt, localIntensity, shade, shaded, shadedByIntensity, Holds}
 use Rattle.shade.proofs.Edits.{lt-or-ge, length-edit, edit-cong, edit-part}
-use Rattle.shade.proofs.Blocks.{passed}
+use Rattle.blocks.proofs.Blocks.{passed}
 use Rattle.desks.specs.Desks.{Sight, hiddenIn, shown}
 use Rattle.columns.specs.Columns.{pixel, between, count, updates}
 use Rattle.columns.proofs.Columns.{count-between, count-cong, ranged, has-columns}

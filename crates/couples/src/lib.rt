@@ -83,12 +83,12 @@ fn draw_narrow(
     let l = (q.past - q.first) as usize;
     let mut v = [0.0f32; 32];
     let mut w = [0.0f32; 32];
-    shade::squares_at(one, y, p.first, m, &mut v);
-    shade::squares_at(two, y, q.first, l, &mut w);
-    shade::roots(&mut v, m, table);
-    shade::roots(&mut w, l, table);
-    shade::intensities_at(one, m, &mut v);
-    shade::intensities_at(two, l, &mut w);
+    blocks::squares_at(one, y, p.first, m, &mut v);
+    blocks::squares_at(two, y, q.first, l, &mut w);
+    blocks::roots(&mut v, m, table);
+    blocks::roots(&mut w, l, table);
+    blocks::intensities_at(one, m, &mut v);
+    blocks::intensities_at(two, l, &mut w);
     add_in(one, p, &v, x0, r0, r1, r2);
     add_in(two, q, &w, x0, r0, r1, r2);
 }

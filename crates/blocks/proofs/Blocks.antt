@@ -3,14 +3,14 @@ use mathlib.Core.Path.{_≡_, ap, _∙_}
 use mathlib.Core.List.{List, _++_}
 use Prim.Native.Nat.{ℕ, _+_, _-_, _<_, _≤_}
 use native.Mathlib.Omega.{arith}
-use lib.ListN.{length, getD, take, drop}
+use lib.ListN.{length, getD, take, drop, length-take, length-drop}
 use lib.Ieee.{Float, nan, binary32}
 use borrow.Author.Tests.{lt-ltb}
 use Rattle.roots.specs.Root.{sqrtOf}
 use Rattle.segments.specs.declared.Segment.{Segment}
 use Rattle.shade.specs.Edit.{edit, firstCells}
 use Rattle.shade.specs.Shade.{sqd, dy2, intensityAt, shade, shaded, shadedByIntensity, shadedBySquare}
 use Rattle.shade.proofs.Edits.{length-edit, getD-edit, edit-cong, stored-part}
 
 -- a cell after a pass over the first m
 pub passed : (f : ℕ → Float → Float) (m : ℕ) (v w : List Float) (i : ℕ) → m ≤ length v → i < m → w ≡ edit (firstCells m f) v → getD w i nan ≡ f i (getD v i nan)
@@ -44,6 +44,10 @@ four-passes s d x c m l v0 v1 v2 v3 xs ys z ml l32 e p q r t =
 
     local-at : (i : ℕ) → i < m → getD v3 i nan ≡ intensityAt s (sqrtOf binary32 (sqd (s .«center_x») d (x + i)))
     local-at i k = passed local l v2 v3 i (omega (arith, long2)) (omega arith) r ∙ ap (intensityAt s) (root-at i k)
+
+-- the cells from a up to e
+pub part-long : (xs : List Float) (a e : ℕ) → a ≤ e → e ≤ length xs → length (take (e - a) (drop a xs)) ≡ e - a
+part-long xs a e l h = simp (length-take, length-drop) (omega arith)
 
 -- by the square of the distance in y
 same-shade : (s : Segment) (y x c : ℕ) (d v : Float) → d ≡ dy2 (s .«center_y») y → shadedBySquare s d x c v ≡ shaded s y x c v

@@ -2,10 +2,10 @@
 use mathlib.Core.Path.{refl, ap, _∙_}
 use native.Mathlib.Omega.{arith}
 use lib.ListN.{length}
 use Rattle.shade.specs.Shade.{Holds}
-use Rattle.shade.proofs.Blocks.{passed, as-long}
-use Rattle.shade.proofs.squares_at.Statement.{statement}
-use Rattle.shade.proofs.squares_at.Tie as tie
+use Rattle.blocks.proofs.Blocks.{passed, as-long}
+use Rattle.blocks.proofs.squares_at.Statement.{statement}
+use Rattle.blocks.proofs.squares_at.Tie as tie
 
 float-of-requires : tie.Need-float-of-requires
 float-of-requires c κs = omega arith

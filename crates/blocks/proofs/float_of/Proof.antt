@@ -11,8 +11,8 @@ use mir.Val.{hbits}
 use mir.Facts.{toZ-pos}
 use borrow.Author.Needs.{needs}
 use Rattle.numbers.proofs.Units.{castable}
-use Rattle.shade.proofs.float_of.Statement.{statement}
-use Rattle.shade.proofs.float_of.Tie as tie
+use Rattle.blocks.proofs.float_of.Statement.{statement}
+use Rattle.blocks.proofs.float_of.Tie as tie
 
 cast-result : tie.Need-cast-result
 cast-result c = search needs

@@ -1,9 +1,9 @@
 -- The intensities of whole fours: the first m are those asked for.
 use native.Mathlib.Omega.{arith}
 use Rattle.shade.specs.Shade.{Holds}
-use Rattle.shade.proofs.Blocks.{passed}
-use Rattle.shade.proofs.intensities_at.Statement.{statement}
-use Rattle.shade.proofs.intensities_at.Tie as tie
+use Rattle.blocks.proofs.Blocks.{passed}
+use Rattle.blocks.proofs.intensities_at.Statement.{statement}
+use Rattle.blocks.proofs.intensities_at.Tie as tie
 
 fours-requires : tie.Need-fours-requires
 fours-requires c κs = omega arith

@@ -3,10 +3,10 @@ use mathlib.Core.Path.{refl, ap, _∙_}
 use native.Mathlib.Omega.{arith}
 use lib.ListN.{length}
 use borrow.Author.Needs.{needs}
 use Rattle.shade.proofs.Edits.{length-edit}
-use Rattle.shade.proofs.Blocks.{four-passes}
-use Rattle.shade.proofs.block.Statement.{statement}
-use Rattle.shade.proofs.block.Tie as tie
+use Rattle.blocks.proofs.Blocks.{four-passes}
+use Rattle.blocks.proofs.block.Statement.{statement}
+use Rattle.blocks.proofs.block.Tie as tie
 
 fours-requires : tie.Need-fours-requires
 fours-requires c κs = search needs
