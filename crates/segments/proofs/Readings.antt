@@ -6,7 +6,8 @@ use lib.IntN.{pos, negsuc}
 use lib.Ieee.{Float, nan, inf, fin, round, add, sub}
 use Rattle.wholes.specs.Whole.{wholeBy}
 use Rattle.kinds.specs.Kind.{kindBy}
-use Rattle.segments.specs.Ranges.{rowFirstOf, rowPastOf, columnFirstOf, columnPastOf, rowsOf, columnsOf}
+use Rattle.ends.specs.Ends.{rowFirstOf, rowPastOf, columnFirstOf, columnPastOf}
+use Rattle.segments.specs.Ranges.{rowsOf, columnsOf}
 use Rattle.segments.specs.Spot.{spot}
 use Rattle.segments.specs.declared.Range.{Range}
 

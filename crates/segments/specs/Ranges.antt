@@ -1,7 +1,7 @@
 -- The rows and columns of a segment: from R(c - d) through R(c + d), by the centre c and the distance d. Definitions only.
 -- R rounds half away from zero. Each of the four ends is told by its kind: an exact number, no number, or below or above the range of the conversion, which is an i64's for rows and a u64's for columns.
 use mathlib.Core.Bool.{Bool, true, false, _&&_}
-use Prim.Native.Nat.{ℕ, suc, _^_, min}
+use Prim.Native.Nat.{ℕ}
 use lib.Dec.{leb}
 use lib.IntN.{ℤ, pos, negsuc}
 use lib.Ieee.{Float, binary32}
@@ -12,6 +12,7 @@ use Rattle.kinds.specs.declared.KindI64.{KindI64}
 use Rattle.kinds.specs.declared.KindI64.the-variants as I64
 use Rattle.kinds.specs.declared.KindU64.{KindU64}
 use Rattle.kinds.specs.declared.KindU64.the-variants as U64
+use Rattle.ends.specs.Ends.{rowFirstOf, rowPastOf, columnFirstOf, columnPastOf}
 use Rattle.segments.specs.declared.Segment.{Segment}
 use Rattle.segments.specs.declared.Range.{Range}
 
@@ -59,51 +60,7 @@ columnLasts U64.Above x = false
 unfoldable pub hasColumn : Segment → ℕ → Bool
 hasColumn s x = columnBegins (columnEnd (s .«center_x» ⊖ s .«maximum_distance»)) x && columnLasts (columnEnd (s .«center_x» ⊕ s .«maximum_distance»)) x
 
--- ---- the same as half-open ranges of whole numbers, cut at 2^24, which no image reaches
-
-abbrev pub clip : ℤ → ℕ
-clip (pos n) = min n (2 ^ 24)
-clip (negsuc n) = 0
-
-abbrev pub clipPast : ℤ → ℕ
-clipPast (pos n) = suc (min n (2 ^ 24))
-clipPast (negsuc n) = 0
-
-abbrev pub rowFirstBy : KindI64 → ℕ
-rowFirstBy (I64.Exact z) = clip z
-rowFirstBy I64.NotNumber = 0
-rowFirstBy I64.Below = 0
-rowFirstBy I64.Above = 2 ^ 24
-
-abbrev pub rowPastBy : KindI64 → ℕ
-rowPastBy (I64.Exact z) = clipPast z
-rowPastBy I64.NotNumber = 1
-rowPastBy I64.Below = 0
-rowPastBy I64.Above = 0
-
-abbrev pub columnFirstBy : KindU64 → ℕ
-columnFirstBy (U64.Exact n) = min n (2 ^ 24)
-columnFirstBy U64.NotNumber = 0
-columnFirstBy U64.Below = 0
-columnFirstBy U64.Above = 2 ^ 24
-
-abbrev pub columnPastBy : KindU64 → ℕ
-columnPastBy (U64.Exact n) = suc (min n (2 ^ 24))
-columnPastBy U64.NotNumber = 1
-columnPastBy U64.Below = 1
-columnPastBy U64.Above = 0
-
-unfoldable pub rowFirstOf : Float → ℕ
-rowFirstOf x = rowFirstBy (rowEnd x)
-
-unfoldable pub rowPastOf : Float → ℕ
-rowPastOf x = rowPastBy (rowEnd x)
-
-unfoldable pub columnFirstOf : Float → ℕ
-columnFirstOf x = columnFirstBy (columnEnd x)
-
-unfoldable pub columnPastOf : Float → ℕ
-columnPastOf x = columnPastBy (columnEnd x)
+-- ---- the same as half-open ranges of whole numbers
 
 abbrev pub rowFirst : Segment → ℕ
 rowFirst s = rowFirstOf (s .«center_y» ⊖ s .«maximum_distance»)

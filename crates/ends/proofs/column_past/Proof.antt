@@ -3,9 +3,9 @@ use mathlib.Core.Path.{ap, sym, _∙_}
 use Prim.Native.Nat.{ℕ, _+_}
 use native.Mathlib.Numerals.{add-one}
 use borrow.Author.Needs.{needs}
-use Rattle.segments.specs.Ranges.{columnPastBy, columnPastOf}
-use Rattle.segments.proofs.column_past.Statement.{statement}
-use Rattle.segments.proofs.column_past.Tie as tie
+use Rattle.ends.specs.Ends.{columnPastBy, columnPastOf}
+use Rattle.ends.proofs.column_past.Statement.{statement}
+use Rattle.ends.proofs.column_past.Tie as tie
 
 rounded-to-u64-requires : tie.Need-rounded-to-u64-requires
 rounded-to-u64-requires c κs = search needs

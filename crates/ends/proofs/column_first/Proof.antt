@@ -1,9 +1,9 @@
 -- `column_first` meets its contract: each arm is the definition's case of the kind.
 use mathlib.Core.Path.{ap, sym, _∙_}
 use borrow.Author.Needs.{needs}
-use Rattle.segments.specs.Ranges.{columnFirstBy, columnFirstOf}
-use Rattle.segments.proofs.column_first.Statement.{statement}
-use Rattle.segments.proofs.column_first.Tie as tie
+use Rattle.ends.specs.Ends.{columnFirstBy, columnFirstOf}
+use Rattle.ends.proofs.column_first.Statement.{statement}
+use Rattle.ends.proofs.column_first.Tie as tie
 
 rounded-to-u64-requires : tie.Need-rounded-to-u64-requires
 rounded-to-u64-requires c κs = search needs

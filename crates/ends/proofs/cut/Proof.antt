@@ -1,7 +1,7 @@
 -- `cut` meets its contract, by its test.
 use native.Mathlib.Omega.{arith}
-use Rattle.segments.proofs.cut.Statement.{statement}
-use Rattle.segments.proofs.cut.Tie as tie
+use Rattle.ends.proofs.cut.Statement.{statement}
+use Rattle.ends.proofs.cut.Tie as tie
 
 cast-result : tie.Need-cast-result
 cast-result c = omega arith

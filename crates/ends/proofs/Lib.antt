@@ -1,0 +1,2 @@
+-- The laws of the crate `ends`.
+pub mod Ends

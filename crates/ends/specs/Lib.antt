@@ -1,0 +1,2 @@
+-- The definitions of the crate `ends`.
+pub mod Ends
