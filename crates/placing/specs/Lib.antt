@@ -1,0 +1,3 @@
+-- The definitions of the crate `placing`.
+pub mod Rows
+pub mod Steps
