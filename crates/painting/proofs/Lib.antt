@@ -1,5 +1,4 @@
 -- The laws of the crate `painting`.
-pub mod Starts
 pub mod Painting
 pub mod Rooms
 pub mod Segments

@@ -29,7 +29,8 @@ use Rattle.points.specs.declared.Filled.the-variants.{Count, Room}
 use Rattle.points.specs.Points.{filledOf}
 use Rattle.owners.specs.Owners.{ownedRoom, ownersOf}
 use Rattle.strand.specs.Strand.{Strand, NoRoom, Segments, walkSegments, afterWalk, strandOf, strandFilled, segmentsOf}
-use Rattle.painting.specs.Painting.{strandAt, strandOfSpline, Painted, All, NoRoomAt, afterStrand, paintFrom, paintOf, Passed}
+use Rattle.strand_at.specs.Strands.{strandAt}
+use Rattle.painting.specs.Painting.{strandOfSpline, Painted, All, NoRoomAt, afterStrand, paintFrom, paintOf, Passed}
 use Rattle.painting.specs.Segments.{SplineMakes, MakesUpTo, none-made, one-made, pathNeeds, Suffices, Lacks, SplineFits, DrawnUpTo, none-drawn, one-drawn, SplineLacks, path-lacks, walk-lacks, segments-lack, FirstLacks}
 
 differ : {A : Type 0} → _≡_ {A = ℕ} 0 1 → A

@@ -2,48 +2,27 @@
 use mathlib.Core.Path.{_≡_}
 use mathlib.Core.Bool.{Bool}
 use mathlib.Core.List.{List, [], _++_}
-use Prim.Native.Nat.{ℕ, zero, suc, _+_, _*_, _≤_}
-use lib.IntN.{ℤ}
-use lib.ListN.{length, getD, take, drop}
+use Prim.Native.Nat.{ℕ, zero, suc, _≤_}
+use lib.ListN.{length}
 use lib.Seq.{sets}
-use lib.Ieee.{Float, nan}
+use lib.Ieee.{Float}
 use Rattle.dequantize.specs.declared.Given.{Given}
-use Rattle.dequantize.specs.declared.Spline.{Spline}
-use Rattle.control_points.specs.declared.Start.{Start}
-use Rattle.control_points.specs.declared.Start.the-variants.{At, Out}
 use Rattle.dequantize.specs.declared.judge.Judged.the-variants as Judged
 use Rattle.control_points.specs.ControlPoints.{startingPoint}
-use Rattle.dequantize.specs.Dequantize.{dequantizeOf}
 use Rattle.dequantize.specs.Judge.{Description, startX, startY, deltasOf, splineOf, judgeOf}
 use Rattle.segments.specs.declared.Segment.{Segment}
-use Rattle.curve.specs.Curve.{pathRoom}
-use Rattle.walk.specs.Walk.{walkRoom}
 use Rattle.points.specs.declared.Filled.{Filled}
 use Rattle.points.specs.declared.Filled.the-variants as Filled
-use Rattle.points.specs.Points.{segmentRoom, eights, FilledOn}
-use Rattle.strand.specs.Strand.{Strand, NoRoom, strandOf, strandFilled, segmentsOf}
+use Rattle.points.specs.Points.{eights}
+use Rattle.strand.specs.Strand.{Strand, strandFilled, segmentsOf}
+use Rattle.strand_at.specs.Strands.{strandAt}
 use Rattle.owners.specs.Owners.{ownersOf}
 use Rattle.painting.specs.declared.Drawn.{Drawn}
 use Rattle.painting.specs.declared.Drawn.the-variants as Drawn
 
--- the spline k; a start that is no place was refused before
-abbrev pub strandAt : ℕ → ℕ → Start → List ℤ → Spline → Bool → Strand
-strandAt p w Out ds s high = NoRoom
-strandAt p w (At start) ds s high = strandOf p w start ds s high
-
+-- the spline k of a description
 unfoldable pub strandOfSpline : Description → Given → Bool → ℕ → ℕ → ℕ → Strand
 strandOfSpline d g high p w k = strandAt p w (startingPoint (startX d k) (startY d k)) (deltasOf d k) (splineOf d g k) high
-
--- the spline k of lists of starts and of coefficients, whose double deltas are ds, with so many numbers lent for a path and a walk
-abbrev pub strandHere : List Float → List ℤ → List ℤ → ℕ → Given → Bool → ℕ → ℕ → Strand
-strandHere starts ds coefficients k g high path walk =
-    let x = getD starts (2 * k) nan in
-    let y = getD starts (2 * k + 1) nan in
-    strandAt (pathRoom path) (walkRoom walk) (startingPoint x y) ds (dequantizeOf x y ds (take 128 (drop (128 * k) coefficients)) g) high
-
--- what one spline answers after the first `from` segments, and what it leaves: o is the buffer before, e after
-abbrev pub Fills : ℕ → Strand → Filled → List Float → List Float → Type 0
-Fills from s r o e = (r ≡ strandFilled (segmentRoom (length o)) from s) × FilledOn r from (segmentsOf s) o e
 
 -- the segments of all splines with their owners, or the number of the spline that has no room
 pub data Painted : Type 0 where

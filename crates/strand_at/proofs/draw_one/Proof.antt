@@ -1,9 +1,9 @@
 -- `draw_one`: the spline is dequantized again, and its start is a place, since it was accepted.
 use mathlib.Core.Path.{refl, sym, _∙_}
 use borrow.Author.Needs.{needs}
-use Rattle.painting.proofs.Starts.{start-walk}
-use Rattle.painting.proofs.draw_one.Statement.{statement}
-use Rattle.painting.proofs.draw_one.Tie as tie
+use Rattle.strand_at.proofs.Starts.{start-walk}
+use Rattle.strand_at.proofs.draw_one.Statement.{statement}
+use Rattle.strand_at.proofs.draw_one.Tie as tie
 
 spline-at-requires : tie.Need-spline-at-requires
 spline-at-requires c κs = search needs

@@ -1,0 +1,2 @@
+-- The laws of the crate `strand_at`.
+pub mod Starts

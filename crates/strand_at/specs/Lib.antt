@@ -1,0 +1,2 @@
+-- The definitions of the crate `strand_at`.
+pub mod Strands
