@@ -44,7 +44,7 @@ use Rattle.ieee754.proofs.Ieee754.{ieee754}
 use Rattle.segments.proofs.Expressions.{as-spline-rs}
 use Rattle.dequantize.specs.Judge.{Description}
 use Rattle.table.proofs.Segments as making
-use Rattle.table.specs.declared.BuildAnswer.{BuildAnswer}
+use Rattle.build_answer.specs.declared.BuildAnswer.{BuildAnswer}
 use Rattle.aktyrbuz.specs.Demands.{ReadsAsSplineRs, WritesTheList, WrittenIsRead, ReadIsWritten, BuildsAsSplineRs, BuildsTheTable, EnoughRoomIsDone, NumbersByIeee754, DrawsAsSplineRs, ReachesByTheRule, LogsByItsSteps, RefusedLeavesZero, RefusedDrawsNothing, BuildCodes, DrawCodes, ReachCodes, CodesExactly, BuiltIsDrawn, OnceAscending, OtherRowsDontMatter, RowInParts, ImageInParts, KeepsOtherCells, RowUpdates, ImageUpdates, UpdatesSum, NothingStale, OneOutcome}
 use Rattle.aktyrbuz.specs.Calls.{BuildDone}
 use Rattle.aktyrbuz.proofs.ListCodes.{read-codes, write-codes}

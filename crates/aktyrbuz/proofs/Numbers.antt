@@ -9,7 +9,7 @@ use Rattle.reader.specs.declared.ReadAnswer.{ReadAnswer}
 use Rattle.writer.specs.Write as Write
 use Rattle.writer.specs.declared.WriteAnswer.{WriteAnswer}
 use Rattle.table.specs.Table as Build
-use Rattle.table.specs.declared.BuildAnswer.{BuildAnswer}
+use Rattle.build_answer.specs.declared.BuildAnswer.{BuildAnswer}
 use Rattle.desks.specs.Hide as Hide
 use Rattle.desks.specs.declared.HideAnswer.{HideAnswer}
 use Rattle.draw.specs.Draw as Draw

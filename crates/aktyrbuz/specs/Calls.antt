@@ -19,7 +19,7 @@ use Rattle.write_laws.specs.Floats.{Floats}
 use Rattle.dequantize.specs.Judge.{Description, descriptionOf}
 use Rattle.table.specs.Table.{Setting, settingOf}
 use Rattle.table.specs.Table as building
-use Rattle.table.specs.declared.BuildAnswer.{BuildAnswer}
+use Rattle.build_answer.specs.declared.BuildAnswer.{BuildAnswer}
 use Rattle.table.proofs.build.Reads as build
 use Rattle.desks.specs.Desks.{Sight, sightOf}
 use Rattle.desks.specs.Agree.{Agree}

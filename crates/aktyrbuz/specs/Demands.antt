@@ -41,7 +41,7 @@ use Rattle.table.specs.Table.{Setting, buildOf, zeros}
 use Rattle.table.specs.Table as building
 use Rattle.table.specs.Segments.{Makes, BuildMakes, NeedsMet, doneWith, NoLess, SameTable}
 use Rattle.table.specs.Refusals.{BuildRefusal}
-use Rattle.table.specs.declared.BuildAnswer.{BuildAnswer}
+use Rattle.build_answer.specs.declared.BuildAnswer.{BuildAnswer}
 use Rattle.picture.specs.Picture.{BuiltTable, Lists, rowPairs, imagePairs, RowPicture}
 use Rattle.picture.specs.Sights.{notHidden, KeptSight}
 use Rattle.desks.specs.Desks.{Sight}

@@ -31,7 +31,7 @@ use Rattle.table.specs.Table.{BuildRooms, Setting, BuildOutcome, givenOf, refus
 use Rattle.verdict.specs.Verdict.{verdictOf}
 use Rattle.table.proofs.InRooms.{painted}
 use Rattle.verdict.proofs.Checks.{ready}
-use Rattle.table.specs.declared.BuildAnswer.the-variants.{Done}
+use Rattle.build_answer.specs.declared.BuildAnswer.the-variants.{Done}
 
 -- ---- the segments have room
 

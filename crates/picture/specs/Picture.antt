@@ -17,7 +17,7 @@ use Rattle.rows.specs.Rows.{listed, rows, startOf, upTo, inRow}
 use Rattle.rows.specs.Rows as listing
 use Rattle.table.specs.Table.{BuildRooms, Setting, givenOf, zeros, buildOf}
 use Rattle.table.specs.Table as build
-use Rattle.table.specs.declared.BuildAnswer.{BuildAnswer}
+use Rattle.build_answer.specs.declared.BuildAnswer.{BuildAnswer}
 use Rattle.draw.specs.Draw.{count, Table, tableOf, rowOf, Channels}
 use Rattle.shade.specs.Edit.{edit}
 

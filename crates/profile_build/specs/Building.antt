@@ -9,7 +9,7 @@ use Rattle.codes.specs.Codes.{numberOf}
 use Rattle.codes.specs.declared.Code.{Code}
 use Rattle.codes.specs.declared.Code.the-variants as Code
 use Rattle.dequantize.specs.Judge.{Description}
-use Rattle.table.specs.declared.BuildAnswer.{BuildAnswer}
+use Rattle.build_answer.specs.declared.BuildAnswer.{BuildAnswer}
 use Rattle.table.specs.Table.{BuildRooms, Setting, BuildOutcome, zeros, buildOf}
 use Rattle.verdict.specs.Verdict.{sized}
 use Rattle.profile.specs.declared.ProfileAnswer.{ProfileAnswer}

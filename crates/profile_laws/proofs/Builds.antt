@@ -15,7 +15,7 @@ use Rattle.control_points.specs.Refusals as tracing
 use Rattle.dequantize.specs.Refusals as judging
 use Rattle.dequantize.specs.declared.Given.{Given}
 use Rattle.control_points.specs.declared.Pair.{Pair}
-use Rattle.table.specs.declared.BuildAnswer.{BuildAnswer}
+use Rattle.build_answer.specs.declared.BuildAnswer.{BuildAnswer}
 use Rattle.table.specs.Table.{BuildRooms, Setting, BuildOutcome, refusedWith, buildOf}
 use Rattle.verdict.specs.Verdict.{sized}
 use Rattle.table.specs.Refusals.{BuildRefusal}

@@ -7,7 +7,7 @@ use Rattle.codes.specs.declared.Code.{Code}
 use Rattle.codes.specs.declared.Code.the-variants as Code
 use Rattle.dequantize.specs.Judge.{Description, Shaped}
 use Rattle.table.specs.Table.{Setting, BuildRooms, buildOf}
-use Rattle.table.specs.declared.BuildAnswer.{BuildAnswer}
+use Rattle.build_answer.specs.declared.BuildAnswer.{BuildAnswer}
 use Rattle.table.specs.Refusals.{BuildRefusal}
 use Rattle.profile_laws.specs.Rules.{NoEdition, Meeting, Breaking}
 

@@ -10,7 +10,7 @@ use lib.Ieee.{Float}
 use Rattle.dequantize.specs.Coefficients.{table}
 use Rattle.dequantize.specs.Judge.{Description, descriptionOf}
 use Rattle.dequantize.proofs.Tables.{length-table}
-use Rattle.table.specs.declared.BuildAnswer.{BuildAnswer}
+use Rattle.build_answer.specs.declared.BuildAnswer.{BuildAnswer}
 use Rattle.table.specs.Table.{BuildRooms, Setting, settingOf, BuildOutcome, buildOf}
 use Rattle.stored.specs.Stored.{floatIn, signedIn}
 use Rattle.replay_build.specs.Built.{part, AnswerAgrees, BuildAgrees, lent, imageIn, floatsIn, signedsIn, descriptionIn}

@@ -10,8 +10,8 @@ use Rattle.codes.specs.Codes.{numberOf}
 use Rattle.codes.specs.declared.Code.{Code}
 use Rattle.dequantize.specs.Coefficients.{table}
 use Rattle.dequantize.specs.Judge.{Description, descriptionOf}
-use Rattle.table.specs.declared.BuildAnswer.{BuildAnswer}
-use Rattle.table.specs.declared.BuildAnswer.the-variants.{Done, Refused}
+use Rattle.build_answer.specs.declared.BuildAnswer.{BuildAnswer}
+use Rattle.build_answer.specs.declared.BuildAnswer.the-variants.{Done, Refused}
 use Rattle.table.specs.Table.{BuildRooms, Setting, settingOf, BuildOutcome}
 use Rattle.stored.specs.Stored.{floatIn, signedIn, longIn, refusalWord, Begins, BeginsWith}
 

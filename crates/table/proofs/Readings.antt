@@ -11,7 +11,7 @@ use Rattle.dequantize.specs.Judge.{Description, deltasOf, totalOf}
 use Rattle.control_points.specs.Refusals.{Adjacent}
 use Rattle.dequantize.specs.Refusals.{Traces, SplinePasses, points-meet}
 use Rattle.control_points.specs.declared.Pair.{Pair}
-use Rattle.table.specs.declared.BuildAnswer.the-variants.{Refused}
+use Rattle.build_answer.specs.declared.BuildAnswer.the-variants.{Refused}
 use Rattle.table.specs.Table.{BuildRooms, Setting, givenOf, buildOf}
 use Rattle.table.specs.Segments.{Fits}
 use Rattle.table.specs.Refusals.{judged}

@@ -15,7 +15,7 @@ use Rattle.painting.proofs.Segments.{makes-one, makes-owned, drawn-makes, drawn
 use Rattle.rows.specs.Rows.{inRow, startOf, rows, upTo}
 use Rattle.rows.proofs.Users.{length-up-to}
 use Rattle.faint.specs.Faint.{faintIn}
-use Rattle.table.specs.declared.BuildAnswer.the-variants.{Done}
+use Rattle.build_answer.specs.declared.BuildAnswer.the-variants.{Done}
 use Rattle.table.specs.Table.{BuildRooms, Setting, BuildOutcome, givenOf, refusedWith, buildOf}
 use Rattle.table.specs.Segments.{Makes, entryTotal, NeedsMet, doneWith, BuildMakes, NoLess, SameTable, MakesOne, OwnsOne, EnoughIsDone, DoneMakes, MoreRoomNeverRefuses}
 use Rattle.table.proofs.InRooms.{painted}

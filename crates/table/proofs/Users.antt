@@ -24,7 +24,7 @@ use Rattle.painting.specs.Segments.{DrawnUpTo}
 use Rattle.painting.proofs.Segments.{all-exactly, room-exactly}
 use Rattle.rows.specs.Rows.{inRow}
 use Rattle.rows.proofs.Users.{room-when, table-when, either}
-use Rattle.table.specs.declared.BuildAnswer.the-variants.{Refused}
+use Rattle.build_answer.specs.declared.BuildAnswer.the-variants.{Refused}
 use Rattle.table.specs.Table.{BuildRooms, Setting, BuildOutcome, givenOf, refusedWith, afterRows, afterPaint, afterJudge, buildOf}
 use Rattle.verdict.specs.Verdict.{sized, shaped, orRefused, verdictOf}
 use Rattle.table.specs.Segments.{entryTotal, Fits, NeedsMet, doneWith}

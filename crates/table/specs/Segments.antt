@@ -14,7 +14,7 @@ use Rattle.painting.specs.Segments.{MakesUpTo, DrawnUpTo, Suffices}
 use Rattle.rows.specs.Rows.{inRow, startOf, rows, upTo}
 use Rattle.faint.specs.Faint.{faintIn}
 use Rattle.rows.specs.Rows as listing
-use Rattle.table.specs.declared.BuildAnswer.the-variants.{Done}
+use Rattle.build_answer.specs.declared.BuildAnswer.the-variants.{Done}
 use Rattle.table.specs.Table.{Setting, BuildRooms, BuildOutcome, givenOf, leaves, zeros, buildOf}
 
 -- the segments of a description with their owners: those of its splines, in their order, and the number of each one's spline

@@ -6,7 +6,7 @@ use Rattle.codes.specs.Codes.{numberOf}
 use Rattle.codes.specs.declared.Code.{Code}
 use Rattle.reader.specs.declared.ReadAnswer.{ReadAnswer}
 use Rattle.writer.specs.declared.WriteAnswer.{WriteAnswer}
-use Rattle.table.specs.declared.BuildAnswer.{BuildAnswer}
+use Rattle.build_answer.specs.declared.BuildAnswer.{BuildAnswer}
 use Rattle.draw.specs.declared.DrawAnswer.{DrawAnswer}
 use Rattle.hull.specs.declared.ReachAnswer.{ReachAnswer}
 use Rattle.desks.specs.declared.HideAnswer.{HideAnswer}

@@ -1,8 +1,8 @@
 -- `refuse`: all six buffers are wiped.
-use Rattle.table.specs.Table.{refusedWith}
+use Rattle.build_answer.specs.Answer.{refusedWith}
 use borrow.Author.Needs.{needs}
-use Rattle.table.proofs.refuse.Statement.{statement}
-use Rattle.table.proofs.refuse.Tie as tie
+use Rattle.build_answer.proofs.refuse.Statement.{statement}
+use Rattle.build_answer.proofs.refuse.Tie as tie
 
 wipe-requires : tie.Need-wipe-requires
 wipe-requires c κs = search needs

@@ -5,12 +5,12 @@ use Prim.Native.Nat.{ℕ, _*_}
 use lib.ListN.{length, take}
 use lib.Ieee.{Float, binary32, ofBits}
 use Rattle.rows.specs.Rows.{RowsOutcome, inRow, built}
-use Rattle.table.specs.Table.{BuildRooms, roomsOf}
+use Rattle.build_answer.specs.Answer.{BuildRooms, roomsOf}
 use Rattle.faint.proofs.Counts.{faint-take}
-use Rattle.table.proofs.Placing.{kept, rows-room, rows-done}
+use Rattle.build_answer.proofs.Ends.{kept, rows-room, rows-done}
 use borrow.Author.Needs.{needs}
-use Rattle.table.proofs.list_segments.Statement.{statement}
-use Rattle.table.proofs.list_segments.Tie as tie
+use Rattle.build_answer.proofs.list_segments.Statement.{statement}
+use Rattle.build_answer.proofs.list_segments.Tie as tie
 
 abbrev rooms : tie.Start → BuildRooms
 rooms s = roomsOf (s .args .path .now) (s .args .walk .now) (s .args .segments .now) (s .args .owners .now) (s .args .row-starts .now) (s .args .entries .now)

@@ -1,0 +1,2 @@
+-- The laws of the crate `build_answer`.
+pub mod Ends

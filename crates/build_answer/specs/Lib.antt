@@ -1,0 +1,2 @@
+-- The definitions of the crate `build_answer`.
+pub mod Answer
