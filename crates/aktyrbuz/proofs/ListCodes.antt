@@ -4,8 +4,8 @@ use mathlib.Core.List.{List}
 use Prim.Native.Nat.{ℕ}
 use Rattle.codes.specs.declared.Code.{Code}
 use Rattle.reader.specs.Read.{ReadOutcome}
-use Rattle.reader.specs.declared.ReadAnswer.{ReadAnswer}
-use Rattle.reader.specs.declared.ReadAnswer.the-variants.{Done, Refused}
+use Rattle.read_list.specs.declared.ReadAnswer.{ReadAnswer}
+use Rattle.read_list.specs.declared.ReadAnswer.the-variants.{Done, Refused}
 use Rattle.reader.proofs.Promises as reading
 use Rattle.writer.specs.Write.{WriteOutcome}
 use Rattle.write_laws.proofs.Words as writing

@@ -5,7 +5,7 @@ use Prim.Native.Nat.{ℕ}
 use lib.IntN.{ℤ}
 use lib.Ieee.{Float}
 use Rattle.reader.specs.Read as Read
-use Rattle.reader.specs.declared.ReadAnswer.{ReadAnswer}
+use Rattle.read_list.specs.declared.ReadAnswer.{ReadAnswer}
 use Rattle.writer.specs.Write as Write
 use Rattle.writer.specs.declared.WriteAnswer.{WriteAnswer}
 use Rattle.table.specs.Table as Build

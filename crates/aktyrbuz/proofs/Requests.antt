@@ -71,7 +71,7 @@ use lib.IntN.{ℤ}
 use lib.Signed.{mag}
 use Rattle.list.specs.List.{ListRooms, Got, got, Described, described}
 use Rattle.reader.specs.Read.{ReadOutcome}
-use Rattle.reader.specs.declared.ReadAnswer.{ReadAnswer}
+use Rattle.read_list.specs.declared.ReadAnswer.{ReadAnswer}
 use Rattle.writer.specs.Write.{WriteOutcome}
 use Rattle.writer.specs.declared.WriteAnswer.{WriteAnswer}
 use Rattle.write_laws.specs.Floats.{Floats}

@@ -23,7 +23,7 @@ use Rattle.list.specs.List.{ListRooms, unpackSigned}
 use Rattle.list.specs.Steps.{zeroF32}
 use Rattle.reader.specs.Read.{ReadOutcome, readOutcome}
 use Rattle.reader.specs.Read as reading
-use Rattle.reader.specs.declared.ReadAnswer.{ReadAnswer}
+use Rattle.read_list.specs.declared.ReadAnswer.{ReadAnswer}
 use Rattle.writer.specs.Write.{WriteOutcome, writeOf}
 use Rattle.writer.specs.Write as writing
 use Rattle.writer.specs.declared.WriteAnswer.{WriteAnswer}

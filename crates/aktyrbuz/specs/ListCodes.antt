@@ -11,7 +11,7 @@ use Rattle.list.specs.List.{ListRooms, limitOf}
 use lib.ListN.{length}
 use Rattle.reader.specs.Read.{ReadOutcome}
 use Rattle.reader.specs.Refusals.{ReadRefusal, ReadRefused}
-use Rattle.reader.specs.declared.ReadAnswer.{ReadAnswer}
+use Rattle.read_list.specs.declared.ReadAnswer.{ReadAnswer}
 use Rattle.writer.specs.Write.{WriteOutcome}
 use Rattle.writer.specs.declared.WriteAnswer.{WriteAnswer}
 use Rattle.write_laws.specs.Refusals.{WriteRefusal, WriteRefused, WriteAccepted, listSize}

@@ -44,7 +44,7 @@ use Rattle.list.specs.List.{ListRooms}
 use Rattle.list.specs.Steps.{zeroF32}
 use Rattle.reader.specs.Read.{ReadOutcome}
 use Rattle.reader.specs.Refusals.{ReadRefused}
-use Rattle.reader.specs.declared.ReadAnswer.{ReadAnswer}
+use Rattle.read_list.specs.declared.ReadAnswer.{ReadAnswer}
 use Rattle.writer.specs.Write.{WriteOutcome, WriteTold}
 use Rattle.writer.specs.declared.WriteAnswer.{WriteAnswer}
 use Rattle.write_laws.specs.Refusals.{WriteRefused}

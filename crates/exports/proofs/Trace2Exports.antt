@@ -15,7 +15,7 @@ use Rattle.writer.specs.Write.{check, firstFault, wholeOf, WriteOutcome}
 use Rattle.writer.specs.Write as writing
 use Rattle.little.specs.Little.{numbersIn}
 use Rattle.trace.specs.Trace.{numbersOf, fileOf}
-use Rattle.reader.specs.declared.ReadAnswer.{ReadAnswer}
+use Rattle.read_list.specs.declared.ReadAnswer.{ReadAnswer}
 use Rattle.trace2.specs.Editions.{layoutOf, moreOf, headerLong, editionIn}
 use Rattle.trace2.specs.Read.{readFile, FileOutcome, fileLeaves, withEdition, readFileOf}
 use Rattle.trace2.specs.Write.{writeChecks2, writeFileOf}

@@ -7,7 +7,7 @@ use lib.IntN.{ℤ}
 use Rattle.codes.specs.declared.Code.{Code}
 use Rattle.list.specs.List.{ListRooms, Got, got, stop, Described, described, limitOf, readOf, listOf, Valid}
 use Rattle.list.proofs.RoundTrip.{Holds, written-is-read}
-use Rattle.reader.specs.declared.ReadAnswer.{ReadAnswer}
+use Rattle.read_list.specs.declared.ReadAnswer.{ReadAnswer}
 use Rattle.reader.specs.Read.{ReadOutcome, outcome, readOutcome}
 use Rattle.reader.specs.Refusals.{ReadRefusal, ReadRefused}
 use Rattle.reader.proofs.Refusals as table

@@ -9,7 +9,8 @@ use Rattle.codes.specs.Codes.{numberOf}
 use Rattle.shape.specs.Shape.{pointsOf}
 use Rattle.list.specs.List.{Got, got, stop, ListRooms, Described, described, limitOf, readOf}
 use Rattle.list.specs.Steps.{f32Of, zeroF32}
-use Rattle.reader.specs.declared.ReadAnswer.{ReadAnswer}
+use Rattle.read_list.specs.declared.ReadAnswer.{ReadAnswer}
+pub use Rattle.read_list.specs.Rest.{roomsOf}
 
 -- an answer in the terms of the table of codes: the code's number, the place, and the counts
 pub record ReadTold : Type 0 where
@@ -35,9 +36,6 @@ pub record ReadOutcome : Type 0 where
 
 abbrev pub leaves : ReadAnswer → List ℕ → List Float → List ℤ → List ℤ → ReadOutcome
 leaves r ns zs ds cs = record { answer = r; told = toldOf r; counts = ns; starts = zs; deltas = ds; coefficients = cs }
-
-abbrev pub roomsOf : List ℕ → List Float → List ℤ → List ℤ → ListRooms
-roomsOf ns zs ds cs = record { counts = length ns; starts = length zs; deltas = length ds; coefficients = length cs }
 
 -- what was read, or a refusal with every cell zero
 abbrev pub outcome : ListRooms → Got Described → ReadOutcome

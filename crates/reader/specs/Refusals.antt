@@ -14,7 +14,7 @@ use Rattle.codes.specs.declared.Code.{Code}
 use Rattle.list.specs.List.{unpackSigned, posLimit, deltaLimit, ListRooms, coordinate}
 use Rattle.list.specs.Steps.{zeroF32}
 use Rattle.reader.specs.Read.{ReadTold, ReadOutcome}
-use Rattle.reader.specs.declared.ReadAnswer.{ReadAnswer}
+use Rattle.read_list.specs.declared.ReadAnswer.{ReadAnswer}
 
 -- what the list holds next
 pub data Due : Type 0 where

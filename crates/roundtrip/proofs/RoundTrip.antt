@@ -19,7 +19,7 @@ use Rattle.list.specs.Steps.{f32Of, zeroF32}
 use Rattle.list.proofs.RoundTrip.{Holds, written-is-read, read-is-written, read-is-valid}
 use Rattle.reader.specs.Read.{ReadOutcome, readOutcome}
 use Rattle.reader.specs.Read as reading
-use Rattle.reader.specs.declared.ReadAnswer.{ReadAnswer}
+use Rattle.read_list.specs.declared.ReadAnswer.{ReadAnswer}
 use Rattle.writer.specs.Write.{Check, check, firstFault, contentChecks, wholeOf, valuesOf, WriteOutcome, leaves, outcome, writeOf}
 use Rattle.write_judge.specs.declared.Verdict.{Verdict}
 use Rattle.write_judge.specs.declared.Verdict.the-variants.{Fine, Fault}

@@ -4,7 +4,7 @@ use Prim.Native.Nat.{ℕ, _^_, _-_, min}
 use lib.IntN.{ℤ, pos}
 use Rattle.codes.specs.Codes.{numberOf}
 use Rattle.codes.specs.declared.Code.{Code}
-use Rattle.reader.specs.declared.ReadAnswer.{ReadAnswer}
+use Rattle.read_list.specs.declared.ReadAnswer.{ReadAnswer}
 use Rattle.writer.specs.declared.WriteAnswer.{WriteAnswer}
 use Rattle.build_answer.specs.declared.BuildAnswer.{BuildAnswer}
 use Rattle.draw.specs.declared.DrawAnswer.{DrawAnswer}

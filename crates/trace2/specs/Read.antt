@@ -10,7 +10,7 @@ use Rattle.codes.specs.declared.Code.the-variants.{Short, Room, Header, Edition
 use Rattle.list.specs.List.{ListRooms, Got, Described}
 use Rattle.reader.specs.Read.{ReadOutcome, outcome}
 use Rattle.reader.specs.Read as reading
-use Rattle.reader.specs.declared.ReadAnswer.{ReadAnswer}
+use Rattle.read_list.specs.declared.ReadAnswer.{ReadAnswer}
 use Rattle.writer.specs.Write.{Check, check, firstFault}
 use Rattle.little.specs.Little.{numbersIn}
 use Rattle.trace.specs.Read.{splinesIn, pointsIn, offsetChecks, bodyChecks, tight, describedIn, judged}

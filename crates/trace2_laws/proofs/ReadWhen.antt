@@ -13,7 +13,7 @@ use Rattle.codes.specs.declared.Code.the-variants.{Short, Room, Header, Edition
 use Rattle.list.specs.List.{ListRooms, Got, got, stop, Described, described}
 use Rattle.reader.specs.Read.{ReadOutcome, outcome}
 use Rattle.reader.specs.Refusals.{ReadRefused}
-use Rattle.reader.specs.declared.ReadAnswer.{ReadAnswer}
+use Rattle.read_list.specs.declared.ReadAnswer.{ReadAnswer}
 use Rattle.writer.specs.Write.{Check, check, firstFault}
 use Rattle.write_judge.specs.declared.Verdict.{Verdict}
 use Rattle.write_judge.specs.declared.Verdict.the-variants.{Fine, Fault}

@@ -14,7 +14,7 @@ use Rattle.codes.specs.declared.Code.the-variants.{Short, Room, Edition}
 use Rattle.list.specs.List.{ListRooms, Got, got, stop, Described}
 use Rattle.reader.specs.Read.{ReadOutcome, leaves, roomsOf, outcome}
 use Rattle.reader.specs.Rest.{ListLeft, Wiped}
-use Rattle.reader.specs.declared.ReadAnswer.{ReadAnswer}
+use Rattle.read_list.specs.declared.ReadAnswer.{ReadAnswer}
 use Rattle.writer.specs.Write.{Check, check, firstFault}
 use Rattle.write_judge.specs.declared.Verdict.{Verdict}
 use Rattle.write_judge.specs.declared.Verdict.the-variants.{Fine, Fault}

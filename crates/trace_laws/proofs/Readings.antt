@@ -9,7 +9,7 @@ use lib.Ieee.{Float, fin, binary32, ofInt, round}
 use Rattle.list.specs.List.{Got, got, Described, described}
 use Rattle.list.specs.Steps.{f32Of}
 use Rattle.reader.specs.Read.{leaves}
-use Rattle.reader.specs.declared.ReadAnswer.{ReadAnswer}
+use Rattle.read_list.specs.declared.ReadAnswer.{ReadAnswer}
 use Rattle.writer.specs.Write.{firstFault}
 use Rattle.little.specs.Little.{bytesOf, numbersIn}
 use Rattle.trace.specs.Trace.{version1, fileOf, numberChecks}

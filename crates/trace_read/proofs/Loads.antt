@@ -21,7 +21,7 @@ use Rattle.list.specs.Steps.{f32Of, zeroF32}
 use Rattle.read_steps.specs.Steps.{Front}
 use Rattle.reader.specs.Read.{leaves, roomsOf, outcome}
 use Rattle.reader.specs.Rest.{ListLeft, Wiped}
-use Rattle.reader.specs.declared.ReadAnswer.{ReadAnswer}
+use Rattle.read_list.specs.declared.ReadAnswer.{ReadAnswer}
 use Rattle.reader.proofs.Whole.{done, refused}
 use Rattle.writer.specs.Write.{Check, check, firstFault}
 use Rattle.write_judge.specs.declared.Verdict.{Verdict}

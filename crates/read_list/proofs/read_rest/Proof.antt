@@ -8,9 +8,9 @@ use mir.Facts.{toZ-ofZ}
 use borrow.Author.Needs.{needs}
 use Rattle.codes.specs.declared.Code.{Code}
 use Rattle.list.proofs.Buffers.{part-tail, next-is}
-use Rattle.reader.proofs.Whole.{rest-stop, after-short, after-stop, after-trail, after-done}
-use Rattle.reader.proofs.read_rest.Statement.{statement}
-use Rattle.reader.proofs.read_rest.Tie as tie
+use Rattle.read_list.proofs.Whole.{rest-stop, after-short, after-stop, after-trail, after-done}
+use Rattle.read_list.proofs.read_rest.Statement.{statement}
+use Rattle.read_list.proofs.read_rest.Tie as tie
 
 head-requires : tie.Need-head-requires
 head-requires c κs = search needs

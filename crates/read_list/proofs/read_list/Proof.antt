@@ -6,10 +6,10 @@ use lib.ListN.{length, take, drop}
 use borrow.Author.Needs.{needs}
 use Rattle.codes.specs.declared.Code.{Code}
 use Rattle.list.proofs.Buffers.{part-tail, next-is}
-use Rattle.reader.specs.Read.{roomsOf}
-use Rattle.reader.proofs.Whole.{list-stop, read-short, read-splines, no-counts, no-starts, no-coefficients, read-starts-stop, read-long, read-after}
-use Rattle.reader.proofs.read_list.Statement.{statement}
-use Rattle.reader.proofs.read_list.Tie as tie
+use Rattle.read_list.specs.Rest.{roomsOf}
+use Rattle.read_list.proofs.Whole.{list-stop, read-short, read-splines, no-counts, no-starts, no-coefficients, read-starts-stop, read-long, read-after}
+use Rattle.read_list.proofs.read_list.Statement.{statement}
+use Rattle.read_list.proofs.read_list.Tie as tie
 
 head-requires : tie.Need-head-requires
 head-requires c κs = search needs

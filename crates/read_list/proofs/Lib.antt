@@ -1,0 +1,2 @@
+-- The laws of the crate `read_list`.
+pub mod Whole

@@ -1,0 +1,2 @@
+-- The definitions of the crate `read_list`.
+pub mod Rest
