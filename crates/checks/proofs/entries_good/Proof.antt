@@ -41,7 +41,7 @@ all-owned-requires c κs = search needs
 
 returns-3 : tie.Need-returns-3
 unfolding entriesGood
-returns-3 c = rw (le-leb _ _ (c .before .before .if1 .left), le-leb _ _ (c .before .if2 .left)) (search (c .all-owned .ensures))
+returns-3 c = rw (le-leb _ _ (c .before .before .if1 .left), le-leb _ _ (c .before .if2 .left)) (c .all-owned .ensures)
 
 pub entries-good-spec : {M : Type 1} → statement M
 entries-good-spec =
