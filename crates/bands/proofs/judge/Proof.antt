@@ -1,6 +1,5 @@
 -- Each way out is decided by the tests that led there.
-use mathlib.Core.Path.{_≡_, sym, _∙_}
-use mathlib.Core.Bool.{true, false}
+use mathlib.Core.Path.{sym, _∙_}
 use Prim.Native.Nat.{_*_, _^_, _≤_, _<_}
 use native.Mathlib.Omega.{arith}
 use lib.ListN.{length}
@@ -26,23 +25,19 @@ returns-2 : tie.Need-returns-2
 unfolding beforeRows countsGoodFor
 returns-2 c =
     let A = c .before .before .before .before .before .before .before .before .args in
-    let f : c .before .counts-good .result ≡ false = search (not-true, c .if2 .taken) in
-    rw (le-leb (A .width) (2 ^ 23) (omega arith), sym (c .before .counts-good .ensures) ∙ f)
+    rw (le-leb (A .width) (2 ^ 23) (c .before .before .if1 .left), sym (c .before .counts-good .ensures) ∙ not-true (c .before .counts-good .result) (c .if2 .taken))
 
 returns-3 : tie.Need-returns-3
 unfolding beforeRows countsGoodFor
 returns-3 c =
     let A = c .before .before .before .before .before .before .before .before .before .args in
-    let f : c .before .before .counts-good .result ≡ true = search (not-false, c .before .if2 .left) in
-    rw (le-leb (A .width) (2 ^ 23) (omega arith), sym (c .before .before .counts-good .ensures) ∙ f, le-ltb (A .desk) 2 (omega arith))
+    rw (le-leb (A .width) (2 ^ 23) (c .before .before .before .if1 .left), sym (c .before .before .counts-good .ensures) ∙ not-false (c .before .before .counts-good .result) (c .before .if2 .left), le-ltb (A .desk) 2 (c .if3 .taken))
 
 returns-4 : tie.Need-returns-4
 unfolding beforeRows countsGoodFor
 returns-4 c =
     let A = c .before .before .before .before .before .before .before .before .before .before .args in
-    let f : c .before .before .before .counts-good .result ≡ true = search (not-false, c .before .before .if2 .left) in
-    let b : length (A .bits .now) < A .splines = omega arith in
-    rw (le-leb (A .width) (2 ^ 23) (omega arith), sym (c .before .before .before .counts-good .ensures) ∙ f, lt-ltb (A .desk) 2 (omega arith), lt-leb (A .splines) (length (A .bits .now)) b)
+    rw (le-leb (A .width) (2 ^ 23) (c .before .before .before .before .if1 .left), sym (c .before .before .before .counts-good .ensures) ∙ not-false (c .before .before .before .counts-good .result) (c .before .before .if2 .left), lt-ltb (A .desk) 2 (c .before .if3 .left), lt-leb (A .splines) (length (A .bits .now)) (c .if4 .taken))
 
 bands-in-requires : tie.Need-bands-in-requires
 unfolding countsGoodFor
@@ -61,19 +56,15 @@ returns-5 : tie.Need-returns-5
 unfolding beforeRows countsGoodFor
 returns-5 c =
     let A = c .before .before .before .before .before .before .before .before .before .before .before .before .args in
-    let f : c .before .before .before .before .before .counts-good .result ≡ true = search (not-false, c .before .before .before .before .if2 .left) in
-    let b : A .splines ≤ length (A .bits .now) = omega arith in
     let r : A .room < 5 * bandsIn (A .height) = omega (arith, c .before .bands-in .ensures) in
-    rw (le-leb (A .width) (2 ^ 23) (omega arith), sym (c .before .before .before .before .before .counts-good .ensures) ∙ f, lt-ltb (A .desk) 2 (omega arith), le-leb (A .splines) (length (A .bits .now)) b, lt-leb (5 * bandsIn (A .height)) (A .room) r)
+    rw (le-leb (A .width) (2 ^ 23) (c .before .before .before .before .before .before .if1 .left), sym (c .before .before .before .before .before .counts-good .ensures) ∙ not-false (c .before .before .before .before .before .counts-good .result) (c .before .before .before .before .if2 .left), lt-ltb (A .desk) 2 (c .before .before .before .if3 .left), le-leb (A .splines) (length (A .bits .now)) (c .before .before .if4 .left), lt-leb (5 * bandsIn (A .height)) (A .room) r)
 
 returns-6 : tie.Need-returns-6
 unfolding beforeRows countsGoodFor
 returns-6 c =
     let A = c .before .before .before .before .before .before .before .before .before .before .before .before .args in
-    let f : c .before .before .before .before .before .counts-good .result ≡ true = search (not-false, c .before .before .before .before .if2 .left) in
-    let b : A .splines ≤ length (A .bits .now) = omega arith in
     let r : 5 * bandsIn (A .height) ≤ A .room = omega (arith, c .before .bands-in .ensures) in
-    rw (le-leb (A .width) (2 ^ 23) (omega arith), sym (c .before .before .before .before .before .counts-good .ensures) ∙ f, lt-ltb (A .desk) 2 (omega arith), le-leb (A .splines) (length (A .bits .now)) b, le-leb (5 * bandsIn (A .height)) (A .room) r)
+    rw (le-leb (A .width) (2 ^ 23) (c .before .before .before .before .before .before .if1 .left), sym (c .before .before .before .before .before .counts-good .ensures) ∙ not-false (c .before .before .before .before .before .counts-good .result) (c .before .before .before .before .if2 .left), lt-ltb (A .desk) 2 (c .before .before .before .if3 .left), le-leb (A .splines) (length (A .bits .now)) (c .before .before .if4 .left), le-leb (5 * bandsIn (A .height)) (A .room) r)
 
 pub judge-spec : {M : Type 1} → statement M
 judge-spec = tie.close (tie.spec returns counts-good-requires returns-2 returns-3 returns-4 bands-in-requires cast-if5 mul-if5 returns-5 returns-6)
