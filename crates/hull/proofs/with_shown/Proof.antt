@@ -14,7 +14,7 @@ hidden-requires c κs = omega arith
 returns : tie.Need-returns
 returns c =
     let A = c .before .before .before .before .before .args in
-    let t : c .before .hidden .result ≡ true = search (c .if1 .taken) in
+    let t : c .before .hidden .result ≡ true = c .if1 .taken in
     found-hidden (sightOf (A .owners .now) (A .splines) (A .bits .now) (A .desk)) (A .segments .now) (A .width) (A .found) (A .i) (sym (c .before .hidden .ensures) ∙ t)
 
 at-requires : tie.Need-at-requires
@@ -26,7 +26,7 @@ with-segment-requires c κs = search needs
 returns-2 : tie.Need-returns-2
 returns-2 c =
     let A = c .before .before .before .before .before .before .before .args in
-    let t : c .before .before .before .hidden .result ≡ false = search (c .before .before .if1 .left) in
+    let t : c .before .before .before .hidden .result ≡ false = c .before .before .if1 .left in
     found-shown (sightOf (A .owners .now) (A .splines) (A .bits .now) (A .desk)) (A .segments .now) (A .width) (A .found) (A .i) _ _ (sym (c .before .before .before .hidden .ensures) ∙ t) (c .before .at .ensures) (c .with-segment .ensures)
 
 pub with-shown-spec : {M : Type 1} → statement M
