@@ -13,7 +13,7 @@ hidden-requires c κs = search needs
 returns : tie.Need-returns
 returns c =
     let A = c .before .before .before .before .before .args in
-    let t : c .before .hidden .result ≡ true = search (c .if1 .taken) in
+    let t : c .before .hidden .result ≡ true = c .if1 .taken in
     sum-hidden (A .segments .now) (sightOf (A .owners .now) (A .splines) (A .bits .now) (A .desk)) (A .width) (A .sum) (A .i) (sym (c .before .hidden .ensures) ∙ t)
 
 with-shown-requires : tie.Need-with-shown-requires
@@ -22,7 +22,7 @@ with-shown-requires c κs = search needs
 returns-2 : tie.Need-returns-2
 returns-2 c =
     let A = c .before .before .before .before .before .before .args in
-    let t : c .before .before .hidden .result ≡ false = search (c .before .if1 .left) in
+    let t : c .before .before .hidden .result ≡ false = c .before .if1 .left in
     sum-shown (A .segments .now) (sightOf (A .owners .now) (A .splines) (A .bits .now) (A .desk)) (A .width) (A .sum) (A .i) (sym (c .before .before .hidden .ensures) ∙ t) (c .with-shown .ensures)
 
 pub with-entry-spec : {M : Type 1} → statement M
