@@ -1,11 +1,11 @@
 -- `list::head` meets its contract: the test tells an empty list from one with a first value.
-use borrow.Author.Needs.{needs}
+use native.Mathlib.Omega.{arith}
 use Rattle.list.proofs.Buffers.{next-value, next-end}
 use Rattle.list.proofs.head.Statement.{statement}
 use Rattle.list.proofs.head.Tie as tie
 
 read : tie.Need-shared-slice-read-t6
-read c = search needs
+read c = omega arith
 
 returns : tie.Need-returns
 returns c = next-value (c .before .before .args .list .now) (c .before .if1 .taken)
