@@ -1,5 +1,6 @@
 -- `finding::after` goes on by a byte at least.
 use borrow.Author.Needs.{needs}
+use native.Mathlib.Omega.{arith}
 use Rattle.finding.proofs.after.Statement.{statement}
 use Rattle.finding.proofs.after.Tie as tie
 
@@ -19,7 +20,7 @@ find-requires : tie.Need-find-requires
 find-requires c κs = search needs
 
 returns : tie.Need-returns
-returns c = search needs
+returns c = (omega (arith, c .find .ensures .0), c .find .ensures .1)
 
 add-result : tie.Need-add-result
 add-result c = search needs
