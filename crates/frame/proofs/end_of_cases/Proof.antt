@@ -40,7 +40,7 @@ returns-2 : tie.Need-returns-2 Inv-loop μ-loop
 returns-2 c = ends-past _ (omega (arith, case-within _ _ _ (omega arith) (c .before .before .before .before .loop .inv .1)))
 
 add-at : tie.Need-add-at Inv-loop μ-loop
-add-at c = search needs
+add-at c = omega arith
 
 sub-left : tie.Need-sub-left Inv-loop μ-loop
 sub-left c = search needs
@@ -49,7 +49,7 @@ loop-less : tie.Need-loop-less Inv-loop μ-loop
 loop-less c = search needs
 
 loop-again : tie.Need-loop-again Inv-loop μ-loop
-loop-again c = (search needs, end-more _ _ _ (omega arith) (c .before .size-of-case .ensures) (c .before .before .before .before .loop .inv .1))
+loop-again c = (omega arith, end-more _ _ _ (omega arith) (c .before .size-of-case .ensures) (c .before .before .before .before .loop .inv .1))
 
 returns-3 : tie.Need-returns-3 Inv-loop μ-loop
 returns-3 c = ends-at _ (c .before .loop .inv .0) (end-done _ _ _ (omega arith) (c .before .loop .inv .1))
