@@ -60,12 +60,15 @@ unfolding firstFault
 edition-fine e h = rw h
 
 -- of two lists of checks, the first that finds a fault
-pub in-order : (xs ys : List Check) → eitherFault (firstFault xs) (firstFault ys) ≡ firstFault (xs ++ ys)
+in-order : (xs ys : List Check) → eitherFault (firstFault xs) (firstFault ys) ≡ firstFault (xs ++ ys)
 in-order xs ys = go (firstFault xs) refl
   where
     go : (v : Verdict) → firstFault xs ≡ v → eitherFault v (firstFault ys) ≡ firstFault (xs ++ ys)
     go Fine f = sym (fine-before xs ys f)
     go (Fault c p) f = sym (faults-before xs ys c p f)
+
+pub first-then : (xs ys : List Check) {v w r : Verdict} → v ≡ firstFault xs → w ≡ firstFault ys → r ≡ eitherFault v w → r ≡ firstFault (xs ++ ys)
+first-then xs ys f g is = is ∙ rw (f, g) (in-order xs ys)
 
 module _ (e size : ℕ) (ns : List ℕ) where
   abbrev Head : List Check

@@ -7,7 +7,7 @@ use Rattle.writer.specs.Write.{check}
 use Rattle.little.specs.Little.{numbersIn}
 use Rattle.trace.specs.Read.{offsetChecks}
 use Rattle.trace2.specs.Editions.{unknown}
-use Rattle.trace2_read.proofs.Seconds.{in-order}
+use Rattle.trace2_read.proofs.Seconds.{first-then}
 use borrow.Author.Needs.{needs}
 use Rattle.trace2_read.proofs.judge_header.Statement.{statement}
 use Rattle.trace2_read.proofs.judge_header.Tie as tie
@@ -24,11 +24,7 @@ first-of-requires c κs = search needs
 returns : tie.Need-returns
 returns c =
     let ns = numbersIn (now (c .before .before .before .before .args .bytes)) in
-    let offsets = c .before .before .judge-offsets .ensures in
-    let edition = c .before .judge-edition .ensures in
-    let first = c .first-of .ensures in
-    let ordered = in-order (offsetChecks 9 ns) (check (unknown (getD ns 8 0)) Edition 32 ∷ []) in
-    search (needs, offsets, edition, first, ordered)
+    first-then (offsetChecks 9 ns) (check (unknown (getD ns 8 0)) Edition 32 ∷ []) (c .before .before .judge-offsets .ensures) (c .before .judge-edition .ensures) (c .first-of .ensures)
 
 pub judge-header-spec : {M : Type 1} → statement M
 judge-header-spec =

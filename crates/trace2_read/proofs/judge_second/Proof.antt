@@ -27,7 +27,7 @@ cast-p : tie.Need-cast-p
 cast-p c = search needs
 
 judge-header-requires : tie.Need-judge-header-requires
-judge-header-requires c κs = search needs
+judge-header-requires c κs = (search needs, omega (arith, c .before .before .if1 .left))
 
 enum-known-c : tie.Need-enum-known-c
 enum-known-c c = search needs
@@ -41,12 +41,12 @@ judge-body-requires c κs = search needs
 returns-2 : tie.Need-returns-2
 returns-2 c =
     let a = c .before .before .before .before .before .before .before .before .args in
-    laid-header (getD (numbersIn (now (a .bytes))) 8 0) (length (now (a .bytes))) (numbersIn (now (a .bytes))) (omega (arith, c .before .before .before .before .before .before .if1 .left)) _ _ (sym (c .before .before .before .judge-header .ensures) ∙ c .before .c .given .1)
+    laid-header (getD (numbersIn (now (a .bytes))) 8 0) (length (now (a .bytes))) (numbersIn (now (a .bytes))) (c .before .before .before .before .before .before .if1 .left) _ _ (sym (c .before .before .before .judge-header .ensures) ∙ c .before .c .given .1)
 
 returns-3 : tie.Need-returns-3
 returns-3 c =
     let a = c .before .before .before .before .before .before .before .before .args in
-    c .judge-body .ensures ∙ laid-body (getD (numbersIn (now (a .bytes))) 8 0) (length (now (a .bytes))) (numbersIn (now (a .bytes))) (omega (arith, c .before .before .before .before .before .before .if1 .left)) (sym (c .before .before .before .judge-header .ensures) ∙ c .before .enum-told .given .1)
+    c .judge-body .ensures ∙ laid-body (getD (numbersIn (now (a .bytes))) 8 0) (length (now (a .bytes))) (numbersIn (now (a .bytes))) (c .before .before .before .before .before .before .if1 .left) (sym (c .before .before .before .judge-header .ensures) ∙ c .before .enum-told .given .1)
 
 pub judge-second-spec : {M : Type 1} → statement M
 judge-second-spec =
