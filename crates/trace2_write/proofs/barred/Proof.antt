@@ -14,8 +14,7 @@ returns c = let a = c .before .before .args in barred-unknown (a .version) (a .e
 returns-2 : tie.Need-returns-2
 returns-2 c =
     let a = c .before .before .before .args in
-    let told = barred-first (a .version) (a .edition) (sym (c .before .before .unknown .ensures) ∙ c .before .if1 .left) (c .if2 .taken) in
-    search (needs, told)
+    barred-first (a .version) (a .edition) (sym (c .before .before .unknown .ensures) ∙ c .before .if1 .left) (c .if2 .taken)
 
 returns-3 : tie.Need-returns-3
 returns-3 c =
