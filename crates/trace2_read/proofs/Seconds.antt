@@ -1,4 +1,4 @@
--- Laws of reading a file of version 2: its checks one after the other, and the whole.
+-- Laws of reading a file of version 2: the numbers of its header, and the whole.
 use mathlib.Core.Path.{_≡_, refl, sym, ap, subst, _∙_}
 use mathlib.Core.Bool.{Bool, true, false, not, _||_, _&&_}
 use mathlib.Core.List.{List, [], _∷_, _++_}
@@ -10,25 +10,26 @@ use lib.IntN.{ℤ}
 use lib.Ieee.{Float}
 use borrow.Author.Tests.{lt-ltb, le-ltb, ltb-true, ltb-false, eqb-true, eqb-false}
 use Rattle.codes.specs.declared.Code.{Code}
-use Rattle.codes.specs.declared.Code.the-variants.{Short, Room, Edition}
+use Rattle.codes.specs.declared.Code.the-variants.{Room}
 use Rattle.list.specs.List.{ListRooms, Got, got, stop, Described}
 use Rattle.reader.specs.Read.{ReadOutcome, leaves, roomsOf, outcome}
 use Rattle.reader.specs.Rest.{ListLeft, Wiped}
 use Rattle.read_list.specs.declared.ReadAnswer.{ReadAnswer}
 use Rattle.writer.specs.Write.{Check, check, firstFault}
-use Rattle.write_judge.specs.declared.Verdict.{Verdict}
 use Rattle.write_judge.specs.declared.Verdict.the-variants.{Fine, Fault}
-use Rattle.write_judge.proofs.Checks.{fails, passes, passed, faults-before, fine-before, both-fine}
+use Rattle.write_judge.proofs.Checks.{fails, passed, faults-before, fine-before, both-fine}
 use Rattle.little.specs.Little.{numbersIn}
 use Rattle.little.proofs.Little.{numbers-length}
-use Rattle.trace.specs.Read.{splinesIn, pointsIn, offsetChecks, bodyChecks, tight, describedIn, readTraceOf}
+use Rattle.trace.specs.Read.{splinesIn, pointsIn, tight, describedIn, readTraceOf}
 use Rattle.trace_read.specs.Steps.{Loadable}
 use Rattle.trace_read.proofs.Loads.{Sound, sound-body, sound-loadable, same-rooms, wiped-refused, wiped-done}
-use Rattle.trace2.specs.Editions.{unknown, editionIn}
+use Rattle.trace2.specs.Editions.{editionIn}
 use Rattle.trace2.specs.Read.{laidChecks, fileChecks, wholeChecks2, readFile, answerOf, editionOf, fileLeaves, editionTold, withEdition, readFileOf}
 use Rattle.trace2.specs.declared.FileAnswer.{FileAnswer}
 use Rattle.trace2.proofs.Versions.{second-alike, nine-so, ninth-so, other-as-before, short-as-before}
-use Rattle.trace2_read.specs.Steps.{second, Second, eitherFault}
+use Rattle.trace2_judge.specs.Steps.{Second}
+use Rattle.trace2_judge.proofs.Laid.{laid-sound}
+use Rattle.trace2_read.specs.Steps.{second}
 
 -- ---- the numbers of the header
 
@@ -49,58 +50,6 @@ second-is bytes e = go (ltb (length bytes) 32) (eqb (getD (numbersIn bytes) 0 0)
     go true b x y e = absurd (subst T (sym e) tt)
     go false false x y e = absurd (subst T (sym e) tt)
     go false true x y e = record { long = ltb-false (length bytes) 32 x; two = eqb-true (getD (numbersIn bytes) 0 0) 2 y }
-
--- ---- the checks one after the other
-
-pub edition-fault : (e : ℕ) → unknown e ≡ true → Fault Edition 32 ≡ firstFault (check (unknown e) Edition 32 ∷ [])
-edition-fault e h = sym (fails _ Edition 32 [] h)
-
-pub edition-fine : (e : ℕ) → unknown e ≡ false → Fine ≡ firstFault (check (unknown e) Edition 32 ∷ [])
-unfolding firstFault
-edition-fine e h = rw h
-
--- of two lists of checks, the first that finds a fault
-in-order : (xs ys : List Check) → eitherFault (firstFault xs) (firstFault ys) ≡ firstFault (xs ++ ys)
-in-order xs ys = go (firstFault xs) refl
-  where
-    go : (v : Verdict) → firstFault xs ≡ v → eitherFault v (firstFault ys) ≡ firstFault (xs ++ ys)
-    go Fine f = sym (fine-before xs ys f)
-    go (Fault c p) f = sym (faults-before xs ys c p f)
-
-pub first-then : (xs ys : List Check) {v w r : Verdict} → v ≡ firstFault xs → w ≡ firstFault ys → r ≡ eitherFault v w → r ≡ firstFault (xs ++ ys)
-first-then xs ys f g is = is ∙ rw (f, g) (in-order xs ys)
-
-module _ (e size : ℕ) (ns : List ℕ) where
-  abbrev Head : List Check
-  Head = offsetChecks 9 ns ++ (check (unknown e) Edition 32 ∷ [])
-
-  pub laid-short : size < 36 → Fault Short size ≡ firstFault (laidChecks 9 e size ns)
-  unfolding laidChecks
-  laid-short h = sym (fails _ Short size _ (lt-ltb size 36 h))
-
-  module _ (long : 36 ≤ size) where
-    -- the edition stands at the end of the header's checks
-    laid-after : firstFault (laidChecks 9 e size ns) ≡ firstFault (Head ++ bodyChecks 9 size ns)
-    unfolding laidChecks
-    laid-after = passes _ Short size _ (le-ltb size 36 long) ∙ ap firstFault (sym (regrouped (offsetChecks 9 ns)))
-      where
-        regrouped : (xs : List Check) → (xs ++ (check (unknown e) Edition 32 ∷ [])) ++ bodyChecks 9 size ns ≡ xs ++ (check (unknown e) Edition 32 ∷ bodyChecks 9 size ns)
-        regrouped [] = refl
-        regrouped (x ∷ xs) = ap (λ (t : List Check). x ∷ t) (regrouped xs)
-
-    pub laid-header : (c : Code) (q : ℕ) → firstFault Head ≡ Fault c q → Fault c q ≡ firstFault (laidChecks 9 e size ns)
-    laid-header c q f = sym (laid-after ∙ faults-before Head _ c q f)
-
-    pub laid-body : firstFault Head ≡ Fine → firstFault (bodyChecks 9 size ns) ≡ firstFault (laidChecks 9 e size ns)
-    laid-body f = sym (laid-after ∙ fine-before Head _ f)
-
-  -- no fault: none behind the header
-  pub laid-sound : firstFault (laidChecks 9 e size ns) ≡ Fine → firstFault (bodyChecks 9 size ns) ≡ Fine
-  unfolding laidChecks
-  laid-sound f =
-      let a = passed _ Short size _ f in
-      let b = both-fine (offsetChecks 9 ns) _ (a .1) in
-      passed _ Edition 32 _ (b .1) .1
 
 -- ---- the whole file
 

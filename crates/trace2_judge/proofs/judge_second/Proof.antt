@@ -4,10 +4,10 @@ use native.Mathlib.Omega.{arith}
 use denote.Ref.{now}
 use lib.ListN.{length, getD}
 use Rattle.little.specs.Little.{numbersIn}
-use Rattle.trace2_read.proofs.Seconds.{laid-short, laid-header, laid-body}
+use Rattle.trace2_judge.proofs.Laid.{laid-short, laid-header, laid-body}
 use borrow.Author.Needs.{needs}
-use Rattle.trace2_read.proofs.judge_second.Statement.{statement}
-use Rattle.trace2_read.proofs.judge_second.Tie as tie
+use Rattle.trace2_judge.proofs.judge_second.Statement.{statement}
+use Rattle.trace2_judge.proofs.judge_second.Tie as tie
 
 returns : tie.Need-returns
 returns c =

@@ -7,10 +7,10 @@ use Rattle.writer.specs.Write.{check}
 use Rattle.little.specs.Little.{numbersIn}
 use Rattle.trace.specs.Read.{offsetChecks}
 use Rattle.trace2.specs.Editions.{unknown}
-use Rattle.trace2_read.proofs.Seconds.{first-then}
+use Rattle.trace2_judge.proofs.Laid.{first-then}
 use borrow.Author.Needs.{needs}
-use Rattle.trace2_read.proofs.judge_header.Statement.{statement}
-use Rattle.trace2_read.proofs.judge_header.Tie as tie
+use Rattle.trace2_judge.proofs.judge_header.Statement.{statement}
+use Rattle.trace2_judge.proofs.judge_header.Tie as tie
 
 judge-offsets-requires : tie.Need-judge-offsets-requires
 judge-offsets-requires c κs = search needs

@@ -1,10 +1,10 @@
 -- `judge_edition` meets its contract: one number.
 use mathlib.Core.Path.{sym, ap, _∙_}
 use Rattle.trace2.specs.Editions.{unknown}
-use Rattle.trace2_read.proofs.Seconds.{edition-fault, edition-fine}
+use Rattle.trace2_judge.proofs.Laid.{edition-fault, edition-fine}
 use borrow.Author.Needs.{needs}
-use Rattle.trace2_read.proofs.judge_edition.Statement.{statement}
-use Rattle.trace2_read.proofs.judge_edition.Tie as tie
+use Rattle.trace2_judge.proofs.judge_edition.Statement.{statement}
+use Rattle.trace2_judge.proofs.judge_edition.Tie as tie
 
 number-at-requires : tie.Need-number-at-requires
 number-at-requires c κs = search needs

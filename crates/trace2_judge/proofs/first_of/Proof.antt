@@ -1,7 +1,7 @@
 -- `first_of` meets its contract: a match.
 use borrow.Author.Needs.{needs}
-use Rattle.trace2_read.proofs.first_of.Statement.{statement}
-use Rattle.trace2_read.proofs.first_of.Tie as tie
+use Rattle.trace2_judge.proofs.first_of.Statement.{statement}
+use Rattle.trace2_judge.proofs.first_of.Tie as tie
 
 enum-known-first : tie.Need-enum-known-first
 enum-known-first c = search needs

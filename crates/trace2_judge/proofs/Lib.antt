@@ -1,0 +1,2 @@
+-- The laws of the crate `trace2_judge`.
+pub mod Laid

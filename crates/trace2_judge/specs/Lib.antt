@@ -1,0 +1,2 @@
+-- The definitions of the crate `trace2_judge`.
+pub mod Steps
