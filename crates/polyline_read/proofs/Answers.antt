@@ -31,9 +31,10 @@ use Rattle.polyline.specs.Spots.{figureAt, uncapped, spotsOf, cappedSpots}
 use Rattle.polyline.specs.Read.{walkFrom, deltasFrom, firstPoint, startOf, laterOf, andThen, walkVerdict, roomFor, pairsVerdict, pointsVerdict, leaves, outcome, readPointsOf}
 use Rattle.polyline.proofs.Walks.{First, walk-first, deltas-length, spots-some}
 use Rattle.polyline.proofs.Capped.{capped-is, walk-capped, came-same, capSpot}
-use Rattle.polyline_read.specs.declared.Run.{Run}
-use Rattle.polyline_read.specs.declared.Turned.the-variants.{On, Stop}
-use Rattle.polyline_read.specs.Steps.{ScanLeaves, TextLeaves}
+use Rattle.polyline_scan.specs.declared.Run.{Run}
+use Rattle.polyline_scan.specs.declared.Turned.the-variants.{On, Stop}
+use Rattle.polyline_scan.specs.Steps.{ScanLeaves}
+use Rattle.polyline_read.specs.Steps.{TextLeaves}
 
 -- ---- the pairs as they are
 

@@ -1,4 +1,2 @@
 -- The laws of the crate `polyline_read`.
-pub mod Numbers
-pub mod Turns
 pub mod Answers

@@ -1,0 +1,2 @@
+-- The definitions of the crate `polyline_pairs`.
+pub mod Fits

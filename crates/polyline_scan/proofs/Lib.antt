@@ -1,0 +1,2 @@
+-- The laws of the crate `polyline_scan`.
+pub mod Turns

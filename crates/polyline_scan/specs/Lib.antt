@@ -1,0 +1,2 @@
+-- The definitions of the crate `polyline_scan`.
+pub mod Steps
