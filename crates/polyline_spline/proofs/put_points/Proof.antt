@@ -1,12 +1,12 @@
--- `polyline_write::put_points` meets its contract: the start, then the rest.
+-- `polyline_spline::put_points` meets its contract: the start, then the rest.
 use mathlib.Core.Path.{_≡_}
 use native.Mathlib.Omega.{arith}
 use denote.Ref.{now}
 use Rattle.control_points.specs.ControlPoints.{placeAt}
-use Rattle.polyline_write.proofs.Puts.{points-put}
+use Rattle.polyline_spline.proofs.Puts.{points-put}
 use borrow.Author.Needs.{needs}
-use Rattle.polyline_write.proofs.put_points.Statement.{statement}
-use Rattle.polyline_write.proofs.put_points.Tie as tie
+use Rattle.polyline_spline.proofs.put_points.Statement.{statement}
+use Rattle.polyline_spline.proofs.put_points.Tie as tie
 
 put-pair-requires : tie.Need-put-pair-requires
 unfolding placeAt

@@ -1,11 +1,11 @@
--- `polyline_write::begin_at` meets its contract: in each arm the start, and where the points led to, are known.
+-- `polyline_spline::begin_at` meets its contract: in each arm the start, and where the points led to, are known.
 use mathlib.Core.Path.{sym, _∙_}
 use denote.Ref.{now}
 use Rattle.control_points.proofs.Starts.{start-valid}
-use Rattle.polyline_write.proofs.Goes.{begun-out, begun-stop, begun-meets, begun-at}
+use Rattle.polyline_spline.proofs.Goes.{begun-out, begun-stop, begun-meets, begun-at}
 use borrow.Author.Needs.{needs}
-use Rattle.polyline_write.proofs.begin_at.Statement.{statement}
-use Rattle.polyline_write.proofs.begin_at.Tie as tie
+use Rattle.polyline_spline.proofs.begin_at.Statement.{statement}
+use Rattle.polyline_spline.proofs.begin_at.Tie as tie
 
 starting-point-requires : tie.Need-starting-point-requires
 starting-point-requires c κs = search needs

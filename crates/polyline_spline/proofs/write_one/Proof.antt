@@ -1,11 +1,11 @@
--- `polyline_write::write_one` meets its contract: the spline is judged, and put where it passes.
+-- `polyline_spline::write_one` meets its contract: the spline is judged, and put where it passes.
 use mathlib.Core.Path.{refl, sym, _∙_}
 use native.Mathlib.Omega.{arith}
 use denote.Ref.{now}
-use Rattle.polyline_write.proofs.Answers.{one-refused, one-passes, one-full, one-ends}
+use Rattle.polyline_spline.proofs.One.{one-refused, one-passes, one-full, one-ends}
 use borrow.Author.Needs.{needs}
-use Rattle.polyline_write.proofs.write_one.Statement.{statement}
-use Rattle.polyline_write.proofs.write_one.Tie as tie
+use Rattle.polyline_spline.proofs.write_one.Statement.{statement}
+use Rattle.polyline_spline.proofs.write_one.Tie as tie
 
 begin-at-requires : tie.Need-begin-at-requires
 begin-at-requires c κs = search needs

@@ -1,13 +1,13 @@
--- `polyline_write::go_along` meets its contract: before each double delta, what is left leads where the whole does.
+-- `polyline_spline::go_along` meets its contract: before each double delta, what is left leads where the whole does.
 use mathlib.Core.Path.{_≡_, _∙_}
 use Prim.Native.Nat.{_-_, _/_}
 use native.Mathlib.Omega.{arith}
 use denote.Ref.{now}
 use lib.ListN.{length}
-use Rattle.polyline_write.proofs.Goes.{Along, along-begin, from-first, along-more, along-stop, along-end}
+use Rattle.polyline_spline.proofs.Goes.{Along, along-begin, from-first, along-more, along-stop, along-end}
 use borrow.Author.Needs.{needs}
-use Rattle.polyline_write.proofs.go_along.Statement.{statement}
-use Rattle.polyline_write.proofs.go_along.Tie as tie
+use Rattle.polyline_spline.proofs.go_along.Statement.{statement}
+use Rattle.polyline_spline.proofs.go_along.Tie as tie
 
 abbrev Inv-loop : tie.InvT-loop
 Inv-loop deltas place₀ met₀ n k₀ place met k = Along place₀ deltas place met k

@@ -1,14 +1,14 @@
--- `polyline_write::put_rest` meets its contract: before each double delta, what is put and what is left come to the whole.
+-- `polyline_spline::put_rest` meets its contract: before each double delta, what is put and what is left come to the whole.
 use mathlib.Core.Path.{_≡_}
 use Prim.Native.Nat.{_-_, _/_}
 use native.Mathlib.Omega.{arith}
 use denote.Ref.{now}
 use lib.ListN.{length}
 use Rattle.control_points.proofs.Walks.{walk-moves, walk-more}
-use Rattle.polyline_write.proofs.Puts.{Rest, rest-begin, rest-more, rest-full, rest-ends}
+use Rattle.polyline_spline.proofs.Puts.{Rest, rest-begin, rest-more, rest-full, rest-ends}
 use borrow.Author.Needs.{needs}
-use Rattle.polyline_write.proofs.put_rest.Statement.{statement}
-use Rattle.polyline_write.proofs.put_rest.Tie as tie
+use Rattle.polyline_spline.proofs.put_rest.Statement.{statement}
+use Rattle.polyline_spline.proofs.put_rest.Tie as tie
 
 abbrev Inv-loop : tie.InvT-loop
 Inv-loop deltas text₀ begin place₀ at₀ n k₀ text place at k = Rest place₀ deltas text₀ begin text place at k

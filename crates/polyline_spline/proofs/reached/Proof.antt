@@ -1,6 +1,6 @@
--- `polyline_write::reached` meets its contract: the flag is the definition's in each arm.
-use Rattle.polyline_write.proofs.reached.Statement.{statement}
-use Rattle.polyline_write.proofs.reached.Tie as tie
+-- `polyline_spline::reached` meets its contract: the flag is the definition's in each arm.
+use Rattle.polyline_spline.proofs.reached.Statement.{statement}
+use Rattle.polyline_spline.proofs.reached.Tie as tie
 
 returns : tie.Need-returns
 returns c = rw (c .if1 .taken)

@@ -1,14 +1,14 @@
--- `polyline_write::put_pair` meets its contract: x, a comma, y.
+-- `polyline_spline::put_pair` meets its contract: x, a comma, y.
 use mathlib.Core.Path.{_≡_}
 use native.Mathlib.Omega.{arith}
 use denote.Ref.{now}
 use mir.Syntax.{w32}
 use mir.Facts.{toZ-ofZ}
 use Rattle.control_points.proofs.Pairs.{point-range}
-use Rattle.polyline_write.proofs.Puts.{pair-put}
+use Rattle.polyline_spline.proofs.Puts.{pair-put}
 use borrow.Author.Needs.{needs}
-use Rattle.polyline_write.proofs.put_pair.Statement.{statement}
-use Rattle.polyline_write.proofs.put_pair.Tie as tie
+use Rattle.polyline_spline.proofs.put_pair.Statement.{statement}
+use Rattle.polyline_spline.proofs.put_pair.Tie as tie
 
 put-number-requires : tie.Need-put-number-requires
 put-number-requires c κs = let s = c .before .before .before in (omega arith, rw (toZ-ofZ {w = w32} {z = s .args .p .x} (record { sfits = omega arith })) (point-range (s .args .p) (s .pre .1) .0))

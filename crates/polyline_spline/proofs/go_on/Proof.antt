@@ -1,11 +1,11 @@
--- `polyline_write::go_on` meets its contract: each test is the definition's at the same place.
+-- `polyline_spline::go_on` meets its contract: each test is the definition's at the same place.
 use mathlib.Core.Path.{sym, _∙_}
 use borrow.Author.Tests.{not-true, not-false}
 use Rattle.control_points.proofs.Pairs.{double-delta-fine, point-fine}
-use Rattle.polyline_write.proofs.Goes.{gone-delta, gone-far, gone-out, gone-on}
+use Rattle.polyline_spline.proofs.Goes.{gone-delta, gone-far, gone-out, gone-on}
 use borrow.Author.Needs.{needs}
-use Rattle.polyline_write.proofs.go_on.Statement.{statement}
-use Rattle.polyline_write.proofs.go_on.Tie as tie
+use Rattle.polyline_spline.proofs.go_on.Statement.{statement}
+use Rattle.polyline_spline.proofs.go_on.Tie as tie
 
 small-requires : tie.Need-small-requires
 small-requires c κs = search needs

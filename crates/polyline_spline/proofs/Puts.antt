@@ -14,8 +14,8 @@ use Rattle.control_points.specs.declared.Place.{Place}
 use Rattle.control_points.proofs.Walks.{points-more, points-done, walk-more}
 use Rattle.write_steps.proofs.Stores.{sets-append}
 use Rattle.polyline.specs.Write.{numberText, pairText, laterText, pointsText}
-use Rattle.polyline_write.specs.declared.Put.the-variants.{Ends, Full}
-use Rattle.polyline_write.specs.Steps.{PutLeaves}
+use Rattle.polyline_spline.specs.declared.Put.the-variants.{Ends, Full}
+use Rattle.polyline_spline.specs.Steps.{PutLeaves}
 
 pub pair-put : (p : Pair) (l l1 l2 l3 : List ℕ) (at comma end : ℕ) → (l1 ≡ sets l at (numberText (p .x))) × (comma ≡ at + length (numberText (p .x))) × (comma ≤ at + 8)
     → l2 ≡ set l1 comma 44 → (l3 ≡ sets l2 (comma + 1) (numberText (p .y))) × (end ≡ comma + 1 + length (numberText (p .y))) × (end ≤ comma + 1 + 8)

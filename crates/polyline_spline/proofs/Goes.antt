@@ -18,9 +18,9 @@ use Rattle.control_points.proofs.Steps.{pair-drop}
 use Rattle.polyline.specs.declared.Gone.{Gone}
 use Rattle.polyline.specs.declared.Gone.the-variants.{On, Stop}
 use Rattle.polyline.specs.Write.{goneBy, onward, goneFrom, goneOf}
-use Rattle.polyline_write.specs.declared.Begun.{Begun}
-use Rattle.polyline_write.specs.declared.Begun.the-variants as begun′
-use Rattle.polyline_write.specs.Steps.{Placed, settledAt, begunAt}
+use Rattle.polyline_spline.specs.declared.Begun.{Begun}
+use Rattle.polyline_spline.specs.declared.Begun.the-variants as begun′
+use Rattle.polyline_spline.specs.Steps.{Placed, settledAt, begunAt}
 
 -- ---- one double delta
 

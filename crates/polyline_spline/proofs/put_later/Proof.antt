@@ -1,11 +1,11 @@
--- `polyline_write::put_later` meets its contract: a space and the pair.
+-- `polyline_spline::put_later` meets its contract: a space and the pair.
 use mathlib.Core.Path.{_≡_}
 use native.Mathlib.Omega.{arith}
 use denote.Ref.{now}
-use Rattle.polyline_write.proofs.Puts.{later-put}
+use Rattle.polyline_spline.proofs.Puts.{later-put}
 use borrow.Author.Needs.{needs}
-use Rattle.polyline_write.proofs.put_later.Statement.{statement}
-use Rattle.polyline_write.proofs.put_later.Tie as tie
+use Rattle.polyline_spline.proofs.put_later.Statement.{statement}
+use Rattle.polyline_spline.proofs.put_later.Tie as tie
 
 put-byte-requires : tie.Need-put-byte-requires
 put-byte-requires c κs = search needs

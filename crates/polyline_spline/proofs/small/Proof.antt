@@ -1,4 +1,4 @@
--- `polyline_write::small` meets its contract: x, then y.
+-- `polyline_spline::small` meets its contract: x, then y.
 use mathlib.Core.Path.{_≡_, sym, _∙_}
 use mathlib.Core.Bool.{true, false}
 use native.Mathlib.Omega.{arith}
@@ -6,8 +6,8 @@ use mir.Syntax.{w32}
 use mir.Facts.{toZ-ofZ}
 use Rattle.control_points.specs.ControlPoints.{belowDeltaLimit, validDoubleDelta}
 use borrow.Author.Needs.{needs}
-use Rattle.polyline_write.proofs.small.Statement.{statement}
-use Rattle.polyline_write.proofs.small.Tie as tie
+use Rattle.polyline_spline.proofs.small.Statement.{statement}
+use Rattle.polyline_spline.proofs.small.Tie as tie
 
 below-delta-limit-requires : tie.Need-below-delta-limit-requires
 below-delta-limit-requires c κs = search needs

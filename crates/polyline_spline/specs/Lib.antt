@@ -1,0 +1,2 @@
+-- The definitions of the crate `polyline_spline`.
+pub mod Steps
