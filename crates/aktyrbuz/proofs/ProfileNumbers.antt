@@ -8,7 +8,7 @@ use Rattle.dequantize.specs.Judge.{Description}
 use Rattle.table.specs.Table.{Setting, BuildRooms}
 use Rattle.profile.specs.declared.ProfileAnswer.{ProfileAnswer}
 use Rattle.profile.specs.Profile.{ProfileOutcome, tells, profileOf}
-use Rattle.profile_build.specs.declared.ProfileBuildAnswer.{ProfileBuildAnswer}
+use Rattle.profile_told.specs.declared.ProfileBuildAnswer.{ProfileBuildAnswer}
 use Rattle.profile_build.specs.Building.{ProfileBuildOutcome, leaves, buildProfileOf}
 use Rattle.told.specs.declared.Told.{Told}
 use Rattle.told.specs.Told.{toldProfile, toldProfileBuild, toldIn}

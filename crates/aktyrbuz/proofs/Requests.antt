@@ -89,7 +89,7 @@ use Rattle.aktyrbuz.specs.TraceCalls.{TraceReadCall, reads, TraceWriteCa
 use Rattle.profile.specs.Profile.{ProfileOutcome, tells, profileOf}
 use Rattle.profile.specs.declared.ProfileAnswer.{ProfileAnswer}
 use Rattle.profile_build.specs.Building.{ProfileBuildOutcome, stoppedWith, asBuilt, buildProfileOf}
-use Rattle.profile_build.specs.declared.ProfileBuildAnswer.{ProfileBuildAnswer}
+use Rattle.profile_told.specs.declared.ProfileBuildAnswer.{ProfileBuildAnswer}
 use Rattle.profile_laws.proofs.Says.{meets-iff, broken-iff, refused-iff, edition-iff}
 use Rattle.profile_laws.proofs.Editions.{answer-1-in-2}
 use Rattle.profile_laws.proofs.Builds.{as-build, breaks-leaves, refusal-leaves, done-exactly, broken-exactly, build-refused-exactly, otherwise-is-build, edition-exactly, build-1-in-2}

@@ -56,7 +56,7 @@ use Rattle.aktyrbuz.specs.TraceCalls.{TraceReadCall, TraceWriteCall}
 use Rattle.profile.specs.Profile.{ProfileOutcome}
 use Rattle.profile.specs.declared.ProfileAnswer.{ProfileAnswer}
 use Rattle.profile_build.specs.Building.{ProfileBuildOutcome, stoppedWith, asBuilt}
-use Rattle.profile_build.specs.declared.ProfileBuildAnswer.{ProfileBuildAnswer}
+use Rattle.profile_told.specs.declared.ProfileBuildAnswer.{ProfileBuildAnswer}
 use Rattle.profile_laws.specs.Rules.{Meeting, Breaking, NoEdition, ProfileRefusal}
 use Rattle.profile_laws.specs.Refusals.{Plain, DoneByBuild, BreaksRule, UnknownEdition, ProfileBuildRefusal}
 use Rattle.aktyrbuz.specs.ProfileCalls.{ProfileCall, ProfileBuildCall}

@@ -5,7 +5,7 @@ use Rattle.codes.specs.declared.Code.{Code}
 use Rattle.dequantize.specs.Judge.{Description}
 use Rattle.table.specs.Table.{BuildRooms, Setting, BuildOutcome, buildOf}
 use Rattle.profile.specs.declared.ProfileAnswer.{ProfileAnswer}
-use Rattle.profile_build.specs.declared.ProfileBuildAnswer.the-variants.{Broken, Refused}
+use Rattle.profile_told.specs.declared.ProfileBuildAnswer.the-variants.{Broken, Refused}
 use Rattle.profile_build.specs.Building.{ProfileBuildOutcome, checkProfileOf, stoppedWith, asBuilt, afterCheck, buildProfileOf}
 
 module _ (d : Description) (i : Setting) (e : ℕ) (r : BuildRooms) where

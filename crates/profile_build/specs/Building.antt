@@ -5,7 +5,6 @@ use Prim.Native.Nat.{ℕ}
 use lib.IntN.{ℤ}
 use lib.ListN.{replicate}
 use lib.Ieee.{Float}
-use Rattle.codes.specs.Codes.{numberOf}
 use Rattle.codes.specs.declared.Code.{Code}
 use Rattle.codes.specs.declared.Code.the-variants as Code
 use Rattle.dequantize.specs.Judge.{Description}
@@ -14,20 +13,15 @@ use Rattle.table.specs.Table.{BuildRooms, Setting, BuildOutcome, zeros, buildOf
 use Rattle.verdict.specs.Verdict.{sized}
 use Rattle.profile.specs.declared.ProfileAnswer.{ProfileAnswer}
 use Rattle.profile.specs.Profile.{answerOf}
-use Rattle.profile_build.specs.declared.ProfileBuildAnswer.{ProfileBuildAnswer}
-use Rattle.profile_build.specs.declared.ProfileBuildAnswer.the-variants.{Done, Broken, Refused}
-use Rattle.profile_build.specs.declared.ProfileBuildTold.{ProfileBuildTold}
+use Rattle.profile_told.specs.declared.ProfileBuildAnswer.{ProfileBuildAnswer}
+use Rattle.profile_told.specs.declared.ProfileBuildAnswer.the-variants.{Done, Broken, Refused}
+use Rattle.profile_told.specs.declared.ProfileBuildTold.{ProfileBuildTold}
+use Rattle.profile_told.specs.Told.{toldOf}
 
 -- what a build answers, as an answer of building by profile
 abbrev pub ofBuild : BuildAnswer → ProfileBuildAnswer
 ofBuild (BuildAnswer.Done s n a f) = Done s n a f
 ofBuild (BuildAnswer.Refused c p) = Refused c p
-
--- a success has the counts of a build: segments, entries, the estimate, and how many segments are faint; a broken rule is PROFILE at its spline, with the rule as first count; any other refusal has counts of 0
-abbrev pub toldOf : ProfileBuildAnswer → ProfileBuildTold
-toldOf (Done s n a f) = record { number = 0; place = 0; first = s; second = n; third = a; fourth = f }
-toldOf (Broken rule spline) = record { number = numberOf Code.Profile; place = spline; first = rule; second = 0; third = 0; fourth = 0 }
-toldOf (Refused c p) = record { number = numberOf c; place = p; first = 0; second = 0; third = 0; fourth = 0 }
 
 -- the answer, what it tells, and the six lent buffers
 pub record ProfileBuildOutcome : Type 0 where

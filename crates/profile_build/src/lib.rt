@@ -2,28 +2,12 @@
 ghost use mathlib.Core.Path.{_≡_};
 ghost use Rattle.dequantize.specs.Judge.{descriptionOf};
 ghost use Rattle.table.specs.Table.{roomsOf, settingOf};
-ghost use Rattle.verdict.specs.Verdict.{sized};
-ghost use Rattle.profile_build.specs.Building.{ofBuild, checkProfileOf, leaves, stoppedWith, toldOf, buildProfileOf};
+ghost use Rattle.profile_build.specs.Building.{ofBuild, checkProfileOf, leaves, stoppedWith, buildProfileOf};
 use codes::Code;
 use profile::ProfileAnswer;
+use profile_told::ProfileBuildAnswer;
+use profile_told::size_good;
 use table::BuildAnswer;
-
-// What a build answers; or the first broken rule and its spline.
-pub enum ProfileBuildAnswer {
-    Done(u32, u32, u64, u32),
-    Broken(u32, usize),
-    Refused(Code, usize),
-}
-
-// An answer in the terms of the table of codes: the code's number, the place, and the counts.
-pub struct ProfileBuildTold {
-    pub number: u32,
-    pub place: usize,
-    pub first: u32,
-    pub second: u32,
-    pub third: u64,
-    pub fourth: u32,
-}
 
 fn of_build(answer: BuildAnswer) -> ProfileBuildAnswer
     ensures { λ r. ⌜ r ≡ ofBuild answer ⌝ }
@@ -37,15 +21,6 @@ fn of_build(answer: BuildAnswer) -> ProfileBuildAnswer
         ),
         BuildAnswer::Refused(code, place) => ProfileBuildAnswer::Refused(code, place),
     }
-}
-
-fn size_good(width: u32, height: u32) -> bool
-    ensures { λ r. ⌜ r ≡ sized width height ⌝ }
-{
-    if 8388608 < width {
-        return false;
-    }
-    height <= 8388608
 }
 
 // SIZE, then the check of the profile.
@@ -155,37 +130,5 @@ pub fn build_profile(
             row_starts,
             entries,
         )),
-    }
-}
-
-// A broken rule is PROFILE at its spline, and the rule is its first count.
-pub fn told(answer: ProfileBuildAnswer) -> ProfileBuildTold
-    ensures { λ r. ⌜ r ≡ toldOf answer ⌝ }
-{
-    match answer {
-        ProfileBuildAnswer::Done(segments, entries, estimate, faint) => ProfileBuildTold {
-            number: 0,
-            place: 0,
-            first: segments,
-            second: entries,
-            third: estimate,
-            fourth: faint,
-        },
-        ProfileBuildAnswer::Broken(rule, spline) => ProfileBuildTold {
-            number: codes::number_of(Code::Profile),
-            place: spline,
-            first: rule,
-            second: 0,
-            third: 0,
-            fourth: 0,
-        },
-        ProfileBuildAnswer::Refused(code, place) => ProfileBuildTold {
-            number: codes::number_of(code),
-            place,
-            first: 0,
-            second: 0,
-            third: 0,
-            fourth: 0,
-        },
     }
 }

@@ -24,8 +24,8 @@ use Rattle.table.proofs.Users.{refused, refused-exactly}
 use Rattle.verdict.proofs.Checks.{both}
 use Rattle.profile.specs.declared.ProfileAnswer.{ProfileAnswer}
 use Rattle.profile.specs.Profile.{answerOf}
-use Rattle.profile_build.specs.declared.ProfileBuildAnswer.{ProfileBuildAnswer}
-use Rattle.profile_build.specs.declared.ProfileBuildAnswer.the-variants.{Done, Broken, Refused}
+use Rattle.profile_told.specs.declared.ProfileBuildAnswer.{ProfileBuildAnswer}
+use Rattle.profile_told.specs.declared.ProfileBuildAnswer.the-variants.{Done, Broken, Refused}
 use Rattle.profile_build.specs.Building.{ProfileBuildOutcome, ofBuild, stoppedWith, asBuilt, checkProfileOf, afterCheck, buildProfileOf}
 use Rattle.profile_laws.specs.Rules.{Meeting, Breaking, Says, meets, breaks, refuses}
 use Rattle.profile_laws.specs.Rules as rules

@@ -13,8 +13,8 @@ use Rattle.desks.specs.declared.HideAnswer.{HideAnswer}
 use Rattle.trace2.specs.declared.FileAnswer.{FileAnswer}
 use Rattle.profile.specs.declared.ProfileAnswer.{ProfileAnswer}
 use Rattle.profile.specs.Profile as profile
-use Rattle.profile_build.specs.declared.ProfileBuildAnswer.{ProfileBuildAnswer}
-use Rattle.profile_build.specs.Building as building
+use Rattle.profile_told.specs.declared.ProfileBuildAnswer.{ProfileBuildAnswer}
+use Rattle.profile_told.specs.Told as building
 use Rattle.makers.specs.declared.CheckAnswer.{CheckAnswer}
 use Rattle.bands.specs.declared.BandsAnswer.{BandsAnswer}
 use Rattle.told.specs.declared.Told.{Told}

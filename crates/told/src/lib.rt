@@ -8,7 +8,7 @@ use draw::DrawAnswer;
 use hull::ReachAnswer;
 use makers::CheckAnswer;
 use profile::ProfileAnswer;
-use profile_build::ProfileBuildAnswer;
+use profile_told::ProfileBuildAnswer;
 use reader::ReadAnswer;
 use table::BuildAnswer;
 use trace2::FileAnswer;
@@ -177,7 +177,7 @@ pub fn told_profile(answer: ProfileAnswer) -> Told
 pub fn told_profile_build(answer: ProfileBuildAnswer) -> Told
     ensures { λ r. ⌜ r ≡ toldProfileBuild answer ⌝ }
 {
-    let told = profile_build::told(answer);
+    let told = profile_told::told(answer);
     Told {
         number: told.number,
         place: signed(told.place),

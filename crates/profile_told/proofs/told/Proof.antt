@@ -1,7 +1,7 @@
 -- `told`: an answer, case by case.
 use borrow.Author.Needs.{needs}
-use Rattle.profile_build.proofs.told.Statement.{statement}
-use Rattle.profile_build.proofs.told.Tie as tie
+use Rattle.profile_told.proofs.told.Statement.{statement}
+use Rattle.profile_told.proofs.told.Tie as tie
 
 enum-known-answer : tie.Need-enum-known-answer
 enum-known-answer c = search needs

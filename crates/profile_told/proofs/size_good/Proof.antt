@@ -1,7 +1,7 @@
 -- `size_good`: each way out is decided by the tests that led there.
 use borrow.Author.Tests.{lt-leb, le-leb}
-use Rattle.profile_build.proofs.size_good.Statement.{statement}
-use Rattle.profile_build.proofs.size_good.Tie as tie
+use Rattle.profile_told.proofs.size_good.Statement.{statement}
+use Rattle.profile_told.proofs.size_good.Tie as tie
 
 returns : tie.Need-returns
 returns c = rw (lt-leb _ _ (c .if1 .taken))

@@ -1,0 +1,2 @@
+-- The definitions of the crate `profile_told`.
+pub mod Told
