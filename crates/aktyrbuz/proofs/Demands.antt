@@ -139,7 +139,7 @@ refused-leaves-zero = record {
 pub refused-draws-nothing : RefusedDrawsNothing
 unfolding drawing.drawOf
 refused-draws-nothing t s y x0 n a o c p d e =
-    go (drawing.judgeOf t s y x0 n (length (a .r0)) (length (a .r1)) (length (a .r2))) (draw-equation t s y x0 n a o d)
+    go (drawing.judgeDraw t s y x0 n (length (a .r0)) (length (a .r1)) (length (a .r2))) (draw-equation t s y x0 n a o d)
   where
     go : (v : Judged) → o ≡ drawing.outcome v t s y x0 n a → o .channels ≡ a
     go judged.Fine f =
@@ -149,7 +149,7 @@ refused-draws-nothing t s y x0 n a o c p d e =
     go (judged.Fault k) f = ap (λ (u : drawing.DrawOutcome). u .channels) f
 
 drawn-fine : (t : drawing.Table) (s : Sight) (y x0 n : ℕ) (a : drawing.Channels) (z : drawing.DrawOutcome) → z ≡ drawing.drawOf t s y x0 n a
-    → drawing.judgeOf t s y x0 n (length (a .r0)) (length (a .r1)) (length (a .r2)) ≡ judged.Fine → z .answer ≡ DrawAnswer.Done (z .told .updates)
+    → drawing.judgeDraw t s y x0 n (length (a .r0)) (length (a .r1)) (length (a .r2)) ≡ judged.Fine → z .answer ≡ DrawAnswer.Done (z .told .updates)
 unfolding drawing.drawOf
 drawn-fine t s y x0 n a z e f = rw (e, f)
 

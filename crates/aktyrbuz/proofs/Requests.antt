@@ -26,7 +26,7 @@ use Rattle.checks.specs.declared.Verdict.{Verdict}
 use Rattle.checks.specs.declared.Verdict.the-variants.{Fine, Fault}
 use Rattle.checks.proofs.Entries.{and-left, and-right}
 use Rattle.checks.proofs.Refusals.{counts-fit-for, row-fine-for, counts-fit, row-fine}
-use Rattle.draw.specs.Draw.{Channels, DrawOutcome, updates, judgeOf, outcome, drawOf}
+use Rattle.draw.specs.Draw.{Channels, DrawOutcome, updates, judgeDraw, outcome, drawOf}
 use Rattle.draw.proofs.Alike.{whole-row}
 use Rattle.draw.specs.Keeps.{Updates}
 use Rattle.draw.specs.Parts.{Whole}
@@ -307,7 +307,7 @@ outside-reach-untouched = record {
 -- a drawing that is done counts its updates
 drawn-count : (t : Table) (s : Sight) (y x0 n : ℕ) (a : Channels) (o : DrawOutcome) (m : ℕ) → o ≡ drawOf t s y x0 n a → o .answer ≡ DrawAnswer.Done m → m ≡ updates (t .segments) x0 n (shownOf t s y)
 unfolding drawOf
-drawn-count t s y x0 n a o m e d = go (judgeOf t s y x0 n (length (a .r0)) (length (a .r1)) (length (a .r2))) (sym d ∙ ap (λ (q : DrawOutcome). q .answer) e)
+drawn-count t s y x0 n a o m e d = go (judgeDraw t s y x0 n (length (a .r0)) (length (a .r1)) (length (a .r2))) (sym d ∙ ap (λ (q : DrawOutcome). q .answer) e)
   where
     go : (v : Verdict) → DrawAnswer.Done m ≡ outcome v t s y x0 n a .answer → m ≡ updates (t .segments) x0 n (shownOf t s y)
     go (Fault c) f = let z : _≡_ {A = ℕ} 0 1 = cc in absurd (omega (arith, z))

@@ -19,7 +19,7 @@ use Rattle.desks.specs.Agree.{OwnBitsAlike, Agree, NothingHidden}
 use Rattle.desks.specs.Hide.{HideOutcome, HideRefusal}
 use Rattle.desks.specs.declared.HideAnswer.{HideAnswer}
 use Rattle.checks.specs.Tables.{Table, rowOf, shownOf}
-use Rattle.draw.specs.Draw.{Channels, DrawOutcome, unhidden, judgeOf}
+use Rattle.draw.specs.Draw.{Channels, DrawOutcome, unhidden, judgeDraw}
 use Rattle.draw.specs.Keeps.{Updates, SameCell}
 use Rattle.draw.specs.declared.DrawAnswer.{DrawAnswer}
 use Rattle.hull.specs.Reach.{ReachOutcome, reachOver, judgeReachOf, reachAnswer, tells}
@@ -424,7 +424,7 @@ BuiltIsLent =
 -- with no bit of the desk set over the splines all is as it was without desks: a drawing is the fold over the row's entries themselves, and so is a reach; no segment is left out of demand 3
 pub record AsWithoutDesks : Type 0 where
   pub draw : (t : Table) (s : Sight) (y x0 n : ℕ) (a : Channels) (o : DrawOutcome) → NothingHidden s → DrawCall t s y x0 n a o
-      → o ≡ unhidden (judgeOf t s y x0 n (length (a .r0)) (length (a .r1)) (length (a .r2))) t y x0 n a
+      → o ≡ unhidden (judgeDraw t s y x0 n (length (a .r0)) (length (a .r1)) (length (a .r2))) t y x0 n a
   pub reach : (t : Table) (s : Sight) (y W : ℕ) (o : ReachOutcome) → NothingHidden s → ReachCall t s y W o
       → o ≡ tells (reachAnswer (judgeReachOf t s y W) (reachOver (t .segments) W (rowOf t y)))
   pub segments : (d : Description) (i : Setting) (segments : List Segment) (owners : List ℕ) (s : Sight) → KeptSight d i segments owners s → NothingHidden s → notHidden s owners segments ≡ segments

@@ -2,7 +2,7 @@
 use mathlib.Core.List.{List}
 use Prim.Native.Nat.{ℕ}
 use lib.ListN.{length, replicate}
-use lib.Ieee.{Float, binary32, ofBits}
+use lib.Ieee.{Float}
 use Rattle.numbers.specs.Arith.{0·0}
 use Rattle.buffers.specs.Padded.{padded}
 use Rattle.codes.specs.Codes.{numberOf}
@@ -72,7 +72,7 @@ leaves r path walk segments owners starts entries = record {
 }
 
 abbrev pub zeros : ℕ → List Float
-zeros n = replicate n (ofBits binary32 0)
+zeros n = replicate n 0·0
 
 -- every lent cell zero
 unfoldable pub refusedWith : BuildRooms → Code → ℕ → BuildOutcome

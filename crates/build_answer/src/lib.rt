@@ -2,7 +2,7 @@
 ghost use mathlib.Core.Path.{_≡_};
 ghost use Prim.Native.Nat.{_*_, _≤_, _<_, _^_};
 ghost use lib.ListN.{length, take};
-ghost use Rattle.rows.specs.Rows.{inRow, built};
+ghost use Rattle.rows.specs.Rows.{inRow, listedRows};
 ghost use Rattle.build_answer.specs.Answer.{roomsOf, leaves, refusedWith, afterRows};
 use codes::Code;
 use rows::Listed;
@@ -45,7 +45,7 @@ pub fn list_segments(
 ) -> BuildAnswer
     requires { ⌜ (8 * count ≤ length (now segments)) × (count ≤ length (now owners)) × (count ≤ 2 ^ 24) × (height ≤ 2 ^ 23) × (height < length (now «row_starts»)) ⌝ }
     ensures { λ r. ⌜ leaves r (now (path .exit)) (now (walk .exit)) (now (segments .exit)) (now (owners .exit)) (now («row_starts» .exit)) (now (entries .exit))
-        ≡ afterRows (roomsOf (now (path .entry)) (now (walk .entry)) (now (segments .entry)) (now (owners .entry)) (now («row_starts» .entry)) (now (entries .entry))) estimate count (take (8 * count) (now (segments .entry))) (take count (now (owners .entry))) (built (inRow (now (segments .entry))) count height (length (now («row_starts» .entry))) (length (now (entries .entry)))) ⌝ }
+        ≡ afterRows (roomsOf (now (path .entry)) (now (walk .entry)) (now (segments .entry)) (now (owners .entry)) (now («row_starts» .entry)) (now (entries .entry))) estimate count (take (8 * count) (now (segments .entry))) (take count (now (owners .entry))) (listedRows (inRow (now (segments .entry))) count height (length (now («row_starts» .entry))) (length (now (entries .entry)))) ⌝ }
 {
     match rows::list_rows(segments, count, height as usize, row_starts, entries) {
         Listed::Room => refuse(

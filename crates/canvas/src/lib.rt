@@ -72,7 +72,7 @@ pub fn say_built(segments: u32, faint: u32, entries: u32, estimate: u64) -> u8
 }
 
 // How many updates a part took; or it was not drawn, or not written.
-enum Part {
+enum Took {
     Updates(u64),
     Failed,
 }
@@ -120,7 +120,7 @@ fn draw_part(
     y: u32,
     x0: u32,
     n: u32,
-) -> Part
+) -> Took
     requires { ⌜ n ≤ 2048 ⌝ }
 {
     let mut r0 = [0.0f32; CELLS];
@@ -147,12 +147,12 @@ fn draw_part(
         &mut r1,
         &mut r2,
     ) {
-        DrawAnswer::Refused(_, _) => Part::Failed,
+        DrawAnswer::Refused(_, _) => Took::Failed,
         DrawAnswer::Done(updates) => {
             if write_part(task, n as usize, &r0, &r1, &r2) {
-                Part::Updates(updates)
+                Took::Updates(updates)
             } else {
-                Part::Failed
+                Took::Failed
             }
         }
     }
@@ -169,13 +169,13 @@ fn draw_row(
     bits: &[u8],
     task: Task,
     y: u32,
-) -> Part {
+) -> Took {
     let width = task.width;
     let mut sum: u64 = 0;
     let mut x0: u32 = 0;
     while x0 < width {
         let n = strip_of(width - x0);
-        let Part::Updates(updates) = draw_part(
+        let Took::Updates(updates) = draw_part(
             segments,
             owners,
             segment_count,
@@ -188,12 +188,12 @@ fn draw_row(
             x0,
             n,
         ) else {
-            return Part::Failed;
+            return Took::Failed;
         };
         sum = numbers::saturating_add(sum, updates);
         x0 += n;
     }
-    Part::Updates(sum)
+    Took::Updates(sum)
 }
 
 // The row that is written after k others: a file of floats begins with the bottom row.
@@ -226,14 +226,14 @@ fn draw_rows(
     row_starts: &[u32],
     bits: &[u8],
     task: Task,
-) -> Part {
+) -> Took {
     let height = task.height;
     let mut sum: u64 = 0;
     let mut k: u32 = 0;
     while k < height {
         say_progress(task, k);
         let y = row_after(task, k);
-        let Part::Updates(updates) = draw_row(
+        let Took::Updates(updates) = draw_row(
             segments,
             owners,
             segment_count,
@@ -244,12 +244,12 @@ fn draw_rows(
             task,
             y,
         ) else {
-            return Part::Failed;
+            return Took::Failed;
         };
         sum = numbers::saturating_add(sum, updates);
         k += 1;
     }
-    Part::Updates(sum)
+    Took::Updates(sum)
 }
 
 // The head of a picture: its kind, its size, and the greatest tone or the order of bytes.
@@ -403,8 +403,8 @@ pub fn draw(
         bits,
         task,
     ) {
-        Part::Failed => no_picture(),
-        Part::Updates(updates) => words::out(
+        Took::Failed => no_picture(),
+        Took::Updates(updates) => words::out(
             b"# updates, # rows that hold anything\n",
             &[
                 updates,

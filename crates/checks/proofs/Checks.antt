@@ -8,7 +8,7 @@ use borrow.Author.Tests.{ltb-true, leb-true}
 use Rattle.codes.specs.declared.Code.{Code}
 use Rattle.desks.specs.Desks.{Sight, deskGood, bytesGood, allOwned}
 use Rattle.checks.specs.Tables.{Table, rowOf}
-use Rattle.checks.specs.Checks.{allBelow, countsGood, countsGoodFor, spanGood, entriesGood, rowGood, rowGoodFor, orFault, judgeRow, judgeOf}
+use Rattle.checks.specs.Checks.{allBelow, countsGood, countsGoodFor, spanGood, entriesGood, rowGood, rowGoodFor, orFault, judgeRow, judgeDraw}
 use Rattle.checks.specs.Refusals.{CountsFit, CountsFitFor, SpanFits, Lent}
 use Rattle.checks.specs.declared.Verdict.{Verdict}
 use Rattle.checks.specs.declared.Verdict.the-variants.{Fine, Fault}
@@ -113,8 +113,8 @@ pub record Passed (t : Table) (s : Sight) (y x0 n l0 l1 l2 : ℕ) : Type 0 where
   pub span : SpanFits x0 n l0 l1 l2
   pub row : RowFactsFor t s y
 
-pub judged-fine : (t : Table) (s : Sight) (y x0 n l0 l1 l2 : ℕ) → judgeOf t s y x0 n l0 l1 l2 ≡ Fine → Passed t s y x0 n l0 l1 l2
-unfolding judgeOf
+pub judged-fine : (t : Table) (s : Sight) (y x0 n l0 l1 l2 : ℕ) → judgeDraw t s y x0 n l0 l1 l2 ≡ Fine → Passed t s y x0 n l0 l1 l2
+unfolding judgeDraw
 judged-fine t s y x0 n l0 l1 l2 h =
     let s1 = passed-check (deskGood s) Code.Desk _ h in
     let p = judged-row t s y (spanGood x0 n l0 l1 l2) (s1 .1) in

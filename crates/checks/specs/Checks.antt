@@ -57,5 +57,5 @@ judgeRow t s y spanned =
     (orFault (ltb y (t .height)) Code.Row (orFault spanned Code.Span (orFault (rowGoodFor t s y) Code.Table Fine))))
 
 -- the checks of drawing: the desk, and those of a row
-unfoldable pub judgeOf : Table → Sight → ℕ → ℕ → ℕ → ℕ → ℕ → ℕ → Verdict
-judgeOf t s y x0 n l0 l1 l2 = orFault (deskGood s) Code.Desk (judgeRow t s y (spanGood x0 n l0 l1 l2))
+unfoldable pub judgeDraw : Table → Sight → ℕ → ℕ → ℕ → ℕ → ℕ → ℕ → Verdict
+judgeDraw t s y x0 n l0 l1 l2 = orFault (deskGood s) Code.Desk (judgeRow t s y (spanGood x0 n l0 l1 l2))

@@ -7,7 +7,7 @@ ghost use lib.ListN.{length};
 ghost use lib.Seq.{slice};
 ghost use Rattle.desks.specs.Desks.{sightOf, allOwned};
 ghost use Rattle.checks.specs.Tables.{tableOf, entriesOf};
-ghost use Rattle.checks.specs.Checks.{countsGood, spanGood, allBelow, entriesGood, judgeRow, judgeOf};
+ghost use Rattle.checks.specs.Checks.{countsGood, spanGood, allBelow, entriesGood, judgeRow, judgeDraw};
 use codes::Code;
 
 // What the checks say.
@@ -190,7 +190,7 @@ pub fn judge(
     l1: usize,
     l2: usize,
 ) -> Verdict
-    ensures { λ r. ⌜ r ≡ judgeOf (tableOf (now (segments .entry)) «segment_count» (now (entries .entry)) «entry_count» (now («row_starts» .entry)) height) (sightOf (now (owners .entry)) splines (now (bits .entry)) desk) y x0 n l0 l1 l2 ⌝ }
+    ensures { λ r. ⌜ r ≡ judgeDraw (tableOf (now (segments .entry)) «segment_count» (now (entries .entry)) «entry_count» (now («row_starts» .entry)) height) (sightOf (now (owners .entry)) splines (now (bits .entry)) desk) y x0 n l0 l1 l2 ⌝ }
 {
     if 2 <= desk {
         return Verdict::Fault(Code::Desk);

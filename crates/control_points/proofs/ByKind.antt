@@ -14,7 +14,7 @@ use Rattle.kinds.specs.declared.KindI32.the-variants as I32
 use Rattle.kinds.proofs.ByKind.{saturated-i32}
 use Rattle.control_points.specs.ControlPoints.{coordinateBy, roundedOf}
 use Rattle.control_points.specs.ByKind.{taken, StartByKind}
-use Rattle.control_points.specs.declared.Whole.the-variants as W
+use Rattle.control_points.specs.declared.Coordinate.the-variants as W
 
 -- a number that is held to the range of an i32 is no coordinate where that changed it
 by-tests : (a b : Bool) (z : ℤ) → coordinateBy (cond a I32.Above (cond b I32.Below (I32.Exact z))) ≡ taken (saturatedI32 (cond a I32.Above (cond b I32.Below (I32.Exact z))))

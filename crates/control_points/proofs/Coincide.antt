@@ -8,9 +8,9 @@ use native.Mathlib.Omega.{arith}
 use lib.Dec.{eqb, ltb}
 use lib.IntN.{ℤ, pos, negsuc, natAbs, _+ℤ_}
 use borrow.Author.Tests.{eqb-true, eqb-false, eq-eqb, ne-eqb, ltb-true, ltb-false}
-use Rattle.control_points.specs.ControlPoints.{onward, stepOf, traceFrom, traceOf, runAt, plusOf, manhattanOf, movedOf, placeAt, laterPoints, controlPoints, validPointPos, samePoint, coincideFrom, adjacentCoincide}
+use Rattle.control_points.specs.ControlPoints.{onward, stepOf, traceFrom, traceOf, runAt, plusOf, manhattanOf, movedOf, standAt, laterPoints, controlPoints, validPointPos, samePoint, coincideFrom, adjacentCoincide}
 use Rattle.control_points.specs.declared.Pair.{Pair}
-use Rattle.control_points.specs.declared.Place.{Place}
+use Rattle.control_points.specs.declared.Stand.{Stand}
 use Rattle.control_points.specs.declared.Run.{Run}
 use Rattle.control_points.specs.declared.Traced.{Traced}
 use Rattle.control_points.specs.declared.Traced.the-variants.{On, Stop}
@@ -82,7 +82,7 @@ same-next p d g h =
 
 -- ---- the flag of a run
 
-abbrev pub controlOf : Run → Place
+abbrev pub controlOf : Run → Stand
 controlOf r = record { delta = r .delta; point = r .point }
 
 either : (r e t : Bool) → cond (cond r true e) true t ≡ cond r true (cond e true t)
@@ -119,7 +119,7 @@ flag-is limit r (a ∷ b ∷ ds) s h =
 
 -- the flag of a spline that was not refused is the test over all its control points
 pub coincides : (limit : ℕ) (start : Pair) (ds : List ℤ) (s : Run) → traceOf limit start ds ≡ On s → s .coincide ≡ adjacentCoincide (controlPoints start ds)
-unfolding traceOf runAt placeAt controlPoints adjacentCoincide
+unfolding traceOf runAt standAt controlPoints adjacentCoincide
 coincides limit start ds s h = flag-is limit (runAt start) ds s h
 
 -- Assumes nothing.

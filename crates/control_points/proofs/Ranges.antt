@@ -13,8 +13,8 @@ use Rattle.codes.proofs.Decides.{Decides, both, both-decide}
 use Rattle.control_points.specs.ControlPoints.{inRange, belowDeltaLimit, validPointPos, validDoubleDelta, roundedOf, joined, startingPoint}
 use Rattle.control_points.specs.Refusals.{InRange, Beyond, Inside, Outside, Small, Large, roundedStart, RoundsTo, Strays}
 use Rattle.control_points.specs.declared.Pair.{Pair}
-use Rattle.control_points.specs.declared.Whole.{Whole}
-use Rattle.control_points.specs.declared.Whole.the-variants as W
+use Rattle.control_points.specs.declared.Coordinate.{Coordinate}
+use Rattle.control_points.specs.declared.Coordinate.the-variants as W
 use Rattle.control_points.specs.declared.Start.{Start}
 use Rattle.control_points.specs.declared.Start.the-variants as S
 use Rattle.control_points.proofs.ByKind.{start-by-kind}
@@ -129,7 +129,7 @@ module _ (x y : Float) where
   unfolding startingPoint
   starts-at p h = go (roundedOf x) (roundedOf y) refl refl h
     where
-      go : (a b : Whole) → roundedOf x ≡ a → roundedOf y ≡ b → joined a b ≡ S.At p → RoundsTo x (p .x) × RoundsTo y (p .y)
+      go : (a b : Coordinate) → roundedOf x ≡ a → roundedOf y ≡ b → joined a b ≡ S.At p → RoundsTo x (p .x) × RoundsTo y (p .y)
       go W.Out b e f q = absurd (let z : _≡_ {A = ℕ} 0 1 = cc in omega arith)
       go (W.At a) W.Out e f q = absurd (let z : _≡_ {A = ℕ} 0 1 = cc in omega arith)
       go (W.At a) (W.At b) e f q =
@@ -144,7 +144,7 @@ module _ (x y : Float) where
   unfolding startingPoint
   starts-out h = go (roundedOf x) (roundedOf y) refl refl h
     where
-      go : (a b : Whole) → roundedOf x ≡ a → roundedOf y ≡ b → joined a b ≡ S.Out → Strays x ⊎ Strays y
+      go : (a b : Coordinate) → roundedOf x ≡ a → roundedOf y ≡ b → joined a b ≡ S.Out → Strays x ⊎ Strays y
       go W.Out b e f q = inl (strays x e)
       go (W.At a) W.Out e f q = inr (strays y f)
       go (W.At a) (W.At b) e f q = absurd (let z : _≡_ {A = ℕ} 0 1 = cc in omega arith)
@@ -154,7 +154,7 @@ module _ (x y : Float) where
   starting-out (inl s) = rw (strayed x s)
   starting-out (inr s) = go (roundedOf x) (strayed y s)
     where
-      go : (a : Whole) → roundedOf y ≡ W.Out → joined a (roundedOf y) ≡ S.Out
+      go : (a : Coordinate) → roundedOf y ≡ W.Out → joined a (roundedOf y) ≡ S.Out
       go W.Out e = refl
       go (W.At a) e = rw e
 

@@ -8,8 +8,8 @@ use lib.Ieee.{Float, binary32, isNan, toSigned}
 use Rattle.wholes.specs.Whole.{roundOf}
 use Rattle.control_points.specs.ControlPoints.{inRange, roundedOf, joined, startingPoint, validPointPos}
 use Rattle.control_points.specs.declared.Pair.{Pair}
-use Rattle.control_points.specs.declared.Whole.{Whole}
-use Rattle.control_points.specs.declared.Whole.the-variants as W
+use Rattle.control_points.specs.declared.Coordinate.{Coordinate}
+use Rattle.control_points.specs.declared.Coordinate.the-variants as W
 use Rattle.control_points.specs.declared.Start.the-variants as S
 use Rattle.control_points.proofs.ByKind.{start-by-kind}
 
@@ -24,7 +24,7 @@ taken x w h =
     let p = picked (isNan x) (inRange z) z w (sym (start-by-kind x) ∙ h) in
     subst (λ (v : ℤ). inRange v ≡ true) (p .1) (p .0)
 
-parts : (p q : Whole) (s : Pair) → joined p q ≡ S.At s → (p ≡ W.At (s .x)) × (q ≡ W.At (s .y))
+parts : (p q : Coordinate) (s : Pair) → joined p q ≡ S.At s → (p ≡ W.At (s .x)) × (q ≡ W.At (s .y))
 parts W.Out q s h = absurd (let e : _≡_ {A = ℕ} 0 1 = cc in omega arith)
 parts (W.At a) W.Out s h = absurd (let e : _≡_ {A = ℕ} 0 1 = cc in omega arith)
 parts (W.At a) (W.At b) s h =

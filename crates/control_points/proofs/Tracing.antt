@@ -13,10 +13,10 @@ use lib.ListN.{length, getD, drop, length-drop}
 use borrow.Author.Tests.{leb-true, leb-false}
 use Rattle.codes.specs.declared.Code.{Code}
 use Rattle.codes.specs.declared.Code.the-variants.{Delta, Position, Distance}
-use Rattle.control_points.specs.ControlPoints.{orStop, onward, stepOf, traceFrom, traceOf, runAt, pairAt, plusOf, manhattanOf, placeAt, movedOf, laterPoints, controlPoints, validDoubleDelta, validPointPos}
+use Rattle.control_points.specs.ControlPoints.{orStop, onward, stepOf, traceFrom, traceOf, runAt, pairAt, plusOf, manhattanOf, standAt, movedOf, laterPoints, controlPoints, validDoubleDelta, validPointPos}
 use Rattle.control_points.specs.Refusals.{Inside, Outside, Small, Large, nowhere, plusUpTo, sumUpTo, deltaAt, controlPointAt, farAt, farOf, PointsAre, PairPasses, PairRefusal, delta-large, delta-outside, too-far, point-outside}
 use Rattle.control_points.specs.declared.Pair.{Pair}
-use Rattle.control_points.specs.declared.Place.{Place}
+use Rattle.control_points.specs.declared.Stand.{Stand}
 use Rattle.control_points.specs.declared.Run.{Run}
 use Rattle.control_points.specs.declared.Traced.{Traced}
 use Rattle.control_points.specs.declared.Traced.the-variants.{On, Stop}
@@ -224,7 +224,7 @@ module _ (limit : ℕ) (start : Pair) (ds : List ℤ) where
 -- ---- the control points
 
 module _ (start : Pair) (ds : List ℤ) where
-  later-at : (m k : ℕ) (p : Place) → p .delta ≡ plusUpTo nowhere (pairAt ds) k → p .point ≡ plusUpTo start (deltaAt ds) k → 2 * (k + m) + 2 ≤ length ds
+  later-at : (m k : ℕ) (p : Stand) → p .delta ≡ plusUpTo nowhere (pairAt ds) k → p .point ≡ plusUpTo start (deltaAt ds) k → 2 * (k + m) + 2 ≤ length ds
       → getD (laterPoints p (drop (2 * k) ds)) m nowhere ≡ controlPointAt start ds (k + m)
   unfolding movedOf deltaAt controlPointAt plusUpTo
   later-at zero k p a b h = let e : k + 0 ≡ k = omega arith in rw (e, points-more p ds k (omega arith), a, b)
@@ -234,7 +234,7 @@ module _ (start : Pair) (ds : List ℤ) where
       rw (e, points-more p ds k (omega arith)) (later-at m (k + 1) q (rw (add-one k, a)) (rw (add-one k, a, b)) (omega arith))
 
 pub points-are : PointsAre
-unfolding controlPoints placeAt plusUpTo
-points-are start ds j h = later-at start ds j 0 (placeAt start) refl refl (omega arith) ∙ (let e : 0 + j ≡ j = omega arith in ap (controlPointAt start ds) e)
+unfolding controlPoints standAt plusUpTo
+points-are start ds j h = later-at start ds j 0 (standAt start) refl refl (omega arith) ∙ (let e : 0 + j ≡ j = omega arith in ap (controlPointAt start ds) e)
 
 -- Assumes nothing.

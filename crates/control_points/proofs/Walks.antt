@@ -6,10 +6,10 @@ use Prim.Native.Nat.{ℕ, _+_, _*_, _/_, _<_, _≤_}
 use native.Mathlib.Omega.{arith}
 use lib.IntN.{ℤ}
 use lib.ListN.{length, drop}
-use Rattle.control_points.specs.ControlPoints.{onward, stepOf, traceFrom, traceOf, runAt, pairAt, plusOf, movedOf, placeAt, laterPoints, controlPoints, validDoubleDelta, validPointPos}
+use Rattle.control_points.specs.ControlPoints.{onward, stepOf, traceFrom, traceOf, runAt, pairAt, plusOf, movedOf, standAt, laterPoints, controlPoints, validDoubleDelta, validPointPos}
 use Rattle.control_points.specs.Asked.{passes, Passable, Moves}
 use Rattle.control_points.specs.declared.Pair.{Pair}
-use Rattle.control_points.specs.declared.Place.{Place}
+use Rattle.control_points.specs.declared.Stand.{Stand}
 use Rattle.control_points.specs.declared.Run.{Run}
 use Rattle.control_points.specs.declared.Traced.{Traced}
 use Rattle.control_points.specs.declared.Traced.the-variants.{On, Stop}
@@ -39,13 +39,13 @@ trace-walks limit r (a ∷ []) s h = refl
 trace-walks limit r (a ∷ b ∷ ds) s h =
     stepped limit r (record { x = a; y = b }) ds s (λ t. trace-walks limit t ds s) (stepOf limit r (record { x = a; y = b })) refl h
 
-pub traced-walk : (limit : ℕ) (start : Pair) (ds : List ℤ) (s : Run) → validPointPos start ≡ true → traceOf limit start ds ≡ On s → Passable (placeAt start) ds
-unfolding traceOf runAt placeAt validPointPos
+pub traced-walk : (limit : ℕ) (start : Pair) (ds : List ℤ) (s : Run) → validPointPos start ≡ true → traceOf limit start ds ≡ On s → Passable (standAt start) ds
+unfolding traceOf runAt standAt validPointPos
 traced-walk limit start ds s h e = record { delta = refl; point = h; rest = trace-walks limit (runAt start) ds s e }
 
 -- ---- the walk at the pair k
 
-module _ (p : Place) (ds : List ℤ) (k : ℕ) (h : 2 * k + 2 ≤ length ds) where
+module _ (p : Stand) (ds : List ℤ) (k : ℕ) (h : 2 * k + 2 ≤ length ds) where
   pub points-more : laterPoints p (drop (2 * k) ds) ≡ movedOf p (pairAt ds k) .point ∷ laterPoints (movedOf p (pairAt ds k)) (drop (2 * (k + 1)) ds)
   unfolding laterPoints
   points-more = rw (pair-drop ds k h)
@@ -71,13 +71,13 @@ module _ (p : Place) (ds : List ℤ) (k : ℕ) (h : 2 * k + 2 ≤ length ds) whe
         let g = both (validPointPos (q .point)) _ (e .1) in
         record { delta = e .0; point = g .0; rest = g .1 }
 
-pub points-done : (p : Place) (ds : List ℤ) → length ds < 2 → laterPoints p ds ≡ []
+pub points-done : (p : Stand) (ds : List ℤ) → length ds < 2 → laterPoints p ds ≡ []
 unfolding laterPoints
 points-done p [] h = refl
 points-done p (a ∷ []) h = refl
 points-done p (a ∷ b ∷ ds) h = absurd (omega arith)
 
-pub points-length : (p : Place) (ds : List ℤ) → length (laterPoints p ds) ≡ length ds / 2
+pub points-length : (p : Stand) (ds : List ℤ) → length (laterPoints p ds) ≡ length ds / 2
 unfolding laterPoints
 points-length p [] = refl
 points-length p (a ∷ []) = refl
@@ -89,7 +89,7 @@ unfoldable pub allInRange : List Pair → Bool
 allInRange [] = true
 allInRange (p ∷ l) = cond (validPointPos p) (allInRange l) false
 
-later-in-range : (p : Place) (ds : List ℤ) → passes p ds ≡ true → allInRange (laterPoints p ds) ≡ true
+later-in-range : (p : Stand) (ds : List ℤ) → passes p ds ≡ true → allInRange (laterPoints p ds) ≡ true
 unfolding passes laterPoints allInRange
 later-in-range p [] w = refl
 later-in-range p (a ∷ []) w = refl
@@ -100,8 +100,8 @@ later-in-range p (a ∷ b ∷ ds) w =
     let g = both (validPointPos (q .point)) _ (e .1) in
     rw (g .0) (later-in-range q ds (g .1))
 
-pub points-in-range : (start : Pair) (ds : List ℤ) → Passable (placeAt start) ds → allInRange (controlPoints start ds) ≡ true
-unfolding controlPoints placeAt allInRange
-points-in-range start ds w = rw (w .point) (later-in-range (placeAt start) ds (w .rest))
+pub points-in-range : (start : Pair) (ds : List ℤ) → Passable (standAt start) ds → allInRange (controlPoints start ds) ≡ true
+unfolding controlPoints standAt allInRange
+points-in-range start ds w = rw (w .point) (later-in-range (standAt start) ds (w .rest))
 
 -- Assumes nothing.

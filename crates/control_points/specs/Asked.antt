@@ -7,7 +7,7 @@ use lib.IntN.{ℤ}
 use lib.Signed.{mag}
 use Rattle.control_points.specs.ControlPoints.{validPointPos, validDoubleDelta, plusOf, movedOf}
 use Rattle.control_points.specs.declared.Pair.{Pair}
-use Rattle.control_points.specs.declared.Place.{Place}
+use Rattle.control_points.specs.declared.Stand.{Stand}
 use Rattle.control_points.specs.declared.Run.{Run}
 
 -- the sum of two such pairs fits
@@ -22,14 +22,14 @@ pub record Held (r : Run) (limit : ℕ) : Type 0 where
   pub manhattan : r .manhattan ≤ limit
 
 -- the sums of a move fit
-pub record Moves (p : Place) (dd : Pair) : Type 0 where
+pub record Moves (p : Stand) (dd : Pair) : Type 0 where
   pub delta : Fine (p .delta)
   pub more : Fine dd
   pub next : Fine (plusOf (p .delta) dd)
   pub point : Fine (p .point)
 
 -- every double delta, delta and point on the way from p passes its check
-unfoldable pub passes : Place → List ℤ → Bool
+unfoldable pub passes : Stand → List ℤ → Bool
 passes p [] = true
 passes p (a ∷ []) = true
 passes p (a ∷ b ∷ ds) =
@@ -37,7 +37,7 @@ passes p (a ∷ b ∷ ds) =
     cond (validDoubleDelta (record { x = a; y = b })) (cond (validPointPos (q .delta)) (cond (validPointPos (q .point)) (passes q ds) false) false) false
 
 -- the control points from p on may be gone through again
-pub record Passable (p : Place) (ds : List ℤ) : Type 0 where
+pub record Passable (p : Stand) (ds : List ℤ) : Type 0 where
   pub delta : validPointPos (p .delta) ≡ true
   pub point : validPointPos (p .point) ≡ true
   pub rest : passes p ds ≡ true

@@ -5,11 +5,11 @@ use lib.IntN.{ℤ}
 use lib.Ieee.{Float, binary32, isNan, toSigned}
 use Rattle.wholes.specs.Whole.{roundOf}
 use Rattle.control_points.specs.ControlPoints.{inRange, roundedOf}
-use Rattle.control_points.specs.declared.Whole.{Whole}
-use Rattle.control_points.specs.declared.Whole.the-variants as W
+use Rattle.control_points.specs.declared.Coordinate.{Coordinate}
+use Rattle.control_points.specs.declared.Coordinate.the-variants as W
 
 -- a whole number that is a coordinate where it is in the range
-abbrev pub taken : ℤ → Whole
+abbrev pub taken : ℤ → Coordinate
 taken z = cond (inRange z) (W.At z) W.Out
 
 -- a coordinate of a start: none where it is NaN

@@ -17,9 +17,9 @@ use Rattle.numbers.specs.Magnitude.{absOf}
 use Rattle.codes.specs.declared.Code.{Code}
 use Rattle.codes.specs.declared.Code.the-variants.{Delta, Position, Distance}
 use Rattle.control_points.specs.declared.Pair.{Pair}
-use Rattle.control_points.specs.declared.Place.{Place}
-use Rattle.control_points.specs.declared.Whole.{Whole}
-use Rattle.control_points.specs.declared.Whole.the-variants as W
+use Rattle.control_points.specs.declared.Stand.{Stand}
+use Rattle.control_points.specs.declared.Coordinate.{Coordinate}
+use Rattle.control_points.specs.declared.Coordinate.the-variants as W
 use Rattle.control_points.specs.declared.Start.{Start}
 use Rattle.control_points.specs.declared.Start.the-variants as S
 use Rattle.control_points.specs.declared.Run.{Run}
@@ -59,17 +59,17 @@ pairAt l k = record { x = getD l (2 * k) (pos 0); y = getD l (2 * k + 1) (pos 0)
 -- ---- the start
 
 -- a coordinate by its kind: an exact number in the range is one
-abbrev pub coordinateBy : KindI32 → Whole
+abbrev pub coordinateBy : KindI32 → Coordinate
 coordinateBy (I32.Exact z) = cond (inRange z) (W.At z) W.Out
 coordinateBy I32.NotNumber = W.Out
 coordinateBy I32.Below = W.Out
 coordinateBy I32.Above = W.Out
 
 -- `x.round()` as an i32, where it is in the range; a NaN is not
-unfoldable pub roundedOf : Float → Whole
+unfoldable pub roundedOf : Float → Coordinate
 roundedOf x = coordinateBy (cutI32 (roundOf binary32 x))
 
-abbrev pub joined : Whole → Whole → Start
+abbrev pub joined : Coordinate → Coordinate → Start
 joined W.Out q = S.Out
 joined (W.At a) W.Out = S.Out
 joined (W.At a) (W.At b) = S.At (record { x = a; y = b })
@@ -80,21 +80,21 @@ startingPoint x y = joined (roundedOf x) (roundedOf y)
 -- ---- the points
 
 -- where all begins: no delta yet
-unfoldable pub placeAt : Pair → Place
-placeAt start = record { delta = record { x = pos 0; y = pos 0 }; point = start }
+unfoldable pub standAt : Pair → Stand
+standAt start = record { delta = record { x = pos 0; y = pos 0 }; point = start }
 
 -- one double delta on: it is added to the delta, and the delta to the point
-unfoldable pub movedOf : Place → Pair → Place
+unfoldable pub movedOf : Stand → Pair → Stand
 movedOf p dd = let delta = plusOf (p .delta) dd in record { delta = delta; point = plusOf (p .point) delta }
 
 -- the points after a place, one for each double delta
-unfoldable pub laterPoints : Place → List ℤ → List Pair
+unfoldable pub laterPoints : Stand → List ℤ → List Pair
 laterPoints p [] = []
 laterPoints p (a ∷ []) = []
 laterPoints p (a ∷ b ∷ ds) = let q = movedOf p (record { x = a; y = b }) in q .point ∷ laterPoints q ds
 
 unfoldable pub controlPoints : Pair → List ℤ → List Pair
-controlPoints start ds = start ∷ laterPoints (placeAt start) ds
+controlPoints start ds = start ∷ laterPoints (standAt start) ds
 
 -- ---- COINCIDE
 

@@ -4,7 +4,7 @@ ghost use mathlib.Core.Bool.{true};
 ghost use Prim.Native.Nat.{_+_, _*_, _≤_};
 ghost use lib.IntN.{natAbs};
 ghost use lib.ListN.{length};
-ghost use Rattle.control_points.specs.ControlPoints.{inRange, belowDeltaLimit, validPointPos, validDoubleDelta, plusOf, manhattanOf, pairAt, roundedOf, startingPoint, movedOf, placeAt, stepOf, traceOf};
+ghost use Rattle.control_points.specs.ControlPoints.{inRange, belowDeltaLimit, validPointPos, validDoubleDelta, plusOf, manhattanOf, pairAt, roundedOf, startingPoint, movedOf, standAt, stepOf, traceOf};
 ghost use Rattle.control_points.specs.Asked.{Fine, Held, Moves};
 use codes::Code;
 use kinds::KindI32;
@@ -16,13 +16,13 @@ pub struct Pair {
 }
 
 // A control point, and the delta that led to it.
-pub struct Place {
+pub struct Stand {
     pub delta: Pair,
     pub point: Pair,
 }
 
 // A coordinate of a start, made whole.
-pub enum Whole {
+pub enum Coordinate {
     At(i32),
     Out,
 }
@@ -32,7 +32,7 @@ pub enum Start {
     Out,
 }
 
-// A place that every check let through, with the Manhattan sum so far, and whether two adjacent points were the same.
+// A stand that every check let through, with the Manhattan sum so far, and whether two adjacent points were the same.
 pub struct Run {
     pub delta: Pair,
     pub point: Pair,
@@ -70,20 +70,20 @@ pub fn unsigned_abs(v: i32) -> u64
     if w >= 0 { w as u64 } else { (0 - w) as u64 }
 }
 
-fn rounded(x: f32) -> Whole
+fn rounded(x: f32) -> Coordinate
     ensures { λ r. ⌜ r ≡ roundedOf x ⌝ }
 {
     match kinds::rounded_to_i32(x) {
         KindI32::Exact(z) => {
             if in_range(z) {
-                Whole::At(z)
+                Coordinate::At(z)
             } else {
-                Whole::Out
+                Coordinate::Out
             }
         }
-        KindI32::NotNumber => Whole::Out,
-        KindI32::Below => Whole::Out,
-        KindI32::Above => Whole::Out,
+        KindI32::NotNumber => Coordinate::Out,
+        KindI32::Below => Coordinate::Out,
+        KindI32::Above => Coordinate::Out,
     }
 }
 
@@ -92,10 +92,10 @@ pub fn starting_point(x: f32, y: f32) -> Start
     ensures { λ r. ⌜ r ≡ startingPoint x y ⌝ }
 {
     match rounded(x) {
-        Whole::Out => Start::Out,
-        Whole::At(a) => match rounded(y) {
-            Whole::Out => Start::Out,
-            Whole::At(b) => Start::At(Pair { x: a, y: b }),
+        Coordinate::Out => Start::Out,
+        Coordinate::At(a) => match rounded(y) {
+            Coordinate::Out => Start::Out,
+            Coordinate::At(b) => Start::At(Pair { x: a, y: b }),
         },
     }
 }
@@ -149,24 +149,24 @@ impl Pair {
     }
 }
 
-impl Place {
-    pub fn at(start: Pair) -> Place
-        ensures { λ r. ⌜ r ≡ placeAt start ⌝ }
+impl Stand {
+    pub fn at(start: Pair) -> Stand
+        ensures { λ r. ⌜ r ≡ standAt start ⌝ }
     {
-        Place {
+        Stand {
             delta: Pair { x: 0, y: 0 },
             point: start,
         }
     }
 
     // The next place of a walk that was traced before.
-    pub fn moved(self, dd: Pair) -> Place
+    pub fn moved(self, dd: Pair) -> Stand
         requires { ⌜ Moves self dd ⌝ }
         ensures { λ r. ⌜ r ≡ movedOf self dd ⌝ }
     {
         let delta = self.delta.plus(dd);
         let point = self.point.plus(delta);
-        Place { delta, point }
+        Stand { delta, point }
     }
 }
 

@@ -16,16 +16,16 @@ use Rattle.curve.specs.Curve.{flat, curvedOf, curvedOn}
 use Rattle.curve.proofs.Paths.{length-flat}
 
 -- a path of n points had room and stands on the front of the buffer e
-pub record Drawn (room : ℕ) (path : List Point) (e : List Float) (n : ℕ) : Type 0 where
+pub record OnFront (room : ℕ) (path : List Point) (e : List Float) (n : ℕ) : Type 0 where
   pub count : n ≡ length path
   pub fits : n ≤ room
   pub front : take (2 * n) e ≡ flat path
 
-pub curved-got : (room : ℕ) (path : List Point) (o e : List Float) (n : ℕ) → Points n ≡ curvedOf room path → e ≡ curvedOn room path o → Drawn room path e n
+pub curved-got : (room : ℕ) (path : List Point) (o e : List Float) (n : ℕ) → Points n ≡ curvedOf room path → e ≡ curvedOn room path o → OnFront room path e n
 unfolding curvedOf curvedOn
 curved-got room path o e n a b = go (leb (length path) room) refl a b
   where
-    go : (t : Bool) → leb (length path) room ≡ t → Points n ≡ cond t (Points (length path)) Room → e ≡ cond t (onto (flat path) o) o → Drawn room path e n
+    go : (t : Bool) → leb (length path) room ≡ t → Points n ≡ cond t (Points (length path)) Room → e ≡ cond t (onto (flat path) o) o → OnFront room path e n
     go false h a b = absurd (let z : _≡_ {A = ℕ} 0 1 = cc in omega arith)
     go true h a b =
         let k : n ≡ length path = cc in

@@ -9,7 +9,7 @@ use lib.IntN.{ℤ}
 use lib.ListN.{length, length-append}
 use lib.Ieee.{Float}
 use Rattle.buffers.specs.Onto.{onto}
-use Rattle.control_points.specs.ControlPoints.{placeAt, laterPoints, controlPoints}
+use Rattle.control_points.specs.ControlPoints.{standAt, laterPoints, controlPoints}
 use Rattle.control_points.specs.declared.Pair.{Pair}
 use Rattle.control_points.proofs.Walks.{points-length, points-done}
 use Rattle.curve.specs.declared.Point.{Point}
@@ -114,17 +114,17 @@ length-points (p ∷ l) = ap suc (length-points l)
 pub length-path : (start : Pair) (ds : List ℤ) → length (pathOf start ds) ≡ 16 * (length ds / 2) + 1
 unfolding pathOf controlPoints asPoints
 length-path start ds =
-    length-drawn (pointOf start) (asPoints (laterPoints (placeAt start) ds))
-    ∙ omega (arith, length-points (laterPoints (placeAt start) ds), points-length (placeAt start) ds)
+    length-drawn (pointOf start) (asPoints (laterPoints (standAt start) ds))
+    ∙ omega (arith, length-points (laterPoints (standAt start) ds), points-length (standAt start) ds)
 
 pub path-length : PathLength
 unfolding controlPoints
-path-length start ds = omega (arith, length-path start ds, points-length (placeAt start) ds)
+path-length start ds = omega (arith, length-path start ds, points-length (standAt start) ds)
 
 -- the start alone
 pub path-one : (start : Pair) (ds : List ℤ) → length ds < 2 → flat (pathOf start ds) ≡ two (pointOf start)
 unfolding pathOf controlPoints asPoints drawCentripetalCatmullRomSpline flat
-path-one start ds h = rw (points-done (placeAt start) ds h)
+path-one start ds h = rw (points-done (standAt start) ds h)
 
 -- ---- the answer and the buffer
 

@@ -14,7 +14,7 @@ use Rattle.roots.specs.Length.{hypotOf}
 use Rattle.ieee754.proofs.Hypot.{hypot-is-length}
 use Rattle.buffers.specs.Onto.{onto}
 use Rattle.buffers.proofs.Filling.{Filled, filled-more, filled-all}
-use Rattle.control_points.specs.ControlPoints.{validPointPos, plusOf, placeAt, movedOf, laterPoints, controlPoints}
+use Rattle.control_points.specs.ControlPoints.{validPointPos, plusOf, standAt, movedOf, laterPoints, controlPoints}
 use Rattle.control_points.specs.Asked.{Passable}
 use Rattle.control_points.specs.declared.Pair.{Pair}
 use Rattle.control_points.proofs.Pairs.{in-range-mag, point-range, abs-mag}
@@ -24,7 +24,7 @@ use Rattle.curve.specs.declared.Window.{Window}
 use Rattle.curve.specs.declared.Turn.{Turn}
 use Rattle.curve.specs.Points.{absPoint}
 use Rattle.curve.specs.Curve.{pointOf, asPoints, reflected, rootDistance, windowOf, windowPoints, pathOf, flat}
-use Rattle.curve.specs.Turns.{rootLength, nextPlace, firstTurn, nextTurn, turnWindow, lastWindow}
+use Rattle.curve.specs.Turns.{rootLength, nextStand, firstTurn, nextTurn, turnWindow, lastWindow}
 use Rattle.curve.proofs.Wholes.{add-wholes, sub-wholes}
 use Rattle.curve.proofs.Paths.{two, length-flat-window, restPath, rest-last, rest-more, path-flat}
 
@@ -145,23 +145,23 @@ module _ (p d : Pair) (g : Half p) (h : Half d) where
 pub record Under (t : Turn) (ds : List ℤ) (k : ℕ) : Type 0 where
   pub from : Pair
   pub valid : validPointPos from ≡ true
-  pub led : t .place .point ≡ plusOf from (t .place .delta)
+  pub led : t .stand .point ≡ plusOf from (t .stand .delta)
   pub q : t .q ≡ pointOf from
-  pub r : t .r ≡ pointOf (t .place .point)
+  pub r : t .r ≡ pointOf (t .stand .point)
   pub d0 : t .d0 ≡ rootDistance (t .p) (t .q)
-  pub d1 : t .d1 ≡ rootLength (t .place .delta)
-  pub walk : Passable (t .place) (drop (2 * k) ds)
+  pub d1 : t .d1 ≡ rootLength (t .stand .delta)
+  pub walk : Passable (t .stand) (drop (2 * k) ds)
 
 module _ (t : Turn) (ds : List ℤ) (k : ℕ) (u : Under t ds k) where
-  delta-half : Half (t .place .delta)
-  delta-half = half (t .place .delta) (u .walk .delta)
+  delta-half : Half (t .stand .delta)
+  delta-half = half (t .stand .delta) (u .walk .delta)
 
-  point-half : Half (t .place .point)
-  point-half = half (t .place .point) (u .walk .point)
+  point-half : Half (t .stand .point)
+  point-half = half (t .stand .point) (u .walk .point)
 
   second : t .d1 ≡ rootDistance (t .q) (t .r)
   second =
-      let d = t .place .delta in
+      let d = t .stand .delta in
       let a = half (u .from) (u .valid) in
       u .d1
       ∙ sym (apart (u .from) d (exact (u .from) a) (exact d delta-half) (exact-plus (u .from) d a delta-half))
@@ -169,8 +169,8 @@ module _ (t : Turn) (ds : List ℤ) (k : ℕ) (u : Under t ds k) where
 
   third : t .d1 ≡ rootDistance (t .r) (reflected (t .r) (t .q))
   third =
-      let b = t .place .point in
-      let d = t .place .delta in
+      let b = t .stand .point in
+      let d = t .stand .delta in
       let a = half (u .from) (u .valid) in
       let s : Exact (plusOf (u .from) d) = rw (u .led) at (exact b point-half) in
       let e : reflected (t .r) (t .q) ≡ pointOf (plusOf b d) = rw (u .r, u .q, u .led) (reflect-ahead (u .from) d a delta-half s) in
@@ -180,11 +180,11 @@ window-is : {p q r s : Point} {a b c d e f : Float} → a ≡ d → b ≡ e → 
     → _≡_ {A = Window} (record { p0 = p; p1 = q; p2 = r; p3 = s; d0 = a; d1 = b; d2 = c }) (record { p0 = p; p1 = q; p2 = r; p3 = s; d0 = d; d1 = e; d2 = f })
 window-is g h i = rw (g, h, i)
 
-pub first-under : (start : Pair) (ds : List ℤ) → Passable (placeAt start) ds → 2 ≤ length ds → Under (firstTurn start (nextPlace (placeAt start) ds 0)) ds 1
-unfolding firstTurn movedOf placeAt
+pub first-under : (start : Pair) (ds : List ℤ) → Passable (standAt start) ds → 2 ≤ length ds → Under (firstTurn start (nextStand (standAt start) ds 0)) ds 1
+unfolding firstTurn movedOf standAt
 first-under start ds w h =
-    let m = walk-more (placeAt start) ds 0 h w in
-    let d = nextPlace (placeAt start) ds 0 .delta in
+    let m = walk-more (standAt start) ds 0 h w in
+    let d = nextStand (standAt start) ds 0 .delta in
     record {
       from = start;
       valid = w .point;
@@ -197,22 +197,22 @@ first-under start ds w h =
     }
 
 module _ (t : Turn) (ds : List ℤ) (k : ℕ) (u : Under t ds k) where
-  pub next-under : 2 * k + 2 ≤ length ds → Under (nextTurn t (nextPlace (t .place) ds k)) ds (k + 1)
+  pub next-under : 2 * k + 2 ≤ length ds → Under (nextTurn t (nextStand (t .stand) ds k)) ds (k + 1)
   unfolding nextTurn movedOf
   next-under h = record {
-    from = t .place .point;
+    from = t .stand .point;
     valid = u .walk .point;
     led = refl;
     q = u .r;
     r = refl;
     d0 = second t ds k u;
     d1 = refl;
-    walk = walk-more (t .place) ds k h (u .walk);
+    walk = walk-more (t .stand) ds k h (u .walk);
   }
 
-  turn-window : (h : 2 * k + 2 ≤ length ds) → let n = nextTurn t (nextPlace (t .place) ds k) in turnWindow t (n .r) (n .d1) ≡ windowOf (t .p) (t .q) (t .r) (n .r)
+  turn-window : (h : 2 * k + 2 ≤ length ds) → let n = nextTurn t (nextStand (t .stand) ds k) in turnWindow t (n .r) (n .d1) ≡ windowOf (t .p) (t .q) (t .r) (n .r)
   unfolding windowOf nextTurn
-  turn-window h = window-is (u .d0) (second t ds k u) (second (nextTurn t (nextPlace (t .place) ds k)) ds (k + 1) (next-under h))
+  turn-window h = window-is (u .d0) (second t ds k u) (second (nextTurn t (nextStand (t .stand) ds k)) ds (k + 1) (next-under h))
 
   last-window : lastWindow t ≡ windowOf (t .p) (t .q) (t .r) (reflected (t .r) (t .q))
   unfolding windowOf
@@ -222,33 +222,33 @@ module _ (t : Turn) (ds : List ℤ) (k : ℕ) (u : Under t ds k) where
 
 -- what is still to come of the path at a turn before the pair k
 unfoldable pub turnPath : Turn → List ℤ → ℕ → List Float
-turnPath t ds k = restPath (t .p) (t .q) (t .r) (asPoints (laterPoints (t .place) (drop (2 * k) ds)))
+turnPath t ds k = restPath (t .p) (t .q) (t .r) (asPoints (laterPoints (t .stand) (drop (2 * k) ds)))
 
-pub path-begin : (start : Pair) (ds : List ℤ) → 2 ≤ length ds → flat (pathOf start ds) ≡ turnPath (firstTurn start (nextPlace (placeAt start) ds 0)) ds 1
+pub path-begin : (start : Pair) (ds : List ℤ) → 2 ≤ length ds → flat (pathOf start ds) ≡ turnPath (firstTurn start (nextStand (standAt start) ds 0)) ds 1
 unfolding pathOf controlPoints asPoints firstTurn turnPath
 path-begin start ds h =
-    let l = laterPoints (nextPlace (placeAt start) ds 0) (drop 2 ds) in
-    rw (points-more (placeAt start) ds 0 h) (path-flat (pointOf start) (pointOf (nextPlace (placeAt start) ds 0 .point)) (asPoints l))
+    let l = laterPoints (nextStand (standAt start) ds 0) (drop 2 ds) in
+    rw (points-more (standAt start) ds 0 h) (path-flat (pointOf start) (pointOf (nextStand (standAt start) ds 0 .point)) (asPoints l))
 
 module _ (t : Turn) (ds : List ℤ) (k : ℕ) (u : Under t ds k) where
-  path-step : 2 * k + 2 ≤ length ds → let n = nextTurn t (nextPlace (t .place) ds k) in turnPath t ds k ≡ flat (windowPoints (turnWindow t (n .r) (n .d1))) ++ turnPath n ds (k + 1)
+  path-step : 2 * k + 2 ≤ length ds → let n = nextTurn t (nextStand (t .stand) ds k) in turnPath t ds k ≡ flat (windowPoints (turnWindow t (n .r) (n .d1))) ++ turnPath n ds (k + 1)
   unfolding turnPath asPoints nextTurn
   path-step h =
-      let n = nextPlace (t .place) ds k in
-      rw (turn-window t ds k u h, points-more (t .place) ds k h)
+      let n = nextStand (t .stand) ds k in
+      rw (turn-window t ds k u h, points-more (t .stand) ds k h)
       (rest-more (t .p) (t .q) (t .r) (pointOf (n .point)) (asPoints (laterPoints n (drop (2 * (k + 1)) ds))))
 
   path-last : length ds < 2 * k + 2 → turnPath t ds k ≡ flat (windowPoints (lastWindow t)) ++ two (t .r)
   unfolding turnPath asPoints
   path-last h =
-      let e : laterPoints (t .place) (drop (2 * k) ds) ≡ [] = points-done (t .place) (drop (2 * k) ds) (rw length-drop (omega arith)) in
+      let e : laterPoints (t .stand) (drop (2 * k) ds) ≡ [] = points-done (t .stand) (drop (2 * k) ds) (rw length-drop (omega arith)) in
       rw (last-window t ds k u, e) (rest-last (t .p) (t .q) (t .r))
 
   -- a window is stored
   pub filled-turn : {whole o₀ : List Float} {c : ℕ} (o : List Float) → Filled whole o₀ o (turnPath t ds k) c → 2 * k + 2 ≤ length ds → c + 32 ≤ length o₀
-      → let n = nextTurn t (nextPlace (t .place) ds k) in Filled whole o₀ (sets o c (flat (windowPoints (turnWindow t (n .r) (n .d1))))) (turnPath n ds (k + 1)) (c + 32)
+      → let n = nextTurn t (nextStand (t .stand) ds k) in Filled whole o₀ (sets o c (flat (windowPoints (turnWindow t (n .r) (n .d1))))) (turnPath n ds (k + 1)) (c + 32)
   filled-turn {whole} {o₀} {c} o f h g =
-      let n = nextTurn t (nextPlace (t .place) ds k) in
+      let n = nextTurn t (nextStand (t .stand) ds k) in
       let w = turnWindow t (n .r) (n .d1) in
       let l : length (flat (windowPoints w)) ≡ 32 = length-flat-window w in
       filled-more (flat (windowPoints w)) (turnPath n ds (k + 1)) (rw (path-step h) at f) (omega arith) (c + 32) (omega arith)

@@ -7,7 +7,7 @@ use Rattle.roots.specs.Root.{sqrtOf}
 use Rattle.roots.specs.Length.{lengthOf}
 use Rattle.control_points.specs.ControlPoints.{pairAt, movedOf}
 use Rattle.control_points.specs.declared.Pair.{Pair}
-use Rattle.control_points.specs.declared.Place.{Place}
+use Rattle.control_points.specs.declared.Stand.{Stand}
 use Rattle.curve.specs.declared.Point.{Point}
 use Rattle.curve.specs.declared.Window.{Window}
 use Rattle.curve.specs.declared.Turn.{Turn}
@@ -17,27 +17,27 @@ use Rattle.curve.specs.Curve.{pointOf, reflected}
 unfoldable pub rootLength : Pair → Float
 rootLength d = sqrtOf binary32 (lengthOf (d .x) (d .y))
 
--- the place one double delta on
-abbrev pub nextPlace : Place → List ℤ → ℕ → Place
-nextPlace p ds k = movedOf p (pairAt ds k)
+-- the stand one double delta on
+abbrev pub nextStand : Stand → List ℤ → ℕ → Stand
+nextStand p ds k = movedOf p (pairAt ds k)
 
--- at the start, which is followed by a place; before it stands its reflection
-unfoldable pub firstTurn : Pair → Place → Turn
-firstTurn start place =
+-- at the start, which is followed by a stand; before it stands its reflection
+unfoldable pub firstTurn : Pair → Stand → Turn
+firstTurn start stand =
     let q = pointOf start in
-    let r = pointOf (place .point) in
-    let d = rootLength (place .delta) in
-    record { p = reflected q r; q = q; r = r; place = place; d0 = d; d1 = d }
+    let r = pointOf (stand .point) in
+    let d = rootLength (stand .delta) in
+    record { p = reflected q r; q = q; r = r; stand = stand; d0 = d; d1 = d }
 
--- one place on
-unfoldable pub nextTurn : Turn → Place → Turn
-nextTurn t place = record {
+-- one stand on
+unfoldable pub nextTurn : Turn → Stand → Turn
+nextTurn t stand = record {
   p = t .q;
   q = t .r;
-  r = pointOf (place .point);
-  place = place;
+  r = pointOf (stand .point);
+  stand = stand;
   d0 = t .d1;
-  d1 = rootLength (place .delta);
+  d1 = rootLength (stand .delta);
 }
 
 -- a turn's three points and a fourth

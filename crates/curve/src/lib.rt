@@ -5,14 +5,14 @@ ghost use Prim.Native.Nat.{_+_, _*_, _/_, _≤_, _<_};
 ghost use lib.ListN.{length, drop};
 ghost use lib.Seq.{sets};
 ghost use Rattle.buffers.specs.Onto.{onto};
-ghost use Rattle.control_points.specs.ControlPoints.{validPointPos, placeAt};
+ghost use Rattle.control_points.specs.ControlPoints.{validPointPos, standAt};
 ghost use Rattle.control_points.specs.Asked.{Passable};
 ghost use Rattle.curve.specs.Points.{addPoint, subPoint, mulPoint};
 ghost use Rattle.curve.specs.Windows.{toward, time, levels, windowPoint};
 ghost use Rattle.curve.specs.Curve.{pointOf, reflected, interpolated, windowPoints, pathOf, flat, pathRoom, curvedOf, curvedOn};
-ghost use Rattle.curve.specs.Turns.{rootLength, nextPlace, firstTurn, nextTurn, turnWindow, lastWindow};
+ghost use Rattle.curve.specs.Turns.{rootLength, nextStand, firstTurn, nextTurn, turnWindow, lastWindow};
 use control_points::Pair;
-use control_points::Place;
+use control_points::Stand;
 
 // ---- points
 
@@ -144,12 +144,12 @@ fn put_window(out: &mut [f32], k: usize, w: Window)
 
 // ---- turns
 
-// Three points that follow one another, with the place of the last one and the roots of both distances.
+// Three points that follow one another, with the stand of the last one and the roots of both distances.
 struct Turn {
     p: Point,
     q: Point,
     r: Point,
-    place: Place,
+    stand: Stand,
     d0: f32,
     d1: f32,
 }
@@ -161,47 +161,47 @@ fn root_length(delta: Pair) -> f32
     roots::root(roots::length(delta.x, delta.y))
 }
 
-// The place that the double delta k leads to.
-fn next_place(place: Place, deltas: &[i32], k: usize) -> Place
-    requires { ⌜ Passable place (drop (2 * k) (now deltas)) × (2 * k + 2 ≤ length (now deltas)) ⌝ }
-    ensures { λ r. ⌜ r ≡ nextPlace place (now (deltas .entry)) k ⌝ }
+// The stand that the double delta k leads to.
+fn next_stand(stand: Stand, deltas: &[i32], k: usize) -> Stand
+    requires { ⌜ Passable stand (drop (2 * k) (now deltas)) × (2 * k + 2 ≤ length (now deltas)) ⌝ }
+    ensures { λ r. ⌜ r ≡ nextStand stand (now (deltas .entry)) k ⌝ }
 {
-    place.moved(Pair::of(deltas, k))
+    stand.moved(Pair::of(deltas, k))
 }
 
 impl Turn {
-    // At the start, which is followed by a place. The reflected point lies as far away as the next one.
-    fn first(start: Pair, place: Place) -> Turn
-        requires { ⌜ (validPointPos start ≡ true) × (validPointPos (place .point) ≡ true) ⌝ }
-        ensures { λ r. ⌜ r ≡ firstTurn start place ⌝ }
+    // At the start, which is followed by a stand. The reflected point lies as far away as the next one.
+    fn first(start: Pair, stand: Stand) -> Turn
+        requires { ⌜ (validPointPos start ≡ true) × (validPointPos (stand .point) ≡ true) ⌝ }
+        ensures { λ r. ⌜ r ≡ firstTurn start stand ⌝ }
     {
         let q = Point::of(start);
-        let r = Point::of(place.point);
+        let r = Point::of(stand.point);
         let p = q.reflected(r);
-        let d = root_length(place.delta);
+        let d = root_length(stand.delta);
         Turn {
             p,
             q,
             r,
-            place,
+            stand,
             d0: d,
             d1: d,
         }
     }
 
-    fn next(self, place: Place) -> Turn
-        requires { ⌜ validPointPos (place .point) ≡ true ⌝ }
-        ensures { λ r. ⌜ r ≡ nextTurn self place ⌝ }
+    fn next(self, stand: Stand) -> Turn
+        requires { ⌜ validPointPos (stand .point) ≡ true ⌝ }
+        ensures { λ r. ⌜ r ≡ nextTurn self stand ⌝ }
     {
         let p = self.q;
         let q = self.r;
-        let r = Point::of(place.point);
-        let d = root_length(place.delta);
+        let r = Point::of(stand.point);
+        let d = root_length(stand.delta);
         Turn {
             p,
             q,
             r,
-            place,
+            stand,
             d0: self.d1,
             d1: d,
         }
@@ -236,21 +236,21 @@ impl Turn {
 
 // The turn at the start of a path of two control points or more.
 fn first_turn(start: Pair, deltas: &[i32]) -> Turn
-    requires { ⌜ Passable (placeAt start) (now deltas) × (2 ≤ length (now deltas)) ⌝ }
-    ensures { λ r. ⌜ r ≡ firstTurn start (nextPlace (placeAt start) (now (deltas .entry)) 0) ⌝ }
+    requires { ⌜ Passable (standAt start) (now deltas) × (2 ≤ length (now deltas)) ⌝ }
+    ensures { λ r. ⌜ r ≡ firstTurn start (nextStand (standAt start) (now (deltas .entry)) 0) ⌝ }
 {
-    Turn::first(start, next_place(Place::at(start), deltas, 0))
+    Turn::first(start, next_stand(Stand::at(start), deltas, 0))
 }
 
 // The path through m + 1 control points.
 fn put_path(start: Pair, deltas: &[i32], out: &mut [f32], m: usize)
-    requires { ⌜ Passable (placeAt start) (now deltas) × (m ≡ length (now deltas) / 2) × (0 < m) × (32 * m + 2 ≤ length (now out)) ⌝ }
+    requires { ⌜ Passable (standAt start) (now deltas) × (m ≡ length (now deltas) / 2) × (0 < m) × (32 * m + 2 ≤ length (now out)) ⌝ }
     ensures { λ _. ⌜ now (out .exit) ≡ onto (flat (pathOf start (now (deltas .entry)))) (now (out .entry)) ⌝ }
 {
     let mut t = first_turn(start, deltas);
     let mut k = 0;
     while k + 1 < m {
-        let next = t.next(next_place(t.place, deltas, k + 1));
+        let next = t.next(next_stand(t.stand, deltas, k + 1));
         put_window(out, 32 * k, t.window(next.r, next.d1));
         t = next;
         k += 1;
@@ -275,7 +275,7 @@ fn path_room(len: usize) -> usize
 
 // The path of a spline that was traced before, on the front of out.
 pub fn curve(start: Pair, deltas: &[i32], out: &mut [f32]) -> Curved
-    requires { ⌜ Passable (placeAt start) (now deltas) ⌝ }
+    requires { ⌜ Passable (standAt start) (now deltas) ⌝ }
     ensures { λ r. ⌜ (r ≡ curvedOf (pathRoom (length (now (out .entry)))) (pathOf start (now (deltas .entry))))
         × (now (out .exit) ≡ curvedOn (pathRoom (length (now (out .entry)))) (pathOf start (now (deltas .entry))) (now (out .entry))) ⌝ }
 {

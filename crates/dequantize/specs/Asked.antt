@@ -3,7 +3,7 @@ use mathlib.Core.Path.{_≡_}
 use mathlib.Core.List.{List}
 use lib.IntN.{ℤ}
 use lib.Ieee.{Float}
-use Rattle.control_points.specs.ControlPoints.{startingPoint, placeAt, controlPoints, adjacentCoincide, traceOf}
+use Rattle.control_points.specs.ControlPoints.{startingPoint, standAt, controlPoints, adjacentCoincide, traceOf}
 use Rattle.control_points.specs.Asked.{Passable}
 use Rattle.control_points.specs.declared.Pair.{Pair}
 use Rattle.control_points.specs.declared.Run.{Run}
@@ -19,5 +19,5 @@ pub record SplineAccepted (x y : Float) (ds c : List ℤ) (g : Given) : Type 0 w
   pub begins : startingPoint x y ≡ At start
   pub traced : traceOf (g .limit) start ds ≡ On run
   pub is : dequantizeOf x y ds c g ≡ finishedOf c g (run .manhattan) (run .coincide)
-  pub walk : Passable (placeAt start) ds
+  pub walk : Passable (standAt start) ds
   pub coincide : dequantizeOf x y ds c g .coincide ≡ adjacentCoincide (controlPoints start ds)

@@ -60,8 +60,8 @@ unfoldable pub gainedOf : List Float → Float → List Float → List Float
 gainedOf x k y = table (gainedAt x k y) 32
 
 -- X and B gain from Y
-unfoldable pub rowsOf : List ℤ → Float → Float → Float → Rows
-rowsOf c quant ytox ytob =
+unfoldable pub gainedRows : List ℤ → Float → Float → Float → Rows
+gainedRows c quant ytox ytob =
     let y = coefficientRow c 32 0·075 quant in
     record {
       x = gainedOf (coefficientRow c 0 0·0042 quant) ytox y;

@@ -4,11 +4,12 @@ use mathlib.Core.List.{List}
 use Prim.Native.Nat.{ℕ}
 use lib.IntN.{ℤ}
 use lib.ListN.{replicate}
-use lib.Ieee.{Float, binary32, ofBits}
+use lib.Ieee.{Float}
+use Rattle.numbers.specs.Arith.{0·0}
 use Rattle.codes.specs.declared.Code.{Code}
 use Rattle.codes.specs.declared.Code.the-variants.{Done, Position}
 use Rattle.control_points.specs.ControlPoints.{startingPoint, traceOf}
-use Rattle.dequantize.specs.Coefficients.{invAdjustedQuant, rowsOf}
+use Rattle.dequantize.specs.Coefficients.{invAdjustedQuant, gainedRows}
 use Rattle.estimate.specs.Estimate.{estimateOf}
 use Rattle.control_points.specs.declared.Start.{Start}
 use Rattle.control_points.specs.declared.Start.the-variants.{At, Out}
@@ -19,7 +20,7 @@ use Rattle.dequantize.specs.declared.Spline.{Spline}
 
 -- a row of coefficients that are all 0
 abbrev pub zeroRow : List Float
-zeroRow = replicate 32 (ofBits binary32 0)
+zeroRow = replicate 32 0·0
 
 unfoldable pub refusedOf : Code → Spline
 refusedOf code = record { code = code; x = zeroRow; y = zeroRow; b = zeroRow; sigma = zeroRow; estimate = 0; coincide = false }
@@ -28,7 +29,7 @@ refusedOf code = record { code = code; x = zeroRow; y = zeroRow; b = zeroRow; si
 unfoldable pub finishedOf : List ℤ → Given → ℕ → Bool → Spline
 finishedOf c g manhattan coincide =
     let quant = invAdjustedQuant (g .adjustment) in
-    let rows = rowsOf c quant (g .«y_to_x») (g .«y_to_b») in
+    let rows = gainedRows c quant (g .«y_to_x») (g .«y_to_b») in
     record {
       code = Done;
       x = rows .x;

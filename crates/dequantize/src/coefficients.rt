@@ -2,7 +2,7 @@
 ghost use mathlib.Core.Path.{_≡_};
 ghost use Prim.Native.Nat.{_+_, _≤_, _<_};
 ghost use lib.ListN.{length};
-ghost use Rattle.dequantize.specs.Coefficients.{invAdjustedQuant, coefficientAt, coefficientRow, gainedOf, rowsOf};
+ghost use Rattle.dequantize.specs.Coefficients.{invAdjustedQuant, coefficientAt, coefficientRow, gainedOf, gainedRows};
 
 pub struct Rows {
     pub x: [f32; 32],
@@ -61,9 +61,9 @@ fn gained(x: [f32; 32], k: f32, y: [f32; 32]) -> [f32; 32]
     out
 }
 
-pub fn rows_of(c: &[i32], quant: f32, y_to_x: f32, y_to_b: f32) -> Rows
+pub fn gained_rows(c: &[i32], quant: f32, y_to_x: f32, y_to_b: f32) -> Rows
     requires { ⌜ 128 ≤ length (now c) ⌝ }
-    ensures { λ r. ⌜ r ≡ rowsOf (now (c .entry)) quant «y_to_x» «y_to_b» ⌝ }
+    ensures { λ r. ⌜ r ≡ gainedRows (now (c .entry)) quant «y_to_x» «y_to_b» ⌝ }
 {
     let y = row(c, 32, 0.075, quant);
     let x = gained(row(c, 0, 0.0042, quant), y_to_x, y);

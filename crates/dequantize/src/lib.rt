@@ -58,7 +58,7 @@ fn finished(c: &[i32], given: Given, manhattan: u64, coincide: bool) -> Spline
         given.limit,
         manhattan,
     );
-    let rows = coefficients::rows_of(c, quant, given.y_to_x, given.y_to_b);
+    let rows = coefficients::gained_rows(c, quant, given.y_to_x, given.y_to_b);
     let x = rows.x;
     let y = rows.y;
     let b = rows.b;

@@ -20,7 +20,7 @@ use Rattle.desks.specs.Agree.{Agree, NothingHidden}
 use Rattle.desks.proofs.Shown.{ListedShown, shown-listed}
 use Rattle.codes.specs.declared.Code.{Code}
 use Rattle.checks.specs.Tables.{Table, rowOf, shownOf}
-use Rattle.checks.specs.Checks.{spanGood, orFault, judgeRow, judgeOf}
+use Rattle.checks.specs.Checks.{spanGood, orFault, judgeRow, judgeDraw}
 use Rattle.checks.specs.Alike.{AlikeFor}
 use Rattle.checks.proofs.Checks.{RowFactsFor, judged-fine}
 use Rattle.checks.proofs.Alike as checked
@@ -43,8 +43,8 @@ module _ (A B : List Float) where
 -- ---- two tables alike in a row, by sights that agree
 
 module _ {y : ℕ} {t u : Table} {s r : Sight} (k : AlikeFor y t s u r) where
-  alike-judged : (x0 n l0 l1 l2 : ℕ) → judgeOf t s y x0 n l0 l1 l2 ≡ judgeOf u r y x0 n l0 l1 l2
-  unfolding judgeOf
+  alike-judged : (x0 n l0 l1 l2 : ℕ) → judgeDraw t s y x0 n l0 l1 l2 ≡ judgeDraw u r y x0 n l0 l1 l2
+  unfolding judgeDraw
   alike-judged x0 n l0 l1 l2 =
       ap (λ (v : Verdict). orFault (deskGood s) Code.Desk v) (checked.alike-judged k (spanGood x0 n l0 l1 l2))
       ∙ ap (λ (b : Bool). orFault b Code.Desk (judgeRow u r y (spanGood x0 n l0 l1 l2))) (checked.alike-desk k)
@@ -72,10 +72,10 @@ module _ {y : ℕ} {t u : Table} {s r : Sight} (k : AlikeFor y t s u r) where
   pub drawn-alike : (x0 n : ℕ) (a : Channels) → drawOf t s y x0 n a ≡ drawOf u r y x0 n a
   unfolding drawOf
   drawn-alike x0 n a =
-      go (judgeOf t s y x0 n (length (a .r0)) (length (a .r1)) (length (a .r2))) refl
+      go (judgeDraw t s y x0 n (length (a .r0)) (length (a .r1)) (length (a .r2))) refl
       ∙ ap (λ (v : Verdict). outcome v u r y x0 n a) (alike-judged x0 n (length (a .r0)) (length (a .r1)) (length (a .r2)))
     where
-      go : (v : Verdict) → judgeOf t s y x0 n (length (a .r0)) (length (a .r1)) (length (a .r2)) ≡ v → outcome v t s y x0 n a ≡ outcome v u r y x0 n a
+      go : (v : Verdict) → judgeDraw t s y x0 n (length (a .r0)) (length (a .r1)) (length (a .r2)) ≡ v → outcome v t s y x0 n a ≡ outcome v u r y x0 n a
       go (Fault c) e = refl
       go Fine e =
           let f = judged-fine t s y x0 n (length (a .r0)) (length (a .r1)) (length (a .r2)) e .row in
@@ -88,11 +88,11 @@ desks-apart t s r y x0 n a g e = drawn-alike (checked.agree-alike t s r y g e) x
 -- ---- nothing hidden
 
 -- what `draw` answers and leaves of a table alone, with no desk: every listed segment is drawn
-pub whole-row : (t : Table) (s : Sight) (y x0 n : ℕ) (a : Channels) → NothingHidden s → drawOf t s y x0 n a ≡ unhidden (judgeOf t s y x0 n (length (a .r0)) (length (a .r1)) (length (a .r2))) t y x0 n a
+pub whole-row : (t : Table) (s : Sight) (y x0 n : ℕ) (a : Channels) → NothingHidden s → drawOf t s y x0 n a ≡ unhidden (judgeDraw t s y x0 n (length (a .r0)) (length (a .r1)) (length (a .r2))) t y x0 n a
 unfolding drawOf
-whole-row t s y x0 n a g = go (judgeOf t s y x0 n (length (a .r0)) (length (a .r1)) (length (a .r2))) refl
+whole-row t s y x0 n a g = go (judgeDraw t s y x0 n (length (a .r0)) (length (a .r1)) (length (a .r2))) refl
   where
-    go : (v : Verdict) → judgeOf t s y x0 n (length (a .r0)) (length (a .r1)) (length (a .r2)) ≡ v → outcome v t s y x0 n a ≡ unhidden v t y x0 n a
+    go : (v : Verdict) → judgeDraw t s y x0 n (length (a .r0)) (length (a .r1)) (length (a .r2)) ≡ v → outcome v t s y x0 n a ≡ unhidden v t y x0 n a
     go (Fault c) e = refl
     go Fine e = let q = checked.shown-whole t s y g (judged-fine t s y x0 n (length (a .r0)) (length (a .r1)) (length (a .r2)) e .row) in rw q
 

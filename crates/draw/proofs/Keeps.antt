@@ -16,7 +16,7 @@ use Rattle.shade.proofs.Edits.{lt-or-ge, length-edit, getD-edit}
 use Rattle.checks.specs.declared.Verdict.{Verdict}
 use Rattle.checks.specs.declared.Verdict.the-variants.{Fine, Fault}
 use Rattle.checks.proofs.Refusals.{is-false}
-use Rattle.draw.specs.Draw.{pixel, updates, Table, Sight, shownOf, judgeOf, Channels, drawnChannel, DrawOutcome, outcome, drawOf}
+use Rattle.draw.specs.Draw.{pixel, updates, Table, Sight, shownOf, judgeDraw, Channels, drawnChannel, DrawOutcome, outcome, drawOf}
 use Rattle.draw.specs.Keeps.{Updates, SameCell, SameLengths}
 use Rattle.draw.specs.Parts.{Wide, Whole}
 
@@ -46,7 +46,7 @@ module _ (t : Table) (s : Sight) (y x0 n : ℕ) (a : Channels) where
 
   pub keeps-cells : (o : DrawOutcome) → o ≡ drawOf t s y x0 n a → (k : ℕ) → (Updates t s y x0 n k → ⊥) → SameCell k a (o .channels)
   unfolding drawOf
-  keeps-cells o e k idle = go (judgeOf t s y x0 n (length (a .r0)) (length (a .r1)) (length (a .r2))) (ap (λ (q : DrawOutcome). q .channels) e)
+  keeps-cells o e k idle = go (judgeDraw t s y x0 n (length (a .r0)) (length (a .r1)) (length (a .r2))) (ap (λ (q : DrawOutcome). q .channels) e)
     where
       go : (v : Verdict) → o .channels ≡ outcome v t s y x0 n a .channels → SameCell k a (o .channels)
       go (Fault c) q = rw q (record { cell0 = refl; cell1 = refl; cell2 = refl })
@@ -54,7 +54,7 @@ module _ (t : Table) (s : Sight) (y x0 n : ℕ) (a : Channels) where
 
   pub keeps-lengths : (o : DrawOutcome) → o ≡ drawOf t s y x0 n a → SameLengths a (o .channels)
   unfolding drawOf
-  keeps-lengths o e = go (judgeOf t s y x0 n (length (a .r0)) (length (a .r1)) (length (a .r2))) (ap (λ (q : DrawOutcome). q .channels) e)
+  keeps-lengths o e = go (judgeDraw t s y x0 n (length (a .r0)) (length (a .r1)) (length (a .r2))) (ap (λ (q : DrawOutcome). q .channels) e)
     where
       go : (v : Verdict) → o .channels ≡ outcome v t s y x0 n a .channels → SameLengths a (o .channels)
       go (Fault c) q = rw q (record { length0 = refl; length1 = refl; length2 = refl })

@@ -16,7 +16,7 @@ use Rattle.shade.specs.Edit.{edit, firstCells, inside}
 use Rattle.shade.proofs.Edits.{lt-or-ge, length-edit, getD-edit, is-edit, edit-cong, edit-edit, edit-part}
 use Rattle.checks.specs.declared.Verdict.{Verdict}
 use Rattle.checks.specs.declared.Verdict.the-variants.{Fine}
-use Rattle.draw.specs.Draw.{pixel, count, updates, Table, Sight, shownOf, deskGood, bytesGood, countsGoodFor, spanGood, rowGoodFor, judgeOf, Channels, DrawOutcome, leaves, drawnChannel, outcome, drawOf}
+use Rattle.draw.specs.Draw.{pixel, count, updates, Table, Sight, shownOf, deskGood, bytesGood, countsGoodFor, spanGood, rowGoodFor, judgeDraw, Channels, DrawOutcome, leaves, drawnChannel, outcome, drawOf}
 use Rattle.draw.specs.Parts.{Part, cuts, total, cells, placed, cellsOf, Wide, Draws, Drawn, none, more, Whole}
 use Rattle.draw.specs.declared.DrawAnswer.{DrawAnswer}
 
@@ -124,8 +124,8 @@ pub record Came (t : Table) (s : Sight) (y : ℕ) (p : Part) (a : Channels) (cou
 
 module _ (t : Table) (s : Sight) (y W : ℕ) (d : deskGood s ≡ true) (g : countsGoodFor t s ≡ true) (b : bytesGood s ≡ true) (hy : y < t .height) (r : rowGoodFor t s y ≡ true) (hW : W ≤ 2 ^ 23) where
   -- a part inside the image is drawn, for each slice is as long as the part
-  judged : (p : Part) (a l : Channels) → p .at + p .wide ≤ W → Wide W a → cellsOf 0 (p .wide) l ≡ cellsOf (p .at) (p .wide) a → judgeOf t s y (p .at) (p .wide) (length (l .r0)) (length (l .r1)) (length (l .r2)) ≡ Fine
-  unfolding judgeOf spanGood
+  judged : (p : Part) (a l : Channels) → p .at + p .wide ≤ W → Wide W a → cellsOf 0 (p .wide) l ≡ cellsOf (p .at) (p .wide) a → judgeDraw t s y (p .at) (p .wide) (length (l .r0)) (length (l .r1)) (length (l .r2)) ≡ Fine
+  unfolding judgeDraw spanGood
   judged p a l h e q =
       rw (
         d,

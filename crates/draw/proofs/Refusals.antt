@@ -11,7 +11,7 @@ use Rattle.shade.proofs.Edits.{lt-or-ge}
 use Rattle.desks.specs.Desks.{Sight}
 use Rattle.checks.specs.Tables.{Table}
 use Rattle.checks.specs.Refusals.{CountsFitFor, Lent}
-use Rattle.checks.specs.Checks.{spanGood, rowGoodFor, judgeOf}
+use Rattle.checks.specs.Checks.{spanGood, rowGoodFor, judgeDraw}
 use Rattle.checks.proofs.Refusals.{counts-fit-for, counts-overrun-for, fit-or-overrun-for, span-fits, span-out, fits-or-out, row-bad-for, fine-or-bad-for}
 use Rattle.draw.specs.Draw.{Channels, DrawOutcome, leaves, drawOf}
 use Rattle.draw.specs.Refusals.{DrawRefusal}
@@ -25,7 +25,7 @@ module _ (t : Table) (s : Sight) (y x0 n : ℕ) (a : Channels) where
 
   -- a line of the table gives its code, and leaves the channels as they were
   pub draw-refused : {c : Code} {p : ℕ} → Refusal c p → leaves (Drawing.Refused c p) a ≡ drawOf t s y x0 n a
-  unfolding judgeOf
+  unfolding judgeDraw
   draw-refused (codes.desk d) = answer-fault t s y x0 n a (rw (le-ltb (s .desk) 2 d))
   draw-refused (codes.counts d o) = answer-fault t s y x0 n a (rw (lt-ltb (s .desk) 2 d, counts-overrun-for t s o))
   draw-refused (codes.trace d f b) = answer-fault t s y x0 n a (rw (lt-ltb (s .desk) 2 d, counts-fit-for t s f, lt-leb (s .splines) (length (s .bits)) b))
@@ -54,7 +54,7 @@ module _ (t : Table) (s : Sight) (y x0 n : ℕ) (a : Channels) where
         rw (← u, ← v) l
 
     draw-passed : Lent t s → y < t .height → spanGood x0 n (length (a .r0)) (length (a .r1)) (length (a .r2)) ≡ true → rowGoodFor t s y ≡ true → ⊥
-    unfolding drawOf judgeOf
+    unfolding drawOf judgeDraw
     draw-passed l h w r =
         let f = rw (lt-ltb (s .desk) 2 (l .desk), counts-fit-for t s (l .counts), le-leb (s .splines) (length (s .bits)) (l .bytes), lt-ltb y (t .height) h, w, r) at e in
         let z : _≡_ {A = ℕ} 0 1 = cc in

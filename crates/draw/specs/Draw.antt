@@ -11,7 +11,7 @@ pub use Rattle.columns.specs.Columns.{shadedInColumn, pixel, between, count, up
 pub use Rattle.desks.specs.Desks.{Sight, sightOf, shown, deskGood, bytesGood, allOwned}
 pub use Rattle.checks.specs.Tables.{Table, tableOf, rowOf, shownOf}
 pub use Rattle.checks.specs.Checks.{allBelow, rowGood, orFault}
-unfoldable pub use Rattle.checks.specs.Checks.{countsGood, countsGoodFor, spanGood, entriesGood, rowGoodFor, judgeOf}
+unfoldable pub use Rattle.checks.specs.Checks.{countsGood, countsGoodFor, spanGood, entriesGood, rowGoodFor, judgeDraw}
 use Rattle.draw.specs.declared.DrawAnswer.{DrawAnswer}
 use Rattle.draw.specs.declared.DrawAnswer.the-variants.{Done, Refused}
 
@@ -66,4 +66,4 @@ unhidden (Fault c) t y x0 n a = leaves (Refused c 0) a
 
 -- what `draw` answers and leaves
 unfoldable pub drawOf : Table → Sight → ℕ → ℕ → ℕ → Channels → DrawOutcome
-drawOf t s y x0 n a = outcome (judgeOf t s y x0 n (length (a .r0)) (length (a .r1)) (length (a .r2))) t s y x0 n a
+drawOf t s y x0 n a = outcome (judgeDraw t s y x0 n (length (a .r0)) (length (a .r1)) (length (a .r2))) t s y x0 n a

@@ -5,10 +5,10 @@
 ghost use Prim.Native.Nat.{_≤_};
 use arguments::Kind;
 use arguments::Two;
+use build_answer::BuildAnswer;
 use canvas::Asked;
 use canvas::Task;
-use reader::ReadAnswer;
-use table::BuildAnswer;
+use read_list::ReadAnswer;
 use text::Parsed;
 
 const BYTES: usize = 65536;

@@ -29,7 +29,7 @@ use Rattle.verdict.specs.Verdict.{verdictOf}
 use Rattle.table.proofs.InRooms.{painted}
 use Rattle.table.specs.Table as building
 use Rattle.desks.specs.Desks.{Sight}
-use Rattle.draw.specs.Draw.{Table, tableOf, Channels, three, DrawOutcome, drawOf, judgeOf}
+use Rattle.draw.specs.Draw.{Table, tableOf, Channels, three, DrawOutcome, drawOf, judgeDraw}
 use Rattle.draw.specs.Draw as drawing
 use Rattle.checks.specs.declared.Verdict.{Verdict as DrawVerdict}
 use Rattle.checks.specs.declared.Verdict.the-variants as drawn
@@ -76,7 +76,7 @@ paint-whole : (r : BuildRooms) (height estimate : ℕ) (p : Painted) → BuildWh
 unfolding refusedWith
 paint-whole r height estimate (NoRoomAt k) = refl
 paint-whole r height estimate (All segs owners) =
-    rows-whole r estimate (length segs) (eights segs) owners (rows.built (rows.inRow (eights segs)) (length segs) height (r .starts) (r .entries))
+    rows-whole r estimate (length segs) (eights segs) owners (rows.listedRows (rows.inRow (eights segs)) (length segs) height (r .starts) (r .entries))
 
 judge-whole : (r : BuildRooms) (height : ℕ) (j : Judged) (p : Painted) → BuildWhole (afterJudge r height j p)
 unfolding refusedWith
@@ -96,7 +96,7 @@ drawn-whole (drawn.Fault c) t s y x0 n a = refl
 
 draw-whole : (t : Table) (s : Sight) (y x0 n : ℕ) (a : Channels) → DrawWhole (drawOf t s y x0 n a)
 unfolding drawOf
-draw-whole t s y x0 n a = drawn-whole (judgeOf t s y x0 n (length (a .r0)) (length (a .r1)) (length (a .r2))) t s y x0 n a
+draw-whole t s y x0 n a = drawn-whole (judgeDraw t s y x0 n (length (a .r0)) (length (a .r1)) (length (a .r2))) t s y x0 n a
 
 reach-whole : (t : Table) (s : Sight) (y W : ℕ) → reaching.tells (reachOf t s y W .answer) ≡ reachOf t s y W
 unfolding reachOf

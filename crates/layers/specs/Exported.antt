@@ -6,7 +6,8 @@ use Prim.Native.Nat.{ℕ, _/_}
 use lib.Dec.{leb}
 use lib.IntN.{ℤ, pos}
 use lib.ListN.{length, replicate}
-use lib.Ieee.{Float, binary32, ofBits}
+use lib.Ieee.{Float}
+use Rattle.numbers.specs.Arith.{0·0}
 use Rattle.codes.specs.Codes.{numberOf}
 use Rattle.codes.specs.declared.Code.{Code}
 use Rattle.codes.specs.declared.Code.the-variants.{Done, Room, Shape, Position}
@@ -152,8 +153,8 @@ lengthFrom n last o = cond (leb 2 n) (cond (leb n 8388608) (lengthLeaves 0 (walk
 -- ---- the transform
 
 -- a spline of these rows; its other fields do not enter the sums
-abbrev pub coefficientsOf : List Float → List Float → List Float → List Float → Spline
-coefficientsOf x y b sigma = record { code = Done; x = x; y = y; b = b; sigma = sigma; estimate = 0; coincide = false }
+abbrev pub splineOfRows : List Float → List Float → List Float → List Float → Spline
+splineOfRows x y b sigma = record { code = Done; x = x; y = y; b = b; sigma = sigma; estimate = 0; coincide = false }
 
 abbrev pub fourOf : Sums → List Float
 fourOf s = s .x ∷ s .y ∷ s .b ∷ s .sigma ∷ []
@@ -166,7 +167,7 @@ eightLeaves made numbers = record { made = made; numbers = numbers }
 -- the eight floats, or that there are none, and zeros
 abbrev pub eightIn : Added → Eight
 eightIn (Made segment) = eightLeaves true (eightOf segment)
-eightIn Nothing = eightLeaves false (replicate 8 (ofBits binary32 0))
+eightIn Nothing = eightLeaves false (replicate 8 0·0)
 
 abbrev pub twoOf : Range → List ℕ
 twoOf r = r .first ∷ r .past ∷ []

@@ -14,7 +14,7 @@ ghost use Rattle.transform.specs.Transform.{sumsOf};
 ghost use Rattle.points.specs.Points.{segmentRoom, addSegmentsFromPoints, FilledOn};
 ghost use Rattle.segments.specs.Segment.{addSegment, segmentAt};
 ghost use Rattle.segments.specs.Ranges.{rowsOf, columnsOf};
-ghost use Rattle.layers.specs.Exported.{ranOf, ranLeaves, tracedFrom, givenOf, dequantizedLeaves, dequantizedExport, judgedOf, toldJudged, judgedLeaves, refusedWith, countedLeaves, countedPath, pathLeaves, pathFrom, curvedFrom, countedWalk, walkedAlong, WalkLeft, lengthLeaves, lengthFrom, coefficientsOf, fourOf, eightIn, eightLeaves, twoOf, countedSegments, filledAlong};
+ghost use Rattle.layers.specs.Exported.{ranOf, ranLeaves, tracedFrom, givenOf, dequantizedLeaves, dequantizedExport, judgedOf, toldJudged, judgedLeaves, refusedWith, countedLeaves, countedPath, pathLeaves, pathFrom, curvedFrom, countedWalk, walkedAlong, WalkLeft, lengthLeaves, lengthFrom, splineOfRows, fourOf, eightIn, eightLeaves, twoOf, countedSegments, filledAlong};
 use codes::Code;
 use control_points::Pair;
 use control_points::Start;
@@ -334,7 +334,7 @@ fn four(sums: Sums) -> [f32; 4]
 
 // A spline of these rows; its other fields do not enter the sums.
 fn spline_of(x: [f32; 32], y: [f32; 32], b: [f32; 32], sigma: [f32; 32]) -> Spline
-    ensures { λ r. ⌜ r ≡ coefficientsOf x y b sigma ⌝ }
+    ensures { λ r. ⌜ r ≡ splineOfRows x y b sigma ⌝ }
 {
     Spline {
         code: Code::Done,
@@ -357,7 +357,7 @@ pub extern "C" fn layers_sums_at(
     t: f32,
     sums: &mut [f32; 4],
 )
-    ensures { λ _. ⌜ now (sums .exit) ≡ fourOf (sumsOf (coefficientsOf (now (x .entry)) (now (y .entry)) (now (b .entry)) (now (sigma .entry))) t) ⌝ }
+    ensures { λ _. ⌜ now (sums .exit) ≡ fourOf (sumsOf (splineOfRows (now (x .entry)) (now (y .entry)) (now (b .entry)) (now (sigma .entry))) t) ⌝ }
 {
     let spline = spline_of(*x, *y, *b, *sigma);
     let numbers = four(transform::sums_at(spline, t));
@@ -491,8 +491,8 @@ pub extern "C" fn layers_add_segments_from_points(
     segments: &mut [f32],
     count: &mut usize,
 ) -> u32
-    ensures { λ r. ⌜ (countedLeaves r (now (count .exit)) ≡ countedSegments (filledAlong (now (walk .entry)) (segmentRoom (length (now (segments .entry)))) (addSegmentsFromPoints (coefficientsOf (now (x .entry)) (now (y .entry)) (now (b .entry)) (now (sigma .entry))) (now (walk .entry)) «walk_length» «high_precision»)))
-        × FilledOn (filledAlong (now (walk .entry)) (segmentRoom (length (now (segments .entry)))) (addSegmentsFromPoints (coefficientsOf (now (x .entry)) (now (y .entry)) (now (b .entry)) (now (sigma .entry))) (now (walk .entry)) «walk_length» «high_precision»)) 0 (addSegmentsFromPoints (coefficientsOf (now (x .entry)) (now (y .entry)) (now (b .entry)) (now (sigma .entry))) (now (walk .entry)) «walk_length» «high_precision») (now (segments .entry)) (now (segments .exit)) ⌝ }
+    ensures { λ r. ⌜ (countedLeaves r (now (count .exit)) ≡ countedSegments (filledAlong (now (walk .entry)) (segmentRoom (length (now (segments .entry)))) (addSegmentsFromPoints (splineOfRows (now (x .entry)) (now (y .entry)) (now (b .entry)) (now (sigma .entry))) (now (walk .entry)) «walk_length» «high_precision»)))
+        × FilledOn (filledAlong (now (walk .entry)) (segmentRoom (length (now (segments .entry)))) (addSegmentsFromPoints (splineOfRows (now (x .entry)) (now (y .entry)) (now (b .entry)) (now (sigma .entry))) (now (walk .entry)) «walk_length» «high_precision»)) 0 (addSegmentsFromPoints (splineOfRows (now (x .entry)) (now (y .entry)) (now (b .entry)) (now (sigma .entry))) (now (walk .entry)) «walk_length» «high_precision») (now (segments .entry)) (now (segments .exit)) ⌝ }
 {
     let spline = spline_of(*x, *y, *b, *sigma);
     let counted = counted_segments(filled_along(

@@ -12,7 +12,7 @@ use lib.IntN.{ℤ, pos, _+ℤ_, _-ℤ_, +ℤ-comm, +ℤ-negℤ-cancel}
 use borrow.Author.Tests.{ltb-false}
 use Rattle.codes.specs.declared.Code.{Code}
 use Rattle.shape.specs.Shape.{pointsOf}
-use Rattle.list.specs.List.{unpackSigned, packSigned, posLimit, deltaLimit, beyond, ListRooms, Got, got, stop, Spline, spline, Splines, splines, Described, described, andThen, onto, coordinate, startsOf, deltasOf, coefficientsOf, splineIn, points, ontoSplines, splinesOf, describe, ended, afterStarts, lacking, readOf, startsList, splinesList, listOf, Near, Tame, Valid}
+use Rattle.list.specs.List.{unpackSigned, packSigned, posLimit, deltaLimit, beyond, ListRooms, Got, got, stop, Spline, spline, Splines, splines, Described, described, andThen, onto, coordinate, startsIn, deltasIn, coefficientsIn, splineIn, points, ontoSplines, splinesOf, describe, ended, afterStarts, lacking, readOf, startsList, splinesList, listOf, Near, Tame, Valid}
 use Rattle.list.proofs.Signed.{pack-unpack}
 
 -- ---- a step that gave something
@@ -37,24 +37,24 @@ module _ {A : Type 0} where
 
 -- ---- coefficients
 
-pub coefficients-read : (t n : ℕ) (l : List ℕ) (vs : List ℤ) (r : List ℕ) → coefficientsOf t n l ≡ got vs r
+pub coefficients-read : (t n : ℕ) (l : List ℕ) (vs : List ℤ) (r : List ℕ) → coefficientsIn t n l ≡ got vs r
     → (l ≡ map packSigned vs ++ r) × (length vs ≡ n)
-unfolding coefficientsOf
+unfolding coefficientsIn
 coefficients-read t zero l vs r e =
     let p : vs ≡ [] = cc in
     let q : l ≡ r = cc in
     rw (p, q) (refl, refl)
 coefficients-read t (suc n) [] vs r e = let z : _≡_ {A = ℕ} 0 1 = cc in absurd (omega arith)
 coefficients-read t (suc n) (a ∷ l) vs r e =
-    let o = onto-got (unpackSigned a ∷ []) (coefficientsOf t n l) vs r e in
+    let o = onto-got (unpackSigned a ∷ []) (coefficientsIn t n l) vs r e in
     let h = coefficients-read t n l (o .0) r (o .1) in
     rw (o .2, pack-unpack a) (ap (λ (k : List ℕ). a ∷ k) (h .0), ap suc (h .1))
 
 -- ---- double deltas
 
-pub deltas-read : (t n : ℕ) (l : List ℕ) (vs : List ℤ) (r : List ℕ) → deltasOf t n l ≡ got vs r
+pub deltas-read : (t n : ℕ) (l : List ℕ) (vs : List ℤ) (r : List ℕ) → deltasIn t n l ≡ got vs r
     → (l ≡ map packSigned vs ++ r) × (length vs ≡ 2 * n) × Tame vs
-unfolding deltasOf
+unfolding deltasIn
 deltas-read t zero l vs r e =
     let p : vs ≡ [] = cc in
     let q : l ≡ r = cc in
@@ -63,8 +63,8 @@ deltas-read t (suc n) [] vs r e = let z : _≡_ {A = ℕ} 0 1 = cc in absurd (om
 deltas-read t (suc n) (a ∷ []) vs r e = let z : _≡_ {A = ℕ} 0 1 = cc in absurd (omega arith)
 deltas-read t (suc n) (a ∷ b ∷ l) vs r e =
     let us = unpackSigned a ∷ unpackSigned b ∷ [] in
-    let c = cond-got (beyond deltaLimit (unpackSigned a) (unpackSigned b)) Code.Delta (t - length (a ∷ b ∷ l)) (onto us (deltasOf t n l)) vs r e in
-    let o = onto-got us (deltasOf t n l) vs r (c .1) in
+    let c = cond-got (beyond deltaLimit (unpackSigned a) (unpackSigned b)) Code.Delta (t - length (a ∷ b ∷ l)) (onto us (deltasIn t n l)) vs r e in
+    let o = onto-got us (deltasIn t n l) vs r (c .1) in
     let h = deltas-read t n l (o .0) r (o .1) in
     rw (o .2) (rw (pack-unpack a, pack-unpack b) (ap (λ (k : List ℕ). a ∷ b ∷ k) (h .0)), omega (arith, h .1), (c .0, h .2))
 
@@ -87,9 +87,9 @@ none-near : (first : Bool) → Near first []
 none-near true = tt
 none-near false = tt
 
-pub starts-read : (t : ℕ) (first : Bool) (x y : ℤ) (n : ℕ) (l : List ℕ) (zs : List ℤ) (r : List ℕ) → startsOf t first x y n l ≡ got zs r
+pub starts-read : (t : ℕ) (first : Bool) (x y : ℤ) (n : ℕ) (l : List ℕ) (zs : List ℤ) (r : List ℕ) → startsIn t first x y n l ≡ got zs r
     → (l ≡ startsList first x y zs ++ r) × (length zs ≡ 2 * n) × Near first zs
-unfolding startsOf
+unfolding startsIn
 starts-read t first x y zero l zs r e =
     let p : zs ≡ [] = cc in
     let q : l ≡ r = cc in
@@ -99,8 +99,8 @@ starts-read t first x y (suc n) (a ∷ []) zs r e = let z : _≡_ {A = ℕ} 0 1 
 starts-read t first x y (suc n) (a ∷ b ∷ l) zs r e =
     let cx = coordinate first x a in
     let cy = coordinate first y b in
-    let c = cond-got (beyond posLimit cx cy) Code.Coord (t - length (a ∷ b ∷ l)) (onto (cx ∷ cy ∷ []) (startsOf t false cx cy n l)) zs r e in
-    let o = onto-got (cx ∷ cy ∷ []) (startsOf t false cx cy n l) zs r (c .1) in
+    let c = cond-got (beyond posLimit cx cy) Code.Coord (t - length (a ∷ b ∷ l)) (onto (cx ∷ cy ∷ []) (startsIn t false cx cy n l)) zs r e in
+    let o = onto-got (cx ∷ cy ∷ []) (startsIn t false cx cy n l) zs r (c .1) in
     let h = starts-read t false cx cy n l (o .0) r (o .1) in
     rw (o .2)
     (rw (one-start first x y a b (o .0)) (ap (λ (k : List ℕ). a ∷ b ∷ k) (h .0)), omega (arith, h .1), near-start first x y a b (o .0) (c .0) (h .2))
@@ -139,11 +139,11 @@ unfolding splineIn
 spline-read t left room [] n ds cs r e = let z : _≡_ {A = ℕ} 0 1 = cc in absurd (omega arith)
 spline-read t left room (a ∷ l) n ds cs r e =
     let p = t - length (a ∷ l) in
-    let last : List ℤ → List ℕ → Got Spline = λ es l1. andThen (coefficientsOf t 128 l1) (λ bs l2. got (spline a es bs) l2) in
-    let c1 = cond-got (ltb left a) Code.Points p (cond (ltb room (2 * a)) (stop Code.Room p) (andThen (deltasOf t a l) last)) (spline n ds cs) r e in
-    let c2 = cond-got (ltb room (2 * a)) Code.Room p (andThen (deltasOf t a l) last) (spline n ds cs) r (c1 .1) in
-    let b1 = then-got (deltasOf t a l) last (spline n ds cs) r (c2 .1) in
-    let b2 = then-got (coefficientsOf t 128 (b1 .1)) (λ bs l2. got (spline a (b1 .0) bs) l2) (spline n ds cs) r (b1 .3) in
+    let last : List ℤ → List ℕ → Got Spline = λ es l1. andThen (coefficientsIn t 128 l1) (λ bs l2. got (spline a es bs) l2) in
+    let c1 = cond-got (ltb left a) Code.Points p (cond (ltb room (2 * a)) (stop Code.Room p) (andThen (deltasIn t a l) last)) (spline n ds cs) r e in
+    let c2 = cond-got (ltb room (2 * a)) Code.Room p (andThen (deltasIn t a l) last) (spline n ds cs) r (c1 .1) in
+    let b1 = then-got (deltasIn t a l) last (spline n ds cs) r (c2 .1) in
+    let b2 = then-got (coefficientsIn t 128 (b1 .1)) (λ bs l2. got (spline a (b1 .0) bs) l2) (spline n ds cs) r (b1 .3) in
     made t left room a l (b1 .1) (b1 .0) (b2 .0) (b2 .1) (ltb-false left a (c1 .0)) (ltb-false room (2 * a) (c2 .0))
     (deltas-read t a l (b1 .0) (b1 .1) (b1 .2)) (coefficients-read t 128 (b1 .1) (b2 .0) (b2 .1) (b2 .2)) n ds cs r (b2 .3)
 
@@ -294,7 +294,7 @@ list-read limit rooms [] a zs ns ds cs r e = let z : _≡_ {A = ℕ} 0 1 = cc in
 list-read limit rooms (v ∷ l) a zs ns ds cs r e =
     let t = length (v ∷ l) in
     let x = described a zs ns ds cs in
-    let starts = startsOf t true (pos 0) (pos 0) (v + 1) l in
+    let starts = startsIn t true (pos 0) (pos 0) (v + 1) l in
     let after : List ℤ → List ℕ → Got Described = λ ys l1. afterStarts t limit (rooms .deltas) (v + 1) ys l1 in
     let c1 = cond-got (ltb limit (v + 1)) Code.Splines 0 (cond (lacking rooms (v + 1)) (stop Code.Room 0) (andThen starts after)) x r e in
     let c2 = cond-got (lacking rooms (v + 1)) Code.Room 0 (andThen starts after) x r (c1 .1) in

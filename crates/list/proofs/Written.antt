@@ -9,16 +9,16 @@ use lib.Seq.{length-take-le}
 use lib.IntN.{ℤ, _+ℤ_, _-ℤ_, +ℤ-comm, -ℤ-+ℤ-cancel}
 use borrow.Author.Tests.{le-ltb}
 use Rattle.shape.specs.Shape.{pointsOf}
-use Rattle.list.specs.List.{unpackSigned, packSigned, got, spline, splines, startsOf, deltasOf, coefficientsOf, splineIn, splinesOf, startsList, splinesList, Near, Tame}
+use Rattle.list.specs.List.{unpackSigned, packSigned, got, spline, splines, startsIn, deltasIn, coefficientsIn, splineIn, splinesOf, startsList, splinesList, Near, Tame}
 use Rattle.list.proofs.Signed.{unpack-pack}
 
-pub coefficients-written : (t : ℕ) (vs : List ℤ) (r : List ℕ) → coefficientsOf t (length vs) (map packSigned vs ++ r) ≡ got vs r
-unfolding coefficientsOf
+pub coefficients-written : (t : ℕ) (vs : List ℤ) (r : List ℕ) → coefficientsIn t (length vs) (map packSigned vs ++ r) ≡ got vs r
+unfolding coefficientsIn
 coefficients-written t [] r = refl
 coefficients-written t (v ∷ vs) r = rw (coefficients-written t vs r, unpack-pack v)
 
-pub deltas-written : (t n : ℕ) (ds : List ℤ) (r : List ℕ) → length ds ≡ 2 * n → Tame ds → deltasOf t n (map packSigned ds ++ r) ≡ got ds r
-unfolding deltasOf
+pub deltas-written : (t n : ℕ) (ds : List ℤ) (r : List ℕ) → length ds ≡ 2 * n → Tame ds → deltasIn t n (map packSigned ds ++ r) ≡ got ds r
+unfolding deltasIn
 deltas-written t zero [] r h w = refl
 deltas-written t zero (x ∷ ds) r h w = absurd (omega arith)
 deltas-written t (suc n) [] r h w = absurd (omega arith)
@@ -29,8 +29,8 @@ again : (x a : ℤ) → x +ℤ unpackSigned (packSigned (a -ℤ x)) ≡ a
 again x a = rw (unpack-pack (a -ℤ x), +ℤ-comm x (a -ℤ x), -ℤ-+ℤ-cancel a x)
 
 pub starts-written : (t : ℕ) (first : Bool) (x y : ℤ) (n : ℕ) (zs : List ℤ) (r : List ℕ) → length zs ≡ 2 * n → Near first zs
-    → startsOf t first x y n (startsList first x y zs ++ r) ≡ got zs r
-unfolding startsOf
+    → startsIn t first x y n (startsList first x y zs ++ r) ≡ got zs r
+unfolding startsIn
 starts-written t first x y zero [] r h w = refl
 starts-written t first x y zero (a ∷ zs) r h w = absurd (omega arith)
 starts-written t first x y (suc n) [] r h w = absurd (omega arith)
@@ -53,8 +53,8 @@ pub spline-written : (t left room n : ℕ) (ds cs : List ℤ) (r : List ℕ) →
     → splineIn t left room (n ∷ (map packSigned ds ++ (map packSigned cs ++ r))) ≡ got (spline n ds cs) r
 unfolding splineIn
 spline-written t left room n ds cs r a b c d w =
-    let e : coefficientsOf t 128 (map packSigned cs ++ r) ≡ got cs r
-    = subst (λ (k : ℕ). coefficientsOf t k (map packSigned cs ++ r) ≡ got cs r) d (coefficients-written t cs r) in
+    let e : coefficientsIn t 128 (map packSigned cs ++ r) ≡ got cs r
+    = subst (λ (k : ℕ). coefficientsIn t k (map packSigned cs ++ r) ≡ got cs r) d (coefficients-written t cs r) in
     rw (le-ltb left n a, le-ltb room (2 * n) b, deltas-written t n ds (map packSigned cs ++ r) c w, e)
 
 pub splines-written : (t left room : ℕ) (ns : List ℕ) (ds cs : List ℤ) (r : List ℕ) → pointsOf ns ≤ left → 2 * pointsOf ns ≤ room → length ds ≡ 2 * pointsOf ns

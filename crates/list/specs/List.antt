@@ -84,28 +84,28 @@ coordinate true last u = pos u
 coordinate false last u = last +ℤ unpackSigned u
 
 -- n starts, where x and y are those of the last
-unfoldable pub startsOf : ℕ → Bool → ℤ → ℤ → ℕ → List ℕ → Got (List ℤ)
-startsOf total first x y zero l = got [] l
-startsOf total first x y (suc n) [] = stop Code.Short total
-startsOf total first x y (suc n) (a ∷ []) = stop Code.Short total
-startsOf total first x y (suc n) (a ∷ b ∷ l) =
+unfoldable pub startsIn : ℕ → Bool → ℤ → ℤ → ℕ → List ℕ → Got (List ℤ)
+startsIn total first x y zero l = got [] l
+startsIn total first x y (suc n) [] = stop Code.Short total
+startsIn total first x y (suc n) (a ∷ []) = stop Code.Short total
+startsIn total first x y (suc n) (a ∷ b ∷ l) =
     cond (beyond posLimit (coordinate first x a) (coordinate first y b)) (stop Code.Coord (total - length (a ∷ b ∷ l)))
-    (onto (coordinate first x a ∷ coordinate first y b ∷ []) (startsOf total false (coordinate first x a) (coordinate first y b) n l))
+    (onto (coordinate first x a ∷ coordinate first y b ∷ []) (startsIn total false (coordinate first x a) (coordinate first y b) n l))
 
 -- n pairs of double deltas
-unfoldable pub deltasOf : ℕ → ℕ → List ℕ → Got (List ℤ)
-deltasOf total zero l = got [] l
-deltasOf total (suc n) [] = stop Code.Short total
-deltasOf total (suc n) (a ∷ []) = stop Code.Short total
-deltasOf total (suc n) (a ∷ b ∷ l) =
+unfoldable pub deltasIn : ℕ → ℕ → List ℕ → Got (List ℤ)
+deltasIn total zero l = got [] l
+deltasIn total (suc n) [] = stop Code.Short total
+deltasIn total (suc n) (a ∷ []) = stop Code.Short total
+deltasIn total (suc n) (a ∷ b ∷ l) =
     cond (beyond deltaLimit (unpackSigned a) (unpackSigned b)) (stop Code.Delta (total - length (a ∷ b ∷ l)))
-    (onto (unpackSigned a ∷ unpackSigned b ∷ []) (deltasOf total n l))
+    (onto (unpackSigned a ∷ unpackSigned b ∷ []) (deltasIn total n l))
 
 -- n coefficients
-unfoldable pub coefficientsOf : ℕ → ℕ → List ℕ → Got (List ℤ)
-coefficientsOf total zero l = got [] l
-coefficientsOf total (suc n) [] = stop Code.Short total
-coefficientsOf total (suc n) (a ∷ l) = onto (unpackSigned a ∷ []) (coefficientsOf total n l)
+unfoldable pub coefficientsIn : ℕ → ℕ → List ℕ → Got (List ℤ)
+coefficientsIn total zero l = got [] l
+coefficientsIn total (suc n) [] = stop Code.Short total
+coefficientsIn total (suc n) (a ∷ l) = onto (unpackSigned a ∷ []) (coefficientsIn total n l)
 
 -- a spline, of at most `left` points, with `room` cells for its double deltas
 unfoldable pub splineIn : ℕ → ℕ → ℕ → List ℕ → Got Spline
@@ -113,7 +113,7 @@ splineIn total left room [] = stop Code.Short total
 splineIn total left room (n ∷ l) =
     cond (ltb left n) (stop Code.Points (total - length (n ∷ l)))
     (cond (ltb room (2 * n)) (stop Code.Room (total - length (n ∷ l)))
-    (andThen (deltasOf total n l) (λ ds l1. andThen (coefficientsOf total 128 l1) (λ cs l2. got (spline n ds cs) l2))))
+    (andThen (deltasIn total n l) (λ ds l1. andThen (coefficientsIn total 128 l1) (λ cs l2. got (spline n ds cs) l2))))
 
 abbrev pub points : Spline → ℕ
 points (spline n ds cs) = n
@@ -154,7 +154,7 @@ readOf limit rooms [] = stop Code.Short 0
 readOf limit rooms (v ∷ l) =
     cond (ltb limit (v + 1)) (stop Code.Splines 0)
     (cond (lacking rooms (v + 1)) (stop Code.Room 0)
-    (andThen (startsOf (length (v ∷ l)) true (pos 0) (pos 0) (v + 1) l)
+    (andThen (startsIn (length (v ∷ l)) true (pos 0) (pos 0) (v + 1) l)
     (λ zs l1. afterStarts (length (v ∷ l)) limit (rooms .deltas) (v + 1) zs l1)))
 
 -- ---- writing

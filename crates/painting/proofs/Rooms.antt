@@ -12,7 +12,7 @@ use Rattle.points.specs.Points.{segmentRoom, eights}
 use Rattle.points.proofs.Adding.{length-eights}
 use Rattle.owners.specs.Owners.{ownedRoom}
 use Rattle.painting.specs.Painting.{Painted, All, NoRoomAt, drawnOf, DrawnOn}
-use Rattle.painting.specs.declared.Drawn.{Drawn}
+use Rattle.painting.specs.declared.Segmented.{Segmented}
 
 -- so many records are lent that their room is the whole room
 pub room-is : (o : List Float) (owners room : ℕ) → room ≡ ownedRoom (length o) owners
@@ -47,7 +47,7 @@ on-part (All segs owners) room o e u v l h = (
 )
 
 -- drawing with some room for segments, on that part and on the buffer
-pub part-drawn : (paint : ℕ → Painted) (o e : List Float) (u v : List ℕ) (room : ℕ) {r : Drawn} → room ≡ ownedRoom (length o) (length u)
+pub part-drawn : (paint : ℕ → Painted) (o e : List Float) (u v : List ℕ) (room : ℕ) {r : Segmented} → room ≡ ownedRoom (length o) (length u)
     → (r ≡ drawnOf (paint (segmentRoom (length (take (8 * room) o)))))
     × DrawnOn (paint (segmentRoom (length (take (8 * room) o)))) (segmentRoom (length (take (8 * room) o))) (take (8 * room) o) e u v
     → (r ≡ drawnOf (paint (ownedRoom (length o) (length u)))) × DrawnOn (paint (ownedRoom (length o) (length u))) (ownedRoom (length o) (length u)) o (e ++ drop (8 * room) o) u v

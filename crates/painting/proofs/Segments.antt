@@ -177,8 +177,8 @@ module _ (d : Description) (g : Given) (high : Bool) where
       })
 
 module _ (d : Description) (g : Given) (high : Bool) (path walk segments owned : ℕ) (shape : Shaped d) where
-  abbrev Drawn : ℕ → List Segment → List ℕ → Type 0
-  Drawn n segs owners = DrawnUpTo d g high path walk segments owned n segs owners
+  abbrev Segmented : ℕ → List Segment → List ℕ → Type 0
+  Segmented n segs owners = DrawnUpTo d g high path walk segments owned n segs owners
 
   abbrev room : ℕ
   room = ownedRoom segments owned
@@ -204,14 +204,14 @@ module _ (d : Description) (g : Given) (high : Bool) (path walk segments owned :
   unfolding paintFrom filledOf
   one-step n k done own owners e l = rw (e, le-leb (length done + length own) room l)
 
-  up-to : {k : ℕ} {segs : List Segment} {owners : List ℕ} → Drawn k segs owners → (n : ℕ) → k + n ≤ length (d .counts) → paints (k + n) 0 [] [] ≡ paints n k segs owners
+  up-to : {k : ℕ} {segs : List Segment} {owners : List ℕ} → Segmented k segs owners → (n : ℕ) → k + n ≤ length (d .counts) → paints (k + n) 0 [] [] ≡ paints n k segs owners
   up-to none-drawn n h = let e : 0 + n ≡ n = omega arith in rw e
   up-to (one-drawn {k = k} {segs = segs} {own = own} {owners = owners} a f) n h =
       let e : suc k + n ≡ k + suc n = omega arith in
       let q = fits-strand (length segs) k own (omega arith) f in
       rw e (up-to a (suc n) (omega arith) ∙ one-step n k segs own owners (q .0) (q .1))
 
-  drawn-all : (segs : List Segment) (owners : List ℕ) → Drawn (length (d .counts)) segs owners → paintOf d g high (pathRoom path) (walkRoom walk) room ≡ All segs owners
+  drawn-all : (segs : List Segment) (owners : List ℕ) → Segmented (length (d .counts)) segs owners → paintOf d g high (pathRoom path) (walkRoom walk) room ≡ All segs owners
   unfolding paintOf paintFrom
   drawn-all segs owners a = let e : length (d .counts) + 0 ≡ length (d .counts) = omega arith in rw e at (up-to a 0 (omega arith))
 
@@ -244,12 +244,12 @@ module _ (d : Description) (g : Given) (high : Bool) (path walk segments owned :
 
   module _ (places : (k : ℕ) → k < length (d .counts) → Begins d k) where
     abbrev Comes-to : Painted → Type 0
-    Comes-to (All segs owners) = Drawn (length (d .counts)) segs owners
+    Comes-to (All segs owners) = Segmented (length (d .counts)) segs owners
     Comes-to (NoRoomAt k) = FirstLacks d g high path walk segments owned k
 
-    comes-to : (n k : ℕ) (done : List Segment) (owners : List ℕ) → k + n ≡ length (d .counts) → Drawn k done owners → Comes-to (paints n k done owners)
+    comes-to : (n k : ℕ) (done : List Segment) (owners : List ℕ) → k + n ≡ length (d .counts) → Segmented k done owners → Comes-to (paints n k done owners)
     unfolding paintFrom filledOf
-    comes-to zero k done owners e a = let q : k ≡ length (d .counts) = omega arith in subst (λ (m : ℕ). Drawn m done owners) q a
+    comes-to zero k done owners e a = let q : k ≡ length (d .counts) = omega arith in subst (λ (m : ℕ). Segmented m done owners) q a
     comes-to (suc n) k done owners e a = step (strand k) (comes d g high (pathRoom path) (walkRoom walk) k) (λ xs us b. comes-to n (suc k) xs us (omega arith) b)
       where
         inside : k < length (d .counts)
@@ -262,7 +262,7 @@ module _ (d : Description) (g : Given) (high : Bool) (path walk segments owned :
         no-room start b (inr (l, m)) =
             walk-lacks start b (suffices (omega (arith, needs-are d k start shape inside))) (walk-lacking (walk / 3) (2 ^ 23) (Curve.flat (pathOf start (deltasOf d k))) m)
 
-        by-count : (own : List Segment) → Ample d g high (pathRoom path) (walkRoom walk) k own → ((xs : List Segment) (us : List ℕ) → Drawn (suc k) xs us → Comes-to (paints n (suc k) xs us))
+        by-count : (own : List Segment) → Ample d g high (pathRoom path) (walkRoom walk) k own → ((xs : List Segment) (us : List ℕ) → Segmented (suc k) xs us → Comes-to (paints n (suc k) xs us))
             → (b : Bool) → leb (length done + length own) room ≡ b
             → Comes-to (afterStrand (cond b (Count (length done + length own)) Room) k (paints n (suc k) (done ++ own) (owners ++ ownersOf k own)))
         by-count own c ih b q =
@@ -284,7 +284,7 @@ module _ (d : Description) (g : Given) (high : Bool) (path walk segments owned :
               why = segments-lack m p v (lacks (min (segments / 8) owned) (2 ^ 24) (length done + length own) (leb-false (length done + length own) room q));
             }
 
-        step : (s : Strand) → Comes d g high (pathRoom path) (walkRoom walk) k s → ((xs : List Segment) (us : List ℕ) → Drawn (suc k) xs us → Comes-to (paints n (suc k) xs us))
+        step : (s : Strand) → Comes d g high (pathRoom path) (walkRoom walk) k s → ((xs : List Segment) (us : List ℕ) → Segmented (suc k) xs us → Comes-to (paints n (suc k) xs us))
             → Comes-to (afterStrand (strandFilled room (length done) s) k (paints n (suc k) (done ++ segmentsOf s) (owners ++ ownersOf k (segmentsOf s))))
         step NoRoom c ih =
             let b = places k inside in

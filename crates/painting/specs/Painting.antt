@@ -17,8 +17,8 @@ use Rattle.points.specs.Points.{eights}
 use Rattle.strand.specs.Strand.{Strand, strandFilled, segmentsOf}
 use Rattle.strand_at.specs.Strands.{strandAt}
 use Rattle.owners.specs.Owners.{ownersOf}
-use Rattle.painting.specs.declared.Drawn.{Drawn}
-use Rattle.painting.specs.declared.Drawn.the-variants as Drawn
+use Rattle.painting.specs.declared.Segmented.{Segmented}
+use Rattle.painting.specs.declared.Segmented.the-variants as Segmented
 
 -- the spline k of a description
 unfoldable pub strandOfSpline : Description → Given → Bool → ℕ → ℕ → ℕ → Strand
@@ -48,9 +48,9 @@ pub record Passed (d : Description) (g : Given) : Type 0 where
   pub total : ℕ
   pub fine : judgeOf d g ≡ Judged.Fine total
 
-abbrev pub drawnOf : Painted → Drawn
-drawnOf (All segs owners) = Drawn.Count (length segs)
-drawnOf (NoRoomAt k) = Drawn.Room k
+abbrev pub drawnOf : Painted → Segmented
+drawnOf (All segs owners) = Segmented.Count (length segs)
+drawnOf (NoRoomAt k) = Segmented.Room k
 
 -- with room for so many segments: o is their buffer before, e after; u is that of the owners before, v after; without room nothing is said of them
 abbrev pub DrawnOn : Painted → ℕ → List Float → List Float → List ℕ → List ℕ → Type 0

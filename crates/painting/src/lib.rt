@@ -13,7 +13,7 @@ use points::Filled;
 use strand_at::draw_one;
 
 // How many segments there are, or the number of the spline that has no room.
-pub enum Drawn {
+pub enum Segmented {
     Count(usize),
     Room(usize),
 }
@@ -36,7 +36,7 @@ fn draw_each(
     walk: &mut [f32],
     out: &mut [f32],
     owners: &mut [u64],
-) -> Drawn
+) -> Segmented
     requires { ⌜ Shaped (descriptionOf (now counts) (now starts) (now deltas) (now coefficients)) × Passed (descriptionOf (now counts) (now starts) (now deltas) (now coefficients)) given × (segmentRoom (length (now out)) ≤ length (now owners)) ⌝ }
     ensures { λ r. ⌜ (r ≡ drawnOf (paintOf (descriptionOf (now (counts .entry)) (now (starts .entry)) (now (deltas .entry)) (now (coefficients .entry))) given «high_precision» (pathRoom (length (now (path .entry)))) (walkRoom (length (now (walk .entry)))) (segmentRoom (length (now (out .entry))))))
         × DrawnOn (paintOf (descriptionOf (now (counts .entry)) (now (starts .entry)) (now (deltas .entry)) (now (coefficients .entry))) given «high_precision» (pathRoom (length (now (path .entry)))) (walkRoom (length (now (walk .entry)))) (segmentRoom (length (now (out .entry))))) (segmentRoom (length (now (out .entry)))) (now (out .entry)) (now (out .exit)) (now (owners .entry)) (now (owners .exit)) ⌝ }
@@ -59,14 +59,14 @@ fn draw_each(
             out,
             count,
         ) else {
-            return Drawn::Room(k);
+            return Segmented::Room(k);
         };
         owners::fill(owners, count, more, k);
         count = more;
         at = end;
         k = next;
     }
-    Drawn::Count(count)
+    Segmented::Count(count)
 }
 
 // The segments of all splines of a description that was judged before, and the number of the spline of each. A segment needs its record and its owner's cell.
@@ -81,7 +81,7 @@ pub fn draw_all(
     walk: &mut [f32],
     out: &mut [f32],
     owners: &mut [u64],
-) -> Drawn
+) -> Segmented
     requires { ⌜ Shaped (descriptionOf (now counts) (now starts) (now deltas) (now coefficients)) × Passed (descriptionOf (now counts) (now starts) (now deltas) (now coefficients)) given ⌝ }
     ensures { λ r. ⌜ (r ≡ drawnOf (paintOf (descriptionOf (now (counts .entry)) (now (starts .entry)) (now (deltas .entry)) (now (coefficients .entry))) given «high_precision» (pathRoom (length (now (path .entry)))) (walkRoom (length (now (walk .entry)))) (ownedRoom (length (now (out .entry))) (length (now (owners .entry))))))
         × DrawnOn (paintOf (descriptionOf (now (counts .entry)) (now (starts .entry)) (now (deltas .entry)) (now (coefficients .entry))) given «high_precision» (pathRoom (length (now (path .entry)))) (walkRoom (length (now (walk .entry)))) (ownedRoom (length (now (out .entry))) (length (now (owners .entry))))) (ownedRoom (length (now (out .entry))) (length (now (owners .entry)))) (now (out .entry)) (now (out .exit)) (now (owners .entry)) (now (owners .exit)) ⌝ }

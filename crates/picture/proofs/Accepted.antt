@@ -23,7 +23,7 @@ use Rattle.points.proofs.Adding.{count-got}
 use Rattle.strand.specs.Strand.{Strand, NoRoom, Segments, strandFilled, segmentsOf}
 use Rattle.rows.specs.declared.Listed.{Listed}
 use Rattle.rows.specs.declared.Listed.the-variants as Listed
-use Rattle.rows.specs.Rows.{inRow, RowsOutcome, outcome, built}
+use Rattle.rows.specs.Rows.{inRow, RowsOutcome, outcome, listedRows}
 use Rattle.owners.specs.Owners.{ownedRoom, ownersOf}
 use Rattle.painting.specs.Painting.{strandOfSpline, Painted, All, NoRoomAt, afterStrand, paintFrom, paintOf}
 use Rattle.faint.specs.Faint.{faintIn}
@@ -102,13 +102,13 @@ module _ (r : BuildRooms) (t : BuildOutcome) (s e est faint : ℕ) (done : t .an
     estimate : ℕ
     judged : j ≡ Judged.Fine estimate
     drawn : p ≡ All segs owners
-    listing : Listing estimate segs (built (inRow (eights segs)) (length segs) H (r .starts) (r .entries))
+    listing : Listing estimate segs (listedRows (inRow (eights segs)) (length segs) H (r .starts) (r .entries))
 
   ended : (H : ℕ) (j : Judged) (p : Painted) → t ≡ afterJudge r H j p → Ended H j p
   ended H (Judged.Refused c k) p q = absurd (refused-not c k q)
   ended H (Judged.Fine estimate) (NoRoomAt k) q = absurd (refused-not Code.Room k q)
   ended H (Judged.Fine estimate) (All segs owners) q =
-      let o = built (inRow (eights segs)) (length segs) H (r .starts) (r .entries) in
+      let o = listedRows (inRow (eights segs)) (length segs) H (r .starts) (r .entries) in
       record { segs = segs; owners = owners; estimate = estimate; judged = refl; drawn = refl; listing = rows-listed estimate segs owners (o .answer) (o .starts) (o .entries) q }
 
 -- what an accepted build is
@@ -121,12 +121,12 @@ pub record BuildAccepted (d : Description) (i : Setting) (r : BuildRooms) (t : B
   pub drawn : painted d i r ≡ All segs owners
   pub fits-segments : length segs ≤ ownedRoom (r .segments) (r .owners)
   pub size : length segs ≡ s
-  pub listed : built (inRow (eights segs)) (length segs) (i .height) (r .starts) (r .entries) .answer ≡ Listed.Entries e
+  pub listed : listedRows (inRow (eights segs)) (length segs) (i .height) (r .starts) (r .entries) .answer ≡ Listed.Entries e
   pub path : t .path ≡ zeros (r .path)
   pub walk : t .walk ≡ zeros (r .walk)
   pub segments : t .segments ≡ padded (r .segments) 0·0 (eights segs)
-  pub starts : t .starts ≡ built (inRow (eights segs)) (length segs) (i .height) (r .starts) (r .entries) .starts
-  pub entries : t .entries ≡ built (inRow (eights segs)) (length segs) (i .height) (r .starts) (r .entries) .entries
+  pub starts : t .starts ≡ listedRows (inRow (eights segs)) (length segs) (i .height) (r .starts) (r .entries) .starts
+  pub entries : t .entries ≡ listedRows (inRow (eights segs)) (length segs) (i .height) (r .starts) (r .entries) .entries
 
 pub accepted : (d : Description) (i : Setting) (r : BuildRooms) (t : BuildOutcome) (s e est faint : ℕ) → t ≡ buildOf d i r → t .answer ≡ Done s e est faint → BuildAccepted d i r t s e est
 unfolding buildOf

@@ -16,7 +16,7 @@ use Rattle.table.specs.Table.{BuildRooms, Setting, BuildOutcome, givenOf}
 use Rattle.painting.proofs.Segments.{makes-owned}
 use Rattle.desks.specs.Desks.{Sight, ownerIn, hiddenIn, shown, deskGood, bytesGood, allOwned}
 use Rattle.checks.specs.Tables.{Table, rowOf, shownOf}
-use Rattle.checks.specs.Checks.{countsGood, countsGoodFor, rowGood, rowGoodFor, judgeOf}
+use Rattle.checks.specs.Checks.{countsGood, countsGoodFor, rowGood, rowGoodFor, judgeDraw}
 use Rattle.draw.specs.Draw.{pixel, updates}
 use Rattle.hull.specs.Reach.{judgeReachOf}
 use Rattle.checks.specs.Refusals.{SpanFits}
@@ -139,8 +139,8 @@ module _ {d : Description} {i : Setting} {r : BuildRooms} {o : BuildOutcome} {s 
           (λ j h. ap (λ (m : Segment). hasRow m y && not (hiddenIn z j)) (kept-segment k j h)) (listed-lists (seen z (inRow (o .segments))) y s)
 
       -- no check of drawing or of reach refuses the table
-      pub draw-fine : (x0 n l0 l1 l2 : ℕ) → SpanFits x0 n l0 l1 l2 → judgeOf t z y x0 n l0 l1 l2 ≡ Fine
-      unfolding judgeOf
+      pub draw-fine : (x0 n l0 l1 l2 : ℕ) → SpanFits x0 n l0 l1 l2 → judgeDraw t z y x0 n l0 l1 l2 ≡ Fine
+      unfolding judgeDraw
       draw-fine x0 n l0 l1 l2 f =
           rw (desk-for, counts-for, bytes-for, lt-ltb y (t .height) l, span-fits x0 n l0 l1 l2 f, row-for)
 

@@ -20,7 +20,7 @@ use Rattle.roots.specs.Root.{sqrtOf}
 use Rattle.dequantize.specs.declared.Given.{Given}
 use Rattle.control_points.specs.declared.Pair.{Pair}
 use Rattle.control_points.specs.declared.Start.the-variants.{At}
-use Rattle.control_points.specs.ControlPoints.{placeAt, laterPoints, controlPoints}
+use Rattle.control_points.specs.ControlPoints.{standAt, laterPoints, controlPoints}
 use Rattle.dequantize.specs.Judge.{Description, deltasOf, splineOf, totalOf}
 use Rattle.dequantize.specs.Refusals.{AllPass}
 use Rattle.dequantize.proofs.Refusals.{all-fine}
@@ -95,7 +95,7 @@ module _ (d : Description) (g : Given) (high : Bool) (k : ℕ) where
   no-deltas e = rw e
 
   pub no-deltas-skipped : AllPass d g → k < length (d .counts) → getD (d .counts) k 0 ≡ 0 → Skipped d k
-  unfolding placeAt
+  unfolding standAt
   no-deltas-skipped p h e =
       let a = fine-accepted d g (totalOf d g (length (d .counts))) (all-fine d g p) k h in
       let r = point-range (a .start) (a .walk .point) in

@@ -55,7 +55,7 @@ record Fits (has : ℕ → ℕ → Bool) (S H ns ne e : ℕ) (o : RowsOutcome) :
   room : e ≤ length (o .entries)
   tall : H + 1 ≤ length (o .starts)
 
-fits-listing : (has : ℕ → ℕ → Bool) (S H ns ne e : ℕ) → H < ns → rows.built has S H ns ne .answer ≡ Listed.Entries e → Fits has S H ns ne e (rows.built has S H ns ne)
+fits-listing : (has : ℕ → ℕ → Bool) (S H ns ne e : ℕ) → H < ns → rows.listedRows has S H ns ne .answer ≡ Listed.Entries e → Fits has S H ns ne e (rows.listedRows has S H ns ne)
 unfolding entriesIn
 fits-listing has S H ns ne e w q =
     ⊎-elim
@@ -73,8 +73,8 @@ fits-listing has S H ns ne e w q =
     (λ f. let z : _≡_ {A = ℕ} 0 1 = cc (ap (λ (o : RowsOutcome). o .answer) (users.room-when has S H ns ne f), q) in absurd (omega arith))
     (users.either has S H ns ne)
 
-checks-of : (has : ℕ → ℕ → Bool) (S H ns ne e : ℕ) → H < ns → rows.built has S H ns ne .answer ≡ Listed.Entries e
-    → (y : ℕ) → y < H → {ss es : List ℕ} → ss ≡ rows.built has S H ns ne .starts → es ≡ rows.built has S H ns ne .entries → users.Checks has S H e y ss es
+checks-of : (has : ℕ → ℕ → Bool) (S H ns ne e : ℕ) → H < ns → rows.listedRows has S H ns ne .answer ≡ Listed.Entries e
+    → (y : ℕ) → y < H → {ss es : List ℕ} → ss ≡ rows.listedRows has S H ns ne .starts → es ≡ rows.listedRows has S H ns ne .entries → users.Checks has S H e y ss es
 checks-of has S H ns ne e w q y h p s = rw (p, s) (users.accepted has S H ns ne e y h w q)
 
 -- a row's list names segments
@@ -113,20 +113,20 @@ module _ {d : Description} {i : Setting} {r : BuildRooms} {o : BuildOutcome} {s 
   in-row k y l = ap (λ (m : Segment). hasRow m y) (segment-is k none l)
 
   -- what stands behind the segments changes no row
-  same-listing : rows.built (inRow (eights (facts .segs))) (length (facts .segs)) (i .height) (r .starts) (r .entries)
-      ≡ rows.built (inRow (o .segments)) s (i .height) (r .starts) (r .entries)
+  same-listing : rows.listedRows (inRow (eights (facts .segs))) (length (facts .segs)) (i .height) (r .starts) (r .entries)
+      ≡ rows.listedRows (inRow (o .segments)) s (i .height) (r .starts) (r .entries)
   same-listing =
       sym (rest-same (eights (facts .segs)) _ (length (facts .segs)) (i .height) (r .starts) (r .entries) (omega (arith, length-eights (facts .segs))))
-      ∙ ap (λ (l : List Float). rows.built (inRow l) (length (facts .segs)) (i .height) (r .starts) (r .entries)) (sym (facts .segments))
-      ∙ ap (λ (n : ℕ). rows.built (inRow (o .segments)) n (i .height) (r .starts) (r .entries)) (facts .size)
+      ∙ ap (λ (l : List Float). rows.listedRows (inRow l) (length (facts .segs)) (i .height) (r .starts) (r .entries)) (sym (facts .segments))
+      ∙ ap (λ (n : ℕ). rows.listedRows (inRow (o .segments)) n (i .height) (r .starts) (r .entries)) (facts .size)
 
-  listing : Fits (inRow (o .segments)) s (i .height) (r .starts) (r .entries) e (rows.built (inRow (o .segments)) s (i .height) (r .starts) (r .entries))
+  listing : Fits (inRow (o .segments)) s (i .height) (r .starts) (r .entries) e (rows.listedRows (inRow (o .segments)) s (i .height) (r .starts) (r .entries))
   listing = fits-listing (inRow (o .segments)) s (i .height) (r .starts) (r .entries) e (facts .fits-starts) (sym (ap (λ (l : RowsOutcome). l .answer) same-listing) ∙ facts .listed)
 
-  starts-are : o .starts ≡ rows.built (inRow (o .segments)) s (i .height) (r .starts) (r .entries) .starts
+  starts-are : o .starts ≡ rows.listedRows (inRow (o .segments)) s (i .height) (r .starts) (r .entries) .starts
   starts-are = facts .starts ∙ ap (λ (l : RowsOutcome). l .starts) same-listing
 
-  entries-are : o .entries ≡ rows.built (inRow (o .segments)) s (i .height) (r .starts) (r .entries) .entries
+  entries-are : o .entries ≡ rows.listedRows (inRow (o .segments)) s (i .height) (r .starts) (r .entries) .entries
   entries-are = facts .entries ∙ ap (λ (l : RowsOutcome). l .entries) same-listing
 
   pub counts-good : countsGood (built i o s e) ≡ true

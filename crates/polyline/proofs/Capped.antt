@@ -16,10 +16,10 @@ use Rattle.polyline.specs.declared.Spot.{Spot}
 use Rattle.polyline.specs.declared.Track.{Track}
 use Rattle.polyline.specs.declared.Judged.{Judged}
 use Rattle.polyline.specs.declared.Judged.the-variants.{On, Stop}
-use Rattle.polyline.specs.declared.Walked.the-variants.{Came, Halt}
+use Rattle.polyline.specs.declared.Tracked.the-variants.{Came, Halt}
 use Rattle.polyline.specs.Spots.{signedBy, figureAt, grownBy, spotOf, spotsFrom, uncapped, capped, spotsOf, cappedSpots}
-use Rattle.polyline.specs.Read.{judgedOf, afterPair, walkFrom, trackTo}
-use Rattle.polyline.proofs.Walks.{placeable-valid, unplaceable, walk-came}
+use Rattle.polyline.specs.Read.{judgedOf, afterPair, trackFrom, trackTo}
+use Rattle.polyline.proofs.Tracks.{placeable-valid, unplaceable, walk-came}
 
 -- ---- numbers
 
@@ -97,16 +97,16 @@ judged-capped t q = go (validPointPos q) refl
     go true e = ap (judgedOf t) (pair-in q e)
     go false e = unplaceable t (capPair q) (valid-capped q ∙ e) ∙ sym (unplaceable t q e)
 
-pub walk-capped : (ss : List Spot) (t : Track) → walkFrom t (map capSpot ss) ≡ walkFrom t ss
-unfolding walkFrom
+pub walk-capped : (ss : List Spot) (t : Track) → trackFrom t (map capSpot ss) ≡ trackFrom t ss
+unfolding trackFrom
 walk-capped [] t = refl
 walk-capped (s ∷ ss) t = rw (judged-capped t (s .point)) (go (judgedOf t (s .point)) (λ u. walk-capped ss u))
   where
-    go : (j : Judged) → ((u : Track) → walkFrom u (map capSpot ss) ≡ walkFrom u ss) → afterPair j (s .begin) (λ u. walkFrom u (map capSpot ss)) ≡ afterPair j (s .begin) (λ u. walkFrom u ss)
+    go : (j : Judged) → ((u : Track) → trackFrom u (map capSpot ss) ≡ trackFrom u ss) → afterPair j (s .begin) (λ u. trackFrom u (map capSpot ss)) ≡ afterPair j (s .begin) (λ u. trackFrom u ss)
     go (On u) h = h u
     go (Stop c) h = refl
 
-pub came-same : (ss : List Spot) (t v : Track) → walkFrom t ss ≡ Came v → map capSpot ss ≡ ss
+pub came-same : (ss : List Spot) (t v : Track) → trackFrom t ss ≡ Came v → map capSpot ss ≡ ss
 came-same [] t v e = refl
 came-same (s ∷ ss) t v e =
     let w = walk-came t s ss v e in

@@ -1,4 +1,4 @@
 -- The laws of the crate `polyline`.
-pub mod Walks
+pub mod Tracks
 pub mod Capped
 pub mod Digits

@@ -13,16 +13,16 @@ use Rattle.write_judge.specs.declared.Verdict.{Verdict}
 use Rattle.write_judge.specs.declared.Verdict.the-variants.{Fine, Fault}
 use Rattle.writer.specs.declared.WriteAnswer.{WriteAnswer}
 use Rattle.writer.specs.declared.WriteAnswer.the-variants.{Done, Refused}
-use Rattle.control_points.specs.ControlPoints.{validPointPos, samePoint, placeAt}
+use Rattle.control_points.specs.ControlPoints.{validPointPos, samePoint, standAt}
 use Rattle.control_points.specs.declared.Pair.{Pair}
-use Rattle.control_points.specs.declared.Place.{Place}
+use Rattle.control_points.specs.declared.Stand.{Stand}
 use Rattle.polyline.specs.declared.Spot.{Spot}
 use Rattle.polyline.specs.declared.Track.{Track}
 use Rattle.polyline.specs.declared.Track.the-variants.{Empty, At}
 use Rattle.polyline.specs.declared.Judged.{Judged}
 use Rattle.polyline.specs.declared.Judged.the-variants.{On, Stop}
-use Rattle.polyline.specs.declared.Walked.{Walked}
-use Rattle.polyline.specs.declared.Walked.the-variants.{Came, Halt}
+use Rattle.polyline.specs.declared.Tracked.{Tracked}
+use Rattle.polyline.specs.declared.Tracked.the-variants.{Came, Halt}
 use Rattle.polyline.specs.Stages.{textOf}
 use Rattle.polyline.specs.Spots.{spotsOf}
 
@@ -43,11 +43,11 @@ meets (At p start) q = samePoint (p .point) q
 
 -- the pair is the control point reached
 unfoldable pub trackTo : Track → Pair → Track
-trackTo Empty q = At (placeAt q) q
+trackTo Empty q = At (standAt q) q
 trackTo (At p start) q = At (record { delta = minusOf q (p .point); point = q }) start
 
 -- the double delta that leads from a place to a pair
-unfoldable pub doubleDelta : Place → Pair → Pair
+unfoldable pub doubleDelta : Stand → Pair → Pair
 doubleDelta p q = minusOf (minusOf q (p .point)) (p .delta)
 
 -- its two numbers; the first pair has none
@@ -59,18 +59,18 @@ stepDeltas (At p start) q = doubleDelta p q .x ∷ doubleDelta p q .y ∷ []
 unfoldable pub judgedOf : Track → Pair → Judged
 judgedOf t q = cond (placeable t q) (cond (meets t q) (Stop Coincide) (On (trackTo t q))) (Stop Position)
 
-abbrev pub afterPair : Judged → ℕ → (Track → Walked) → Walked
+abbrev pub afterPair : Judged → ℕ → (Track → Tracked) → Tracked
 afterPair (On t) at go = go t
 afterPair (Stop code) at go = Halt code at
 
 -- pair by pair; a refusal points to the first byte of the pair
-unfoldable pub walkFrom : Track → List Spot → Walked
-walkFrom t [] = Came t
-walkFrom t (s ∷ ss) = afterPair (judgedOf t (s .point)) (s .begin) (λ u. walkFrom u ss)
+unfoldable pub trackFrom : Track → List Spot → Tracked
+trackFrom t [] = Came t
+trackFrom t (s ∷ ss) = afterPair (judgedOf t (s .point)) (s .begin) (λ u. trackFrom u ss)
 
-abbrev pub walkVerdict : Walked → Verdict
-walkVerdict (Came t) = Fine
-walkVerdict (Halt c p) = Fault c p
+abbrev pub trackVerdict : Tracked → Verdict
+trackVerdict (Came t) = Fine
+trackVerdict (Halt c p) = Fault c p
 
 -- the double deltas of pairs
 unfoldable pub deltasFrom : Track → List Spot → List ℤ
@@ -105,7 +105,7 @@ roomFor start deltas pairs = cond (ltb start 2 || ltb deltas (2 * pairs)) (Fault
 
 -- POSITION and COINCIDE pair by pair, then ROOM, with so many cells of start and of double deltas lent
 unfoldable pub pairsVerdict : ℕ → ℕ → List Spot → Verdict
-pairsVerdict start deltas ss = andThen (walkVerdict (walkFrom Empty ss)) (roomFor start deltas (laterOf ss))
+pairsVerdict start deltas ss = andThen (trackVerdict (trackFrom Empty ss)) (roomFor start deltas (laterOf ss))
 
 -- TEXT before all else
 unfoldable pub pointsVerdict : ℕ → ℕ → List ℕ → Verdict

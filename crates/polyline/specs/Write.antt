@@ -12,10 +12,10 @@ use Rattle.writer.specs.Write.{misshapen, WriteOutcome}
 use Rattle.writer.specs.Write as writing
 use Rattle.write_judge.specs.declared.Verdict.{Verdict}
 use Rattle.write_judge.specs.declared.Verdict.the-variants.{Fine, Fault}
-use Rattle.control_points.specs.ControlPoints.{validPointPos, validDoubleDelta, samePoint, startingPoint, placeAt, movedOf, controlPoints}
+use Rattle.control_points.specs.ControlPoints.{validPointPos, validDoubleDelta, samePoint, startingPoint, standAt, movedOf, controlPoints}
 use Rattle.dequantize.specs.Judge.{Description, descriptionOf, startX, startY, deltasOf}
 use Rattle.control_points.specs.declared.Pair.{Pair}
-use Rattle.control_points.specs.declared.Place.{Place}
+use Rattle.control_points.specs.declared.Stand.{Stand}
 use Rattle.control_points.specs.declared.Start.{Start}
 use Rattle.control_points.specs.declared.Start.the-variants as S
 use Rattle.polyline.specs.declared.Gone.{Gone}
@@ -53,23 +53,23 @@ pointsText (p ∷ ps) = pairText p ++ laterText ps
 -- ---- the checks of one spline
 
 -- one double delta, as `stepOf` of building has it but for DISTANCE: DELTA, POSITION of the delta, POSITION of the point
-unfoldable pub goneBy : Place → Bool → Pair → Gone
+unfoldable pub goneBy : Stand → Bool → Pair → Gone
 goneBy p met dd =
     let q = movedOf p dd in
     cond (validDoubleDelta dd) (cond (validPointPos (q .delta)) (cond (validPointPos (q .point))
     (On q (cond met true (samePoint (p .point) (q .point)))) (Stop Position)) (Stop Position)) (Stop Delta)
 
-abbrev pub onward : Gone → (Place → Bool → Gone) → Gone
+abbrev pub onward : Gone → (Stand → Bool → Gone) → Gone
 onward (On p met) go = go p met
 onward (Stop code) go = Stop code
 
-unfoldable pub goneFrom : Place → Bool → List ℤ → Gone
+unfoldable pub goneFrom : Stand → Bool → List ℤ → Gone
 goneFrom p met [] = On p met
 goneFrom p met (a ∷ []) = On p met
 goneFrom p met (a ∷ b ∷ ds) = onward (goneBy p met (record { x = a; y = b })) (λ q m. goneFrom q m ds)
 
 unfoldable pub goneOf : Pair → List ℤ → Gone
-goneOf start ds = goneFrom (placeAt start) false ds
+goneOf start ds = goneFrom (standAt start) false ds
 
 -- COINCIDE comes after all points, as in building
 abbrev pub settled : ℕ → Gone → Verdict

@@ -1,7 +1,7 @@
 // Line drawings: the form of a points text, what it says, and what reading and writing one find. Definitions and their laws only.
 use codes::Code;
 use control_points::Pair;
-use control_points::Place;
+use control_points::Stand;
 
 // Where a points text stands inside a pair: before a number, after its minus, after a 0, or after digits that may go on. The number is y where the bool is true.
 pub enum Stage {
@@ -34,7 +34,7 @@ pub struct Spot {
 // What the pairs so far led to: none yet, or a control point with the delta that led to it, and the first pair.
 pub enum Track {
     Empty,
-    At(Place, Pair),
+    At(Stand, Pair),
 }
 
 // A further pair: what it leads to, or the code that refuses it.
@@ -44,13 +44,13 @@ pub enum Judged {
 }
 
 // After all pairs, or at the first that is refused, with its first byte.
-pub enum Walked {
+pub enum Tracked {
     Came(Track),
     Halt(Code, usize),
 }
 
 // After a double delta of a spline: where it led to and whether two adjacent points met so far, or the code that refuses it.
 pub enum Gone {
-    On(Place, bool),
+    On(Stand, bool),
     Stop(Code),
 }

@@ -15,11 +15,11 @@ use Rattle.list.specs.Steps.{f32Of, zeroF32}
 use Rattle.write_judge.specs.declared.Verdict.{Verdict}
 use Rattle.write_judge.specs.declared.Verdict.the-variants.{Fine, Fault}
 use Rattle.writer.specs.declared.WriteAnswer.the-variants.{Done, Refused}
-use Rattle.control_points.specs.ControlPoints.{plusOf, placeAt, movedOf, laterPoints, controlPoints, validDoubleDelta, validPointPos, samePoint, coincideFrom, adjacentCoincide}
+use Rattle.control_points.specs.ControlPoints.{plusOf, standAt, movedOf, laterPoints, controlPoints, validDoubleDelta, validPointPos, samePoint, coincideFrom, adjacentCoincide}
 use Rattle.control_points.specs.Asked.{passes, Passable}
 use Rattle.control_points.specs.Refusals.{Inside}
 use Rattle.control_points.specs.declared.Pair.{Pair}
-use Rattle.control_points.specs.declared.Place.{Place}
+use Rattle.control_points.specs.declared.Stand.{Stand}
 use Rattle.control_points.proofs.Coincide.{same-point}
 use Rattle.control_points.proofs.Ranges.{point-decides}
 use Rattle.control_points.proofs.Starts.{start-valid}
@@ -30,8 +30,8 @@ use Rattle.polyline.specs.declared.Track.the-variants.{Empty, At}
 use Rattle.polyline.specs.Form.{PointsForm}
 use Rattle.polyline.specs.Stages.{textOf}
 use Rattle.polyline.specs.Spots.{spotsOf}
-use Rattle.polyline.specs.Read.{minusOf, doubleDelta, stepDeltas, trackTo, deltasFrom, firstPoint, startOf, laterOf, walkFrom, walkVerdict, andThen, pairsVerdict, pointsVerdict, PointsOutcome, leaves, outcome, readPointsOf}
-use Rattle.polyline.proofs.Walks.{deltas-length}
+use Rattle.polyline.specs.Read.{minusOf, doubleDelta, stepDeltas, trackTo, deltasFrom, firstPoint, startOf, laterOf, trackFrom, trackVerdict, andThen, pairsVerdict, pointsVerdict, PointsOutcome, leaves, outcome, readPointsOf}
+use Rattle.polyline.proofs.Tracks.{deltas-length}
 use Rattle.polyline.specs.Write.{pairText, pointsText, goneBy, goneFrom, goneOf}
 use Rattle.polyline_laws.specs.Says.{Says}
 use Rattle.polyline_laws.specs.Refusals.{Passes, Before, PointsLack, Legal, PointsAccepted, PointsReadRefusal}
@@ -43,15 +43,15 @@ use Rattle.polyline_laws.proofs.ReadWhen.{AllPass, passes-valid, walk-s
 -- ---- pairs that pass, and their double deltas
 
 -- the double deltas of ps behind a place
-abbrev deltasBy : ℕ → Place → Pair → List Pair → List ℤ
+abbrev deltasBy : ℕ → Stand → Pair → List Pair → List ℤ
 deltasBy at p start ps = deltasFrom (At p start) (spotsBy at ps)
 
-record Leads (at : ℕ) (p : Place) (start : Pair) (ps : List Pair) : Type 0 where
-  end : Place
+record Leads (at : ℕ) (p : Stand) (start : Pair) (ps : List Pair) : Type 0 where
+  end : Stand
   goes : goneFrom p false (deltasBy at p start ps) ≡ gone.On end false
   points : laterPoints p (deltasBy at p start ps) ≡ ps
 
-module _ (p : Place) (q : Pair) (ps : List Pair) (d : validPointPos (p .delta) ≡ true) (v : validPointPos (p .point) ≡ true) (h : Passes (p .point ∷ q ∷ ps) 1) where
+module _ (p : Stand) (q : Pair) (ps : List Pair) (d : validPointPos (p .delta) ≡ true) (v : validPointPos (p .point) ≡ true) (h : Passes (p .point ∷ q ∷ ps) 1) where
   delta-valid : validPointPos (minusOf q (p .point)) ≡ true
   delta-valid = point-decides (minusOf q (p .point)) .passes (h .placed .0)
 
@@ -70,12 +70,12 @@ module _ (p : Place) (q : Pair) (ps : List Pair) (d : validPointPos (p .delta) �
   unfolding goneBy
   gone-double = rw (small, moved-double p q, delta-valid, passes-valid (p .point) q ps h, apart)
 
-leads : (ps : List Pair) (at : ℕ) (p : Place) (start : Pair) → validPointPos (p .delta) ≡ true → validPointPos (p .point) ≡ true → AllPass (p .point) ps → Leads at p start ps
+leads : (ps : List Pair) (at : ℕ) (p : Stand) (start : Pair) → validPointPos (p .delta) ≡ true → validPointPos (p .point) ≡ true → AllPass (p .point) ps → Leads at p start ps
 unfolding deltasFrom stepDeltas trackTo goneFrom laterPoints
 leads [] at p start d v h = record { end = p; goes = refl; points = refl }
 leads (q ∷ ps) at p start d v h =
     let f = h .each 0 (omega arith) in
-    let n : Place = record { delta = minusOf q (p .point); point = q } in
+    let n : Stand = record { delta = minusOf q (p .point); point = q } in
     let l = leads ps (suc (at + length (pairText q))) n start (point-decides (minusOf q (p .point)) .passes (f .placed .0)) (passes-valid (p .point) q ps f)
     (record { each = λ i m. let e = h .each (suc i) (omega arith) in record { placed = e .placed; apart = e .apart } }) in
     record {
@@ -93,15 +93,15 @@ record Found (first : Pair) (ps : List Pair) : Type 0 where
   points : controlPoints first (deltasIn (first ∷ ps)) ≡ first ∷ ps
 
 found : (first : Pair) (ps : List Pair) → Before (first ∷ ps) (suc (length ps)) → Found first ps
-unfolding deltasFrom stepDeltas trackTo controlPoints goneOf placeAt validPointPos
+unfolding deltasFrom stepDeltas trackTo controlPoints goneOf standAt validPointPos
 found first ps b =
     let v = point-decides first .passes (b 0 (omega arith) .placed) in
-    let l = leads ps (suc (0 + length (pairText first))) (placeAt first) first refl v (record { each = λ i m. b (suc i) (omega arith) }) in
+    let l = leads ps (suc (0 + length (pairText first))) (standAt first) first refl v (record { each = λ i m. b (suc i) (omega arith) }) in
     record { legal = gone-legal first (deltasIn (first ∷ ps)) (l .end) v (l .goes); points = ap (λ (k : List Pair). first ∷ k) (l .points) }
 
 -- ---- and back: the pairs of legal points pass, and their double deltas are those
 
-module _ (p : Place) (dd : Pair) (ps : List Pair) (v : validPointPos (p .point) ≡ true) (d : validPointPos (movedOf p dd .delta) ≡ true) (q : validPointPos (movedOf p dd .point) ≡ true)
+module _ (p : Stand) (dd : Pair) (ps : List Pair) (v : validPointPos (p .point) ≡ true) (d : validPointPos (movedOf p dd .delta) ≡ true) (q : validPointPos (movedOf p dd .point) ≡ true)
     (a : samePoint (p .point) (movedOf p dd .point) ≡ false) where
   moved-passes : Passes (p .point ∷ movedOf p dd .point ∷ ps) 1
   moved-passes = record {
@@ -109,7 +109,7 @@ module _ (p : Place) (dd : Pair) (ps : List Pair) (v : validPointPos (p .point) 
     apart = λ e. let w : _≡_ {A = Bool} false true = sym a ∙ same-point (p .point) (movedOf p dd .point) v q .1 e in let k : _≡_ {A = ℕ} 0 1 = cc in omega arith;
   }
 
-record Comes (at : ℕ) (p : Place) (start : Pair) (ds : List ℤ) : Type 0 where
+record Comes (at : ℕ) (p : Stand) (start : Pair) (ds : List ℤ) : Type 0 where
   pass : AllPass (p .point) (laterPoints p ds)
   back : deltasBy at p start (laterPoints p ds) ≡ ds
 
@@ -117,7 +117,7 @@ neither : (a b : Bool) → cond a true b ≡ false → (a ≡ false) × (b ≡ f
 neither false b e = (refl, e)
 neither true b e = let k : _≡_ {A = ℕ} 0 1 = cc in absurd (omega arith)
 
-comes : (ds : List ℤ) (n at : ℕ) (p : Place) (start : Pair) → length ds ≡ 2 * n → validPointPos (p .point) ≡ true → passes p ds ≡ true → coincideFrom (p .point) (laterPoints p ds) ≡ false → Comes at p start ds
+comes : (ds : List ℤ) (n at : ℕ) (p : Stand) (start : Pair) → length ds ≡ 2 * n → validPointPos (p .point) ≡ true → passes p ds ≡ true → coincideFrom (p .point) (laterPoints p ds) ≡ false → Comes at p start ds
 unfolding passes laterPoints coincideFrom deltasFrom stepDeltas trackTo
 comes [] n at p start l v h c = record { pass = record { each = λ i m. absurd (omega arith) }; back = refl }
 comes (a ∷ []) n at p start l v h c = absurd (omega arith)
@@ -143,14 +143,14 @@ record Legally (first : Pair) (ds : List ℤ) : Type 0 where
   back : deltasIn (controlPoints first ds) ≡ ds
 
 legally : (first : Pair) (ds : List ℤ) (n : ℕ) → length ds ≡ 2 * n → Legal first ds → Legally first ds
-unfolding controlPoints adjacentCoincide placeAt deltasFrom stepDeltas trackTo
+unfolding controlPoints adjacentCoincide standAt deltasFrom stepDeltas trackTo
 legally first ds n l g =
     let v = start-valid (f32Of (first .x)) (f32Of (first .y)) first (g .begins) in
     let w = traced-walk (g .limit) first ds (g .run) v (g .traced) in
-    let c = comes ds n (suc (0 + length (pairText first))) (placeAt first) first l v (w .rest) (g .apart) in
+    let c = comes ds n (suc (0 + length (pairText first))) (standAt first) first l v (w .rest) (g .apart) in
     record { all = all (point-decides first .passed v) (c .pass); back = c .back }
   where
-    all : Inside first → AllPass first (laterPoints (placeAt first) ds) → Before (first ∷ laterPoints (placeAt first) ds) (suc (length (laterPoints (placeAt first) ds)))
+    all : Inside first → AllPass first (laterPoints (standAt first) ds) → Before (first ∷ laterPoints (standAt first) ds) (suc (length (laterPoints (standAt first) ds)))
     all h r zero m = record { placed = h; apart = λ e. e }
     all h r (suc i) m = r .each i (omega arith)
 
@@ -167,10 +167,10 @@ pub read-says : (text : List ℕ) (start deltas n : ℕ) (first : Pair) (ds : Li
     → readPointsOf start deltas text ≡ leaves (Done n) (startLeft start first) (deltasLeft deltas n ds)
 unfolding readPointsOf controlPoints
 read-says text start deltas n first ds is l g r t =
-    let ps = laterPoints (placeAt first) ds in
+    let ps = laterPoints (standAt first) ds in
     let s : Says text (first ∷ ps) = record { some = omega arith; is = is } in
     let k = legally first ds n l g in
-    let m : length ps ≡ n = omega (arith, points-length (placeAt first) ds) in
+    let m : length ps ≡ n = omega (arith, points-length (standAt first) ds) in
     let z : suc (length ps) - 1 ≡ n = omega arith in
     let w : (ltb start 2 || ltb deltas (2 * (suc (length ps) - 1))) ≡ false = lacks-decides start deltas (first ∷ ps) .fails (r, rw z t) in
     let f : pointsVerdict start deltas text ≡ Fine = verdict-said text start deltas (first ∷ ps) s ∙ rw (walk-fine first ps (k .all), w) in
@@ -196,7 +196,7 @@ module _ (text : List ℕ) (start deltas : ℕ) where
   by-points : (n : ℕ) → PointsForm text → (ps : List Pair) → Says text ps → pointsVerdict start deltas text ≡ Fine → laterOf (spotsOf text) ≡ n → PointsAccepted text start deltas n
   by-points n form [] s e l = absurd (omega (arith, s .some))
   by-points n form (p ∷ ps) s e l =
-      let w = first-fine (walkVerdict (walkFrom Empty (spotsBy 0 (p ∷ ps)))) _ (sym (verdict-said text start deltas (p ∷ ps) s) ∙ e) in
+      let w = first-fine (trackVerdict (trackFrom Empty (spotsBy 0 (p ∷ ps)))) _ (sym (verdict-said text start deltas (p ∷ ps) s) ∙ e) in
       let f = found p ps (subst (Says-so (p ∷ ps)) (w .0) (walk-says p ps)) in
       let r = lacks-decides start deltas (p ∷ ps) .failed (roomy _ (w .1)) in
       let k : laterOf (spotsBy 0 (p ∷ ps)) ≡ n = subst (λ (ss : List Spot). laterOf ss ≡ n) (spots-said text (p ∷ ps) s) l in

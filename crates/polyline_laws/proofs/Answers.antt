@@ -30,7 +30,7 @@ use Rattle.polyline.specs.declared.Judged.the-variants.{On, Stop}
 use Rattle.polyline.specs.Form.{PointsForm}
 use Rattle.polyline.specs.Stages.{nextOf, mayEnd, follow, textFrom, textOf}
 use Rattle.polyline.specs.Spots.{spotsOf}
-use Rattle.polyline.specs.Read.{placeable, meets, trackTo, judgedOf, afterPair, walkFrom, walkVerdict, laterOf, andThen, roomFor, pairsVerdict, pointsVerdict, leaves, outcome, readPointsOf}
+use Rattle.polyline.specs.Read.{placeable, meets, trackTo, judgedOf, afterPair, trackFrom, trackVerdict, laterOf, andThen, roomFor, pairsVerdict, pointsVerdict, leaves, outcome, readPointsOf}
 use Rattle.polyline.specs.Write.{splineText, writeVerdict, writePointsOf}
 use Rattle.polyline_laws.specs.Begins.{Begins, FirstBad}
 use Rattle.polyline_laws.proofs.Places.{form-judged, first-bad-byte}
@@ -38,13 +38,13 @@ use Rattle.polyline_laws.proofs.Places.{form-judged, first-bad-byte}
 -- ---- TEXT is the form's alone
 
 -- the pairs give POSITION or COINCIDE
-walk-says : (ss : List Spot) (t : Track) (p : ℕ) → walkVerdict (walkFrom t ss) ≡ Fault Text p → ⊥
-unfolding walkFrom judgedOf
+walk-says : (ss : List Spot) (t : Track) (p : ℕ) → trackVerdict (trackFrom t ss) ≡ Fault Text p → ⊥
+unfolding trackFrom judgedOf
 walk-says [] t p e = let z : _≡_ {A = ℕ} 0 1 = cc in omega arith
 walk-says (s ∷ ss) t p e = go (placeable t (s .point)) (meets t (s .point)) e (λ f. walk-says ss (trackTo t (s .point)) p f)
   where
-    go : (a b : Bool) → walkVerdict (afterPair (cond a (cond b (Stop Coincide) (On (trackTo t (s .point)))) (Stop Position)) (s .begin) (λ u. walkFrom u ss)) ≡ Fault Text p
-        → (walkVerdict (walkFrom (trackTo t (s .point)) ss) ≡ Fault Text p → ⊥) → ⊥
+    go : (a b : Bool) → trackVerdict (afterPair (cond a (cond b (Stop Coincide) (On (trackTo t (s .point)))) (Stop Position)) (s .begin) (λ u. trackFrom u ss)) ≡ Fault Text p
+        → (trackVerdict (trackFrom (trackTo t (s .point)) ss) ≡ Fault Text p → ⊥) → ⊥
     go true true e f = let z : _≡_ {A = ℕ} 0 1 = cc in omega arith
     go true false e f = f e
     go false b e f = let z : _≡_ {A = ℕ} 0 1 = cc in omega arith
@@ -55,9 +55,9 @@ room-says false p e = let z : _≡_ {A = ℕ} 0 1 = cc in omega arith
 
 pairs-say : (start deltas : ℕ) (ss : List Spot) (p : ℕ) → pairsVerdict start deltas ss ≡ Fault Text p → ⊥
 unfolding pairsVerdict
-pairs-say start deltas ss p e = go (walkVerdict (walkFrom Empty ss)) refl e
+pairs-say start deltas ss p e = go (trackVerdict (trackFrom Empty ss)) refl e
   where
-    go : (v : Verdict) → walkVerdict (walkFrom Empty ss) ≡ v → andThen v (roomFor start deltas (laterOf ss)) ≡ Fault Text p → ⊥
+    go : (v : Verdict) → trackVerdict (trackFrom Empty ss) ≡ v → andThen v (roomFor start deltas (laterOf ss)) ≡ Fault Text p → ⊥
     go Fine x e = room-says (ltb start 2 || ltb deltas (2 * laterOf ss)) p e
     go (Fault c q) x e = walk-says ss Empty p (x ∙ e)
 

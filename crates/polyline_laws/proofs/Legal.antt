@@ -18,13 +18,13 @@ use Rattle.codes.specs.declared.Code.the-variants.{Delta, Position, Distance}
 use Rattle.codes.proofs.Decides.{both}
 use Rattle.list.specs.Steps.{f32Of}
 use Rattle.wholes.specs.Whole.{half, wholeBy, roundOf}
-use Rattle.control_points.specs.ControlPoints.{inRange, orStop, onward, stepOf, traceFrom, traceOf, runAt, pairAt, plusOf, manhattanOf, roundedOf, startingPoint, placeAt, movedOf, laterPoints, controlPoints, validDoubleDelta, validPointPos, samePoint, coincideFrom, adjacentCoincide}
+use Rattle.control_points.specs.ControlPoints.{inRange, orStop, onward, stepOf, traceFrom, traceOf, runAt, pairAt, plusOf, manhattanOf, roundedOf, startingPoint, standAt, movedOf, laterPoints, controlPoints, validDoubleDelta, validPointPos, samePoint, coincideFrom, adjacentCoincide}
 use Rattle.control_points.specs.Asked.{passes, Passable}
 use Rattle.control_points.specs.Refusals.{Inside, Outside, Small, sumUpTo, deltaAt, farAt, PairPasses, PairRefusal, delta-large, delta-outside, too-far, point-outside}
 use Rattle.control_points.specs.declared.Pair.{Pair}
-use Rattle.control_points.specs.declared.Place.{Place}
+use Rattle.control_points.specs.declared.Stand.{Stand}
 use Rattle.control_points.specs.declared.Run.{Run}
-use Rattle.control_points.specs.declared.Whole.the-variants as W
+use Rattle.control_points.specs.declared.Coordinate.the-variants as W
 use Rattle.control_points.specs.declared.Start.the-variants as S
 use Rattle.control_points.specs.declared.Traced.{Traced}
 use Rattle.control_points.specs.declared.Traced.the-variants as traced
@@ -105,16 +105,16 @@ unfolding plusOf minusOf
 minus-plus a b = pair-is _ b (less-plus (a .x) (b .x)) (less-plus (a .y) (b .y))
 
 -- a double delta leads to its pair
-pub moved-double : (p : Place) (q : Pair) → movedOf p (doubleDelta p q) ≡ record { delta = minusOf q (p .point); point = q }
+pub moved-double : (p : Stand) (q : Pair) → movedOf p (doubleDelta p q) ≡ record { delta = minusOf q (p .point); point = q }
 unfolding movedOf doubleDelta
 moved-double p q = rw (plus-minus (p .delta) (minusOf q (p .point)), plus-minus (p .point) q)
 
 -- and is the double delta of where it leads to
-pub double-moved : (p : Place) (dd : Pair) → doubleDelta p (movedOf p dd .point) ≡ dd
+pub double-moved : (p : Stand) (dd : Pair) → doubleDelta p (movedOf p dd .point) ≡ dd
 unfolding movedOf doubleDelta
 double-moved p dd = rw (minus-plus (p .point) (plusOf (p .delta) dd), minus-plus (p .delta) dd)
 
-pub delta-moved : (p : Place) (dd : Pair) → minusOf (movedOf p dd .point) (p .point) ≡ movedOf p dd .delta
+pub delta-moved : (p : Stand) (dd : Pair) → minusOf (movedOf p dd .point) (p .point) ≡ movedOf p dd .delta
 unfolding movedOf
 delta-moved p dd = minus-plus (p .point) (plusOf (p .delta) dd)
 
@@ -202,12 +202,12 @@ never-far start ds e = let s = trace-stops (wideLimit ds) start ds Distance e in
     go j h c e (point-outside a b m p) = let z : _≡_ {A = ℕ} 0 1 = cc in omega arith
 
 pub gone-is : (start : Pair) (ds : List ℤ) → goneOf start ds ≡ untraced (traceOf (wideLimit ds) start ds)
-unfolding goneOf traceOf runAt placeAt
+unfolding goneOf traceOf runAt standAt
 gone-is start ds = gone-traced (wideLimit ds) ds (runAt start) (never-far start ds)
 
 -- ---- legal
 
-pub gone-legal : (start : Pair) (ds : List ℤ) (q : Place) → validPointPos start ≡ true → goneOf start ds ≡ gone.On q false → Legal start ds
+pub gone-legal : (start : Pair) (ds : List ℤ) (q : Stand) → validPointPos start ≡ true → goneOf start ds ≡ gone.On q false → Legal start ds
 gone-legal start ds q v e = go (traceOf (wideLimit ds) start ds) refl (sym (gone-is start ds) ∙ e)
   where
     go : (t : Traced) → traceOf (wideLimit ds) start ds ≡ t → untraced t ≡ gone.On q false → Legal start ds
@@ -217,7 +217,7 @@ gone-legal start ds q v e = go (traceOf (wideLimit ds) start ds) refl (sym (gone
     go (traced.Stop c) h g = let z : _≡_ {A = ℕ} 0 1 = cc in absurd (omega arith)
 
 pub legal-gone : (start : Pair) (ds : List ℤ) (l : Legal start ds) → goneOf start ds ≡ gone.On (controlOf (l .run)) false
-unfolding goneOf placeAt traceOf runAt
+unfolding goneOf standAt traceOf runAt
 legal-gone start ds l =
     let c : l .run .coincide ≡ false = coincides (l .limit) start ds (l .run) (l .traced) ∙ l .apart in
     gone-traced (l .limit) ds (runAt start) (λ w. let z : _≡_ {A = ℕ} 0 1 = cc in omega arith) ∙ rw (l .traced, c)

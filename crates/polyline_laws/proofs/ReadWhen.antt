@@ -13,10 +13,10 @@ use Rattle.codes.proofs.Decides.{Decides, less-than, either-decides}
 use Rattle.write_judge.specs.declared.Verdict.{Verdict}
 use Rattle.write_judge.specs.declared.Verdict.the-variants.{Fine, Fault}
 use Rattle.writer.specs.declared.WriteAnswer.the-variants.{Refused}
-use Rattle.control_points.specs.ControlPoints.{validPointPos, samePoint, placeAt}
+use Rattle.control_points.specs.ControlPoints.{validPointPos, samePoint, standAt}
 use Rattle.control_points.specs.Refusals.{Inside, Outside}
 use Rattle.control_points.specs.declared.Pair.{Pair}
-use Rattle.control_points.specs.declared.Place.{Place}
+use Rattle.control_points.specs.declared.Stand.{Stand}
 use Rattle.control_points.proofs.Ranges.{point-decides}
 use Rattle.control_points.proofs.Coincide.{same-point}
 use Rattle.polyline.specs.declared.Spot.{Spot}
@@ -24,13 +24,13 @@ use Rattle.polyline.specs.declared.Track.{Track}
 use Rattle.polyline.specs.declared.Track.the-variants.{Empty, At}
 use Rattle.polyline.specs.declared.Judged.{Judged}
 use Rattle.polyline.specs.declared.Judged.the-variants.{On, Stop}
-use Rattle.polyline.specs.declared.Walked.{Walked}
-use Rattle.polyline.specs.declared.Walked.the-variants.{Came, Halt}
+use Rattle.polyline.specs.declared.Tracked.{Tracked}
+use Rattle.polyline.specs.declared.Tracked.the-variants.{Came, Halt}
 use Rattle.polyline.specs.Stages.{textOf}
 use Rattle.polyline.specs.Spots.{spotsOf}
-use Rattle.polyline.specs.Read.{minusOf, placeable, meets, trackTo, judgedOf, afterPair, walkFrom, walkVerdict, laterOf, andThen, roomFor, pairsVerdict, pointsVerdict, outcome, readPointsOf}
+use Rattle.polyline.specs.Read.{minusOf, placeable, meets, trackTo, judgedOf, afterPair, trackFrom, trackVerdict, laterOf, andThen, roomFor, pairsVerdict, pointsVerdict, outcome, readPointsOf}
 use Rattle.polyline.specs.Write.{pairText}
-use Rattle.polyline.proofs.Walks.{walk-on, walk-stop, judged-passes, unplaceable}
+use Rattle.polyline.proofs.Tracks.{walk-on, walk-stop, judged-passes, unplaceable}
 use Rattle.polyline_laws.specs.Begins.{FirstBad}
 use Rattle.polyline_laws.specs.Says.{Says, firstByte, Said}
 use Rattle.polyline_laws.specs.Refusals.{Placed, Misplaced, Again, Passes, Before, PointsLack, PointsReadRefusal, bad, position, coincide, room}
@@ -45,7 +45,7 @@ pub data Why (ps : List Pair) (j : ℕ) : Code → Type 0 where
 
 -- ---- a pair behind a place
 
-module _ (p : Place) (start q : Pair) (ps : List Pair) (v : validPointPos (p .point) ≡ true) where
+module _ (p : Stand) (start q : Pair) (ps : List Pair) (v : validPointPos (p .point) ≡ true) where
   -- the place's point, the pair, and those behind it
   abbrev Points : List Pair
   Points = p .point ∷ q ∷ ps
@@ -124,7 +124,7 @@ record FirstStop (at : ℕ) (x : Pair) (ps : List Pair) (c : Code) (b : ℕ) : T
   why : Why (x ∷ ps) (suc j) c
   place : b ≡ at + firstByte ps j
 
-abbrev Ends : ℕ → Pair → List Pair → Walked → Type 0
+abbrev Ends : ℕ → Pair → List Pair → Tracked → Type 0
 Ends at x ps (Came t) = AllPass x ps
 Ends at x ps (Halt c b) = FirstStop at x ps c b
 
@@ -136,7 +136,7 @@ module _ (at : ℕ) (x q : Pair) (ps : List Pair) where
   first-passes n h rest zero l = h
   first-passes n h rest (suc i) l = one-on x (q ∷ ps) i (rest i (omega arith))
 
-  ends-on : Passes (x ∷ q ∷ ps) 1 → (w : Walked) → Ends next q ps w → Ends at x (q ∷ ps) w
+  ends-on : Passes (x ∷ q ∷ ps) 1 → (w : Tracked) → Ends next q ps w → Ends at x (q ∷ ps) w
   ends-on h (Came t) e = record { each = first-passes (length ps) h (e .each) }
   ends-on h (Halt c b) e = record {
     j = suc (e .j);
@@ -149,31 +149,31 @@ module _ (at : ℕ) (x q : Pair) (ps : List Pair) where
 pub passes-valid : (p q : Pair) (ps : List Pair) → Passes (p ∷ q ∷ ps) 1 → validPointPos q ≡ true
 passes-valid p q ps h = point-decides q .passes (h .placed .1)
 
-ends : (ps : List Pair) (at : ℕ) (p : Place) (start : Pair) → validPointPos (p .point) ≡ true → Ends at (p .point) ps (walkFrom (At p start) (spotsBy at ps))
-unfolding walkFrom trackTo
+ends : (ps : List Pair) (at : ℕ) (p : Stand) (start : Pair) → validPointPos (p .point) ≡ true → Ends at (p .point) ps (trackFrom (At p start) (spotsBy at ps))
+unfolding trackFrom trackTo
 ends [] at p start v = record { each = λ i l. absurd (omega arith) }
 ends (q ∷ ps) at p start v = go (judgedOf (At p start) q) (later-verdict p start q ps v) (λ r. ends ps (suc (at + length (pairText q))) r start)
   where
     go : (w : Judged) → Verdicted p start q ps v w
-        → ((r : Place) → validPointPos (r .point) ≡ true → Ends (suc (at + length (pairText q))) (r .point) ps (walkFrom (At r start) (spotsBy (suc (at + length (pairText q))) ps)))
-        → Ends at (p .point) (q ∷ ps) (afterPair w at (λ u. walkFrom u (spotsBy (suc (at + length (pairText q))) ps)))
+        → ((r : Stand) → validPointPos (r .point) ≡ true → Ends (suc (at + length (pairText q))) (r .point) ps (trackFrom (At r start) (spotsBy (suc (at + length (pairText q))) ps)))
+        → Ends at (p .point) (q ∷ ps) (afterPair w at (λ u. trackFrom u (spotsBy (suc (at + length (pairText q))) ps)))
     go w (passed h) ih =
-        ends-on at (p .point) q ps h (walkFrom (trackTo (At p start) q) (spotsBy (suc (at + length (pairText q))) ps))
+        ends-on at (p .point) q ps h (trackFrom (trackTo (At p start) q) (spotsBy (suc (at + length (pairText q))) ps))
         (ih (record { delta = minusOf q (p .point); point = q }) (passes-valid (p .point) q ps h))
     go w (stopped y) ih = record { j = 0; inside = omega arith; before = λ i l. absurd (omega arith); why = y; place = omega arith }
 
 -- and back
-walks-on : (ps : List Pair) (at : ℕ) (p : Place) (start : Pair) → validPointPos (p .point) ≡ true → AllPass (p .point) ps → walkVerdict (walkFrom (At p start) (spotsBy at ps)) ≡ Fine
-unfolding walkFrom trackTo
+walks-on : (ps : List Pair) (at : ℕ) (p : Stand) (start : Pair) → validPointPos (p .point) ≡ true → AllPass (p .point) ps → trackVerdict (trackFrom (At p start) (spotsBy at ps)) ≡ Fine
+unfolding trackFrom trackTo
 walks-on [] at p start v h = refl
 walks-on (q ∷ ps) at p start v h =
     rw (later-passes p start q ps v (h .each 0 (omega arith)))
     (walks-on ps (suc (at + length (pairText q))) (record { delta = minusOf q (p .point); point = q }) start (passes-valid (p .point) q ps (h .each 0 (omega arith)))
     (record { each = λ i l. one-off (p .point) (q ∷ ps) i (h .each (suc i) (omega arith)) }))
 
-walks-to : (ps : List Pair) (at : ℕ) (p : Place) (start : Pair) → validPointPos (p .point) ≡ true → (c : Code) (j : ℕ) → j < length ps
-    → ((i : ℕ) → i < j → Passes (p .point ∷ ps) (suc i)) → Why (p .point ∷ ps) (suc j) c → walkVerdict (walkFrom (At p start) (spotsBy at ps)) ≡ Fault c (at + firstByte ps j)
-unfolding walkFrom trackTo
+walks-to : (ps : List Pair) (at : ℕ) (p : Stand) (start : Pair) → validPointPos (p .point) ≡ true → (c : Code) (j : ℕ) → j < length ps
+    → ((i : ℕ) → i < j → Passes (p .point ∷ ps) (suc i)) → Why (p .point ∷ ps) (suc j) c → trackVerdict (trackFrom (At p start) (spotsBy at ps)) ≡ Fault c (at + firstByte ps j)
+unfolding trackFrom trackTo
 walks-to [] at p start v c j l b y = absurd (omega arith)
 walks-to (q ∷ ps) at p start v c zero l b y =
     let e : at ≡ at + 0 = omega arith in
@@ -207,33 +207,33 @@ module _ (p : Pair) (ps : List Pair) where
   all-before n h rest zero l = record { placed = h; apart = λ e. e }
   all-before n h rest (suc i) l = rest i (omega arith)
 
-  first-says : (w : Walked) → Inside p → Ends behind p ps w → Says-so (p ∷ ps) (walkVerdict w)
+  first-says : (w : Tracked) → Inside p → Ends behind p ps w → Says-so (p ∷ ps) (trackVerdict w)
   first-says (Came t) h e = all-before (length ps) h (e .each)
   first-says (Halt c b) h e = record { j = suc (e .j); inside = omega (arith, e .inside); before = all-before (e .j) h (e .before); why = e .why; place = omega (arith, e .place) }
 
-  pub walk-says : Says-so (p ∷ ps) (walkVerdict (walkFrom Empty (spotsBy 0 (p ∷ ps))))
-  unfolding walkFrom judgedOf placeable meets trackTo placeAt
+  pub walk-says : Says-so (p ∷ ps) (trackVerdict (trackFrom Empty (spotsBy 0 (p ∷ ps))))
+  unfolding trackFrom judgedOf placeable meets trackTo standAt
   walk-says = go (validPointPos p) refl
     where
       go : (t : Bool) → validPointPos p ≡ t
-          → Says-so (p ∷ ps) (walkVerdict (afterPair (cond t (On (At (placeAt p) p)) (Stop Position)) 0 (λ u. walkFrom u (spotsBy behind ps))))
-      go true e = first-says (walkFrom (At (placeAt p) p) (spotsBy behind ps)) (point-decides p .passed e) (ends ps behind (placeAt p) p e)
+          → Says-so (p ∷ ps) (trackVerdict (afterPair (cond t (On (At (standAt p) p)) (Stop Position)) 0 (λ u. trackFrom u (spotsBy behind ps))))
+      go true e = first-says (trackFrom (At (standAt p) p) (spotsBy behind ps)) (point-decides p .passed e) (ends ps behind (standAt p) p e)
       go false e = record { j = 0; inside = omega arith; before = λ i l. absurd (omega arith); why = misplaced (point-decides p .failed e); place = refl }
 
-  pub walk-fine : Before (p ∷ ps) (suc (length ps)) → walkVerdict (walkFrom Empty (spotsBy 0 (p ∷ ps))) ≡ Fine
-  unfolding walkFrom judgedOf placeable meets trackTo placeAt
+  pub walk-fine : Before (p ∷ ps) (suc (length ps)) → trackVerdict (trackFrom Empty (spotsBy 0 (p ∷ ps))) ≡ Fine
+  unfolding trackFrom judgedOf placeable meets trackTo standAt
   walk-fine b =
       let v = point-decides p .passes (b 0 (omega arith) .placed) in
-      rw v (walks-on ps behind (placeAt p) p v (record { each = λ i l. b (suc i) (omega arith) }))
+      rw v (walks-on ps behind (standAt p) p v (record { each = λ i l. b (suc i) (omega arith) }))
 
-  pub walk-stops : (c : Code) (j : ℕ) → j < suc (length ps) → Before (p ∷ ps) j → Why (p ∷ ps) j c → walkVerdict (walkFrom Empty (spotsBy 0 (p ∷ ps))) ≡ Fault c (firstByte (p ∷ ps) j)
-  unfolding walkFrom judgedOf placeable meets trackTo placeAt
+  pub walk-stops : (c : Code) (j : ℕ) → j < suc (length ps) → Before (p ∷ ps) j → Why (p ∷ ps) j c → trackVerdict (trackFrom Empty (spotsBy 0 (p ∷ ps))) ≡ Fault c (firstByte (p ∷ ps) j)
+  unfolding trackFrom judgedOf placeable meets trackTo standAt
   walk-stops c zero l b (misplaced o) = rw (point-decides p .fails o)
   walk-stops c zero l b (again h e) = absurd e
   walk-stops c (suc j) l b y =
       let v = point-decides p .passes (b 0 (omega arith) .placed) in
       let e : behind + firstByte ps j ≡ suc (length (pairText p) + firstByte ps j) = omega arith in
-      rw v (walks-to ps behind (placeAt p) p v c j (omega arith) (λ i m. b (suc i) (omega arith)) y ∙ ap (λ (k : ℕ). Fault c k) e)
+      rw v (walks-to ps behind (standAt p) p v c j (omega arith) (λ i m. b (suc i) (omega arith)) y ∙ ap (λ (k : ℕ). Fault c k) e)
 
 -- ---- the room
 
@@ -245,13 +245,13 @@ lacks-decides start deltas ps = either-decides (less-than start 2) (less-than de
 module _ (text : List ℕ) (start deltas : ℕ) where
   -- a text that says points is judged by them
   pub verdict-said : (ps : List Pair) → Says text ps
-      → pointsVerdict start deltas text ≡ andThen (walkVerdict (walkFrom Empty (spotsBy 0 ps))) (cond (ltb start 2 || ltb deltas (2 * (length ps - 1))) (Fault Room 0) Fine)
+      → pointsVerdict start deltas text ≡ andThen (trackVerdict (trackFrom Empty (spotsBy 0 ps))) (cond (ltb start 2 || ltb deltas (2 * (length ps - 1))) (Fault Room 0) Fine)
   unfolding pointsVerdict pairsVerdict
   verdict-said ps s = rw (form-judged text .0 (form-says text .1 (record { points = ps; says = s })), spots-said text ps s, spots-length ps 0)
 
   refused-said : (ps : List Pair) → Says text ps → (c : Code) (p : ℕ) → pointsVerdict start deltas text ≡ Fault c p → PointsReadRefusal text start deltas c p
   refused-said [] s c p e = absurd (omega (arith, s .some))
-  refused-said (q ∷ ps) s c p e = go (walkVerdict (walkFrom Empty (spotsBy 0 (q ∷ ps)))) (walk-says q ps) (sym (verdict-said (q ∷ ps) s) ∙ e)
+  refused-said (q ∷ ps) s c p e = go (trackVerdict (trackFrom Empty (spotsBy 0 (q ∷ ps)))) (walk-says q ps) (sym (verdict-said (q ∷ ps) s) ∙ e)
     where
       by : (c : Code) (j : ℕ) → j < length (q ∷ ps) → Before (q ∷ ps) j → Why (q ∷ ps) j c → PointsReadRefusal text start deltas c (firstByte (q ∷ ps) j)
       by c j l b (misplaced o) = position (q ∷ ps) s j l b o

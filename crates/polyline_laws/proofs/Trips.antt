@@ -21,7 +21,7 @@ use Rattle.writer.specs.declared.WriteAnswer.the-variants.{Done}
 use Rattle.control_points.specs.ControlPoints.{startingPoint, controlPoints, validPointPos}
 use Rattle.dequantize.specs.Judge.{Description, descriptionOf, startX, startY, deltasAt, deltasOf}
 use Rattle.control_points.specs.declared.Pair.{Pair}
-use Rattle.control_points.specs.declared.Place.{Place}
+use Rattle.control_points.specs.declared.Stand.{Stand}
 use Rattle.control_points.specs.declared.Start.the-variants as S
 use Rattle.control_points.proofs.Coincide.{controlOf}
 use Rattle.control_points.proofs.Starts.{start-valid}

@@ -20,7 +20,7 @@ use Rattle.writer.specs.Write as writing
 use Rattle.write_judge.specs.declared.Verdict.{Verdict}
 use Rattle.write_judge.specs.declared.Verdict.the-variants.{Fine, Fault}
 use Rattle.writer.specs.declared.WriteAnswer.the-variants.{Done, Refused}
-use Rattle.control_points.specs.ControlPoints.{startingPoint, placeAt, controlPoints, validPointPos, samePoint, coincideFrom, adjacentCoincide, traceOf, pairAt}
+use Rattle.control_points.specs.ControlPoints.{startingPoint, standAt, controlPoints, validPointPos, samePoint, coincideFrom, adjacentCoincide, traceOf, pairAt}
 use Rattle.dequantize.specs.Judge.{Description, descriptionOf, startX, startY, deltasOf}
 use Rattle.control_points.specs.Refusals.{Inside, Outside, Small, Large, RoundsTo, Strays, nowhere, deltaAt, controlPointAt, Adjacent, PairPasses, PairRefusal}
 use Rattle.control_points.specs.Refusals as building

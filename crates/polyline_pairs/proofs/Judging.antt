@@ -2,9 +2,9 @@
 use mathlib.Core.Path.{_≡_}
 use mathlib.Core.Bool.{true, false}
 use Rattle.codes.specs.declared.Code.the-variants.{Position, Coincide}
-use Rattle.control_points.specs.ControlPoints.{validPointPos, samePoint, placeAt}
+use Rattle.control_points.specs.ControlPoints.{validPointPos, samePoint, standAt}
 use Rattle.control_points.specs.declared.Pair.{Pair}
-use Rattle.control_points.specs.declared.Place.{Place}
+use Rattle.control_points.specs.declared.Stand.{Stand}
 use Rattle.polyline.specs.declared.Track.{Track}
 use Rattle.polyline.specs.declared.Track.the-variants.{Empty, At}
 use Rattle.polyline.specs.declared.Judged.the-variants as judged
@@ -12,7 +12,7 @@ use Rattle.polyline.specs.Read.{minusOf, placeable, meets, trackTo, judgedOf}
 
 -- ---- a later pair
 
-module _ (p : Place) (start q d : Pair) (is : d ≡ minusOf q (p .point)) where
+module _ (p : Stand) (start q d : Pair) (is : d ≡ minusOf q (p .point)) where
   pub later-delta : validPointPos d ≡ false → judged.Stop Position ≡ judgedOf (At p start) q
   unfolding judgedOf placeable
   later-delta e = rw (← is, e)
@@ -34,7 +34,7 @@ module _ (p : Place) (start q d : Pair) (is : d ≡ minusOf q (p .point)) where
 -- ---- a first pair
 
 module _ (t : Track) (q : Pair) (is : t ≡ Empty) where
-  pub first-on : (p : Place) → p ≡ placeAt q → validPointPos q ≡ true → judged.On (At p q) ≡ judgedOf t q
+  pub first-on : (p : Stand) → p ≡ standAt q → validPointPos q ≡ true → judged.On (At p q) ≡ judgedOf t q
   unfolding judgedOf placeable meets trackTo
   first-on p e h = rw (is, e, h)
 

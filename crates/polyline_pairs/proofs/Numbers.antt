@@ -10,9 +10,9 @@ use borrow.Author.Tests.{lt-ltb, le-leb, lt-leb, leb-false, eqb-true, eqb-false}
 use mir.Syntax.{w32}
 use mir.Val.{SFits, toZ, ofZ}
 use mir.Facts.{toZ-ofZ}
-use Rattle.control_points.specs.ControlPoints.{validPointPos, samePoint, placeAt}
+use Rattle.control_points.specs.ControlPoints.{validPointPos, samePoint, standAt}
 use Rattle.control_points.specs.declared.Pair.{Pair}
-use Rattle.control_points.specs.declared.Place.{Place}
+use Rattle.control_points.specs.declared.Stand.{Stand}
 use Rattle.control_points.proofs.Coincide.{same-point}
 use Rattle.control_points.proofs.Pairs.{in-range-mag, point-range}
 use Rattle.polyline.specs.declared.Figure.{Figure}
@@ -20,7 +20,7 @@ use Rattle.polyline.specs.declared.Track.{Track}
 use Rattle.polyline.specs.declared.Track.the-variants.{Empty, At}
 use Rattle.polyline.specs.Spots.{signedBy, figureAt, grownBy, spotOf, capped}
 use Rattle.polyline.specs.Read.{minusOf, placeable, meets, trackTo}
-use Rattle.polyline.proofs.Walks.{Passes, placeable-valid}
+use Rattle.polyline.proofs.Tracks.{Passes, placeable-valid}
 use Rattle.codes.proofs.Decides.{both}
 use Rattle.polyline_pairs.specs.Fits.{Near, Small, Held, OnTrack}
 
@@ -110,7 +110,7 @@ valid-near q h = small-near q (valid-small q h)
 
 -- a track stays held
 pub track-held : (t : Track) (q : Pair) (u : Track) → OnTrack t → Passes t q u → OnTrack u
-unfolding placeable trackTo placeAt validPointPos
+unfolding placeable trackTo standAt validPointPos
 track-held Empty q u h p = rw (p .is) (record { held = (refl, p .placed) })
 track-held (At pl start) q u h p =
     let b = both (validPointPos (minusOf q (pl .point))) (validPointPos q) (p .placed) in

@@ -1,7 +1,7 @@
 // One pair of a points text: the numbers that its bytes make, and the judgement on it behind the pairs before it.
 use codes::Code;
 use control_points::Pair;
-use control_points::Place;
+use control_points::Stand;
 use polyline::Figure;
 use polyline::Judged;
 use polyline::Spot;
@@ -129,7 +129,7 @@ pub fn spot(f: Figure) -> Spot
 }
 
 // A pair behind a place: POSITION of the delta and of the point, then COINCIDE.
-fn judge_later(p: Place, start: Pair, q: Pair) -> Judged
+fn judge_later(p: Stand, start: Pair, q: Pair) -> Judged
     requires { ⌜ OnTrack (Track.At p start) × Near q ⌝ }
     ensures { λ r. ⌜ r ≡ judgedOf (Track.At p start) q ⌝ }
 {
@@ -144,7 +144,7 @@ fn judge_later(p: Place, start: Pair, q: Pair) -> Judged
     if same(point, q) {
         return Judged::Stop(Code::Coincide);
     }
-    Judged::On(Track::At(Place { delta, point: q }, start))
+    Judged::On(Track::At(Stand { delta, point: q }, start))
 }
 
 pub fn judge_pair(track: Track, q: Pair) -> Judged
@@ -154,7 +154,7 @@ pub fn judge_pair(track: Track, q: Pair) -> Judged
     match track {
         Track::Empty => {
             if valid(q) {
-                Judged::On(Track::At(Place::at(q), q))
+                Judged::On(Track::At(Stand::at(q), q))
             } else {
                 Judged::Stop(Code::Position)
             }
@@ -164,7 +164,7 @@ pub fn judge_pair(track: Track, q: Pair) -> Judged
 }
 
 // The double delta that leads from a place to a pair.
-pub fn double_delta(p: Place, q: Pair) -> Pair
+pub fn double_delta(p: Stand, q: Pair) -> Pair
     requires { ⌜ Near q × Near (p .point) × Near (minusOf q (p .point)) × Near (p .delta) ⌝ }
     ensures { λ r. ⌜ r ≡ doubleDelta p q ⌝ }
 {

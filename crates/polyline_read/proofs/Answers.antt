@@ -20,16 +20,16 @@ use Rattle.writer.specs.declared.WriteAnswer.the-variants.{Done, Refused}
 use Rattle.write_judge.proofs.Checks.{neither}
 use Rattle.control_points.specs.ControlPoints.{validPointPos}
 use Rattle.control_points.specs.declared.Pair.{Pair}
-use Rattle.control_points.specs.declared.Place.{Place}
+use Rattle.control_points.specs.declared.Stand.{Stand}
 use Rattle.polyline.specs.declared.Spot.{Spot}
 use Rattle.polyline.specs.declared.Track.{Track}
 use Rattle.polyline.specs.declared.Track.the-variants.{Empty, At}
-use Rattle.polyline.specs.declared.Walked.{Walked}
-use Rattle.polyline.specs.declared.Walked.the-variants.{Came, Halt}
+use Rattle.polyline.specs.declared.Tracked.{Tracked}
+use Rattle.polyline.specs.declared.Tracked.the-variants.{Came, Halt}
 use Rattle.polyline.specs.Stages.{textOf}
 use Rattle.polyline.specs.Spots.{figureAt, uncapped, spotsOf, cappedSpots}
-use Rattle.polyline.specs.Read.{walkFrom, deltasFrom, firstPoint, startOf, laterOf, andThen, walkVerdict, roomFor, pairsVerdict, pointsVerdict, leaves, outcome, readPointsOf}
-use Rattle.polyline.proofs.Walks.{First, walk-first, deltas-length, spots-some}
+use Rattle.polyline.specs.Read.{trackFrom, deltasFrom, firstPoint, startOf, laterOf, andThen, trackVerdict, roomFor, pairsVerdict, pointsVerdict, leaves, outcome, readPointsOf}
+use Rattle.polyline.proofs.Tracks.{First, walk-first, deltas-length, spots-some}
 use Rattle.polyline.proofs.Capped.{capped-is, walk-capped, came-same, capSpot}
 use Rattle.polyline_scan.specs.declared.Run.{Run}
 use Rattle.polyline_scan.specs.declared.Turned.the-variants.{On, Stop}
@@ -38,12 +38,12 @@ use Rattle.polyline_read.specs.Steps.{TextLeaves}
 
 -- ---- the pairs as they are
 
-walk-is : (text : List ℕ) → walkFrom Empty (cappedSpots text) ≡ walkFrom Empty (spotsOf text)
-walk-is text = ap (walkFrom Empty) (capped-is text) ∙ walk-capped (spotsOf text) Empty
+walk-is : (text : List ℕ) → trackFrom Empty (cappedSpots text) ≡ trackFrom Empty (spotsOf text)
+walk-is text = ap (trackFrom Empty) (capped-is text) ∙ walk-capped (spotsOf text) Empty
 
 -- a text whose pairs all pass, gone through
 pub record Scanned (text : List ℕ) (run : Run) (d d′ : List ℤ) : Type 0 where
-  pub walk : walkFrom Empty (spotsOf text) ≡ Came (run .track)
+  pub walk : trackFrom Empty (spotsOf text) ≡ Came (run .track)
   pub held : run .held ≡ 2 * laterOf (spotsOf text)
   pub stored : d′ ≡ sets d 0 (deltasFrom Empty (spotsOf text))
   pub first : First (spotsOf text) (run .track)
@@ -67,10 +67,10 @@ module _ (text : List ℕ) (run : Run) (d d′ : List ℤ) (g : Scanned text run
   pub never-empty : run .track ≡ Empty → ⊥
   never-empty e = let k = g .first .keeps .is in let z : _≡_ {A = ℕ} 0 1 = cc in omega arith
 
-  pub first-is : (p : Place) (q : Pair) → run .track ≡ At p q → q ≡ firstPoint (spotsOf text)
+  pub first-is : (p : Stand) (q : Pair) → run .track ≡ At p q → q ≡ firstPoint (spotsOf text)
   first-is p q e = let k = g .first .keeps .is in cc
 
-  pub first-valid : (p : Place) (q : Pair) → run .track ≡ At p q → validPointPos q ≡ true
+  pub first-valid : (p : Stand) (q : Pair) → run .track ≡ At p q → validPointPos q ≡ true
   first-valid p q e = rw (first-is p q e) (g .first .valid)
 
 -- ---- the verdict
@@ -80,7 +80,7 @@ module _ (ls ld : ℕ) (text : List ℕ) where
   unfolding pairsVerdict
   halted code place d d′ l = rw (sym (walk-is text) ∙ l .leaves)
 
-  module _ (t : Track) (came : walkFrom Empty (spotsOf text) ≡ Came t) where
+  module _ (t : Track) (came : trackFrom Empty (spotsOf text) ≡ Came t) where
     pub start-lacks : ls < 2 → pairsVerdict ls ld (spotsOf text) ≡ Fault Room 0
     unfolding pairsVerdict
     start-lacks h = rw (came, lt-ltb ls 2 h)
@@ -96,10 +96,10 @@ module _ (ls ld : ℕ) (text : List ℕ) where
   -- no fault: there is room
   pub roomy : pointsVerdict ls ld text ≡ Fine → (2 ≤ ls) × (2 * laterOf (spotsOf text) ≤ ld)
   unfolding pointsVerdict pairsVerdict
-  roomy e = go (textOf text) (walkFrom Empty (spotsOf text)) (ltb ls 2 || ltb ld (2 * laterOf (spotsOf text))) refl e
+  roomy e = go (textOf text) (trackFrom Empty (spotsOf text)) (ltb ls 2 || ltb ld (2 * laterOf (spotsOf text))) refl e
     where
-      go : (v : Verdict) (w : Walked) (b : Bool) → (ltb ls 2 || ltb ld (2 * laterOf (spotsOf text))) ≡ b
-          → andThen v (andThen (walkVerdict w) (cond b (Fault Room 0) Fine)) ≡ Fine → (2 ≤ ls) × (2 * laterOf (spotsOf text) ≤ ld)
+      go : (v : Verdict) (w : Tracked) (b : Bool) → (ltb ls 2 || ltb ld (2 * laterOf (spotsOf text))) ≡ b
+          → andThen v (andThen (trackVerdict w) (cond b (Fault Room 0) Fine)) ≡ Fine → (2 ≤ ls) × (2 * laterOf (spotsOf text) ≤ ld)
       go (Fault c p) w b x e = let z : _≡_ {A = ℕ} 0 1 = cc in absurd (omega arith)
       go Fine (Halt c p) b x e = let z : _≡_ {A = ℕ} 0 1 = cc in absurd (omega arith)
       go Fine (Came t) true x e = let z : _≡_ {A = ℕ} 0 1 = cc in absurd (omega arith)

@@ -12,7 +12,7 @@ use lib.Seq.{drop-cons, sets, length-sets, getD-append-seam}
 use borrow.Author.Tests.{eq-eqb, ne-eqb, eqb-true, eqb-false}
 use Rattle.codes.specs.declared.Code.{Code}
 use Rattle.control_points.specs.declared.Pair.{Pair}
-use Rattle.control_points.specs.declared.Place.{Place}
+use Rattle.control_points.specs.declared.Stand.{Stand}
 use Rattle.write_steps.proofs.Stores.{sets-append}
 use Rattle.polyline.specs.declared.Figure.{Figure}
 use Rattle.polyline.specs.declared.Spot.{Spot}
@@ -20,10 +20,10 @@ use Rattle.polyline.specs.declared.Track.{Track}
 use Rattle.polyline.specs.declared.Track.the-variants.{Empty, At}
 use Rattle.polyline.specs.declared.Judged.{Judged}
 use Rattle.polyline.specs.declared.Judged.the-variants as judged
-use Rattle.polyline.specs.declared.Walked.the-variants.{Came, Halt}
+use Rattle.polyline.specs.declared.Tracked.the-variants.{Came, Halt}
 use Rattle.polyline.specs.Spots.{figureAt, grownBy, spotOf, spotsFrom, capped, cappedSpots, ended}
-use Rattle.polyline.specs.Read.{doubleDelta, trackTo, stepDeltas, judgedOf, walkFrom, deltasFrom}
-use Rattle.polyline.proofs.Walks.{Passes, judged-on, walk-on, walk-stop}
+use Rattle.polyline.specs.Read.{doubleDelta, trackTo, stepDeltas, judgedOf, trackFrom, deltasFrom}
+use Rattle.polyline.proofs.Tracks.{Passes, judged-on, walk-on, walk-stop}
 use Rattle.polyline_scan.specs.declared.Run.{Run}
 use Rattle.polyline_scan.specs.declared.Turned.{Turned}
 use Rattle.polyline_scan.specs.declared.Turned.the-variants.{On, Stop}
@@ -36,7 +36,7 @@ pub store-none : (t : Track) (q : Pair) (l : List ℤ) (i : ℕ) → t ≡ Empty
 unfolding stepDeltas
 store-none t q l i e = rw e (refl, omega arith)
 
-pub store-two : (t : Track) (p : Place) (start q d : Pair) (l l1 l2 : List ℤ) (i : ℕ) (a b : ℤ) → t ≡ At p start → d ≡ doubleDelta p q → a ≡ d .x → b ≡ d .y
+pub store-two : (t : Track) (p : Stand) (start q d : Pair) (l l1 l2 : List ℤ) (i : ℕ) (a b : ℤ) → t ≡ At p start → d ≡ doubleDelta p q → a ≡ d .x → b ≡ d .y
     → l1 ≡ set l i a → l2 ≡ set l1 (i + 1) b → (l2 ≡ sets l i (stepDeltas t q)) × (i + 2 ≡ i + length (stepDeltas t q))
 unfolding stepDeltas
 store-two t p start q d l l1 l2 i a b is e x y f g = rw (is, ← e) (g ∙ rw (f, x, y, add-one i), refl)
@@ -111,7 +111,7 @@ pub record Going (text : List ℕ) (d₀ d : List ℤ) (run : Run) (i : ℕ) : T
   pub kept : length d ≡ length d₀
   pub few : Counts (run .track) (run .held) i
   pub fits : RunHeld run
-  pub walk : walkFrom (run .track) (rest text run i) ≡ walkFrom Empty (cappedSpots text)
+  pub walk : trackFrom (run .track) (rest text run i) ≡ trackFrom Empty (cappedSpots text)
   pub many : run .held + length (deltasFrom (run .track) (rest text run i)) ≡ length (deltasFrom Empty (cappedSpots text))
   pub so : sets d (run .held) (deltasFrom (run .track) (rest text run i)) ≡ sets d₀ 0 (deltasFrom Empty (cappedSpots text))
 
@@ -187,7 +187,7 @@ module _ (text : List ℕ) (d₀ d d′ : List ℤ) (run : Run) (i : ℕ) (g : G
       })
 
   space-stop : b ≡ 32 → (code : Code) (place : ℕ) (c : Code) → judgedOf (run .track) (spotOf (run .figure) .point) ≡ judged.Stop c → Stop code place ≡ turnedOf run b (i + 1)
-      → walkFrom Empty (cappedSpots text) ≡ Halt code place
+      → trackFrom Empty (cappedSpots text) ≡ Halt code place
   unfolding turnedOf pairEnds
   space-stop e code place c j r =
       let ss = spotsFrom capped (figureAt (suc i)) (suc i) (drop (suc i) (ended text)) in
@@ -217,16 +217,16 @@ module _ (text : List ℕ) (d₀ d d′ : List ℤ) (run : Run) (i : ℕ) (g : G
       go false x j y = inside (eqb-false b 32 x) u (sym is ∙ e .0) (e .1)
 
   pub going-stops : (r : Turned) → (r ≡ turnedOf run b (i + 1)) × (d′ ≡ sets d (run .held) (turnDeltas run b)) → (code : Code) (place : ℕ) → r ≡ Stop code place
-      → walkFrom Empty (cappedSpots text) ≡ Halt code place
+      → trackFrom Empty (cappedSpots text) ≡ Halt code place
   going-stops r e code place is = go (eqb b 32) refl (judgedOf (run .track) (spotOf (run .figure) .point)) refl
     where
-      go : (t : Bool) → eqb b 32 ≡ t → (j : Judged) → judgedOf (run .track) (spotOf (run .figure) .point) ≡ j → walkFrom Empty (cappedSpots text) ≡ Halt code place
+      go : (t : Bool) → eqb b 32 ≡ t → (j : Judged) → judgedOf (run .track) (spotOf (run .figure) .point) ≡ j → trackFrom Empty (cappedSpots text) ≡ Halt code place
       go true x (judged.On t) y = absurd (space-goes (eqb-true b 32 x) t code place y (sym is ∙ e .0))
       go true x (judged.Stop c) y = space-stop (eqb-true b 32 x) code place c y (sym is ∙ e .0)
       go false x j y = absurd (inside-goes (eqb-false b 32 x) code place (sym is ∙ e .0))
 
 pub going-done : (text : List ℕ) (d₀ d : List ℤ) (run : Run) (i : ℕ) → Going text d₀ d run i → length text < i → ScanLeaves (cappedSpots text) (On run) d₀ d
-unfolding spotsFrom walkFrom deltasFrom
+unfolding spotsFrom trackFrom deltasFrom
 going-done text d₀ d run i g h =
     let le : length (ended text) ≤ i = omega (arith, length-append text (32 ∷ [])) in
     let n : drop i (ended text) ≡ [] = drop-of-length-le (ended text) le in

@@ -12,9 +12,9 @@ use Rattle.polyline.specs.declared.Track.{Track}
 use Rattle.polyline.specs.declared.Track.the-variants.{Empty, At}
 use Rattle.polyline.specs.declared.Judged.{Judged}
 use Rattle.polyline.specs.declared.Judged.the-variants as judged
-use Rattle.polyline.specs.declared.Walked.the-variants.{Came, Halt}
+use Rattle.polyline.specs.declared.Tracked.the-variants.{Came, Halt}
 use Rattle.polyline.specs.Spots.{figureAt, grownBy, spotOf, capped}
-use Rattle.polyline.specs.Read.{judgedOf, walkFrom, stepDeltas, deltasFrom}
+use Rattle.polyline.specs.Read.{judgedOf, trackFrom, stepDeltas, deltasFrom}
 use Rattle.polyline_pairs.specs.Fits.{Held, OnTrack}
 use Rattle.polyline_scan.specs.declared.Run.{Run}
 use Rattle.polyline_scan.specs.declared.Turned.{Turned}
@@ -62,8 +62,8 @@ turnDeltas run b = cond (eqb b 32) (endDeltas run) []
 -- what going through pairs answers, and leaves in cells that held d before
 abbrev pub scanLeaves : List Spot → Turned → List ℤ → List ℤ → Type 0
 scanLeaves ss (On run) d d′ =
-    (walkFrom Empty ss ≡ Came (run .track)) × (run .held ≡ length (deltasFrom Empty ss)) × (d′ ≡ sets d 0 (deltasFrom Empty ss))
-scanLeaves ss (Stop code place) d d′ = walkFrom Empty ss ≡ Halt code place
+    (trackFrom Empty ss ≡ Came (run .track)) × (run .held ≡ length (deltasFrom Empty ss)) × (d′ ≡ sets d 0 (deltasFrom Empty ss))
+scanLeaves ss (Stop code place) d d′ = trackFrom Empty ss ≡ Halt code place
 
 pub record ScanLeaves (ss : List Spot) (r : Turned) (d d′ : List ℤ) : Type 0 where
   pub leaves : scanLeaves ss r d d′

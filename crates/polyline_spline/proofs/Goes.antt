@@ -8,10 +8,10 @@ use lib.IntN.{ℤ}
 use lib.ListN.{length, drop, length-drop}
 use Rattle.codes.specs.declared.Code.{Code}
 use Rattle.codes.specs.declared.Code.the-variants.{Delta, Position, Coincide}
-use Rattle.control_points.specs.ControlPoints.{validPointPos, validDoubleDelta, samePoint, plusOf, movedOf, placeAt, pairAt, startingPoint}
+use Rattle.control_points.specs.ControlPoints.{validPointPos, validDoubleDelta, samePoint, plusOf, movedOf, standAt, pairAt, startingPoint}
 use Rattle.control_points.specs.Asked.{passes, Passable}
 use Rattle.control_points.specs.declared.Pair.{Pair}
-use Rattle.control_points.specs.declared.Place.{Place}
+use Rattle.control_points.specs.declared.Stand.{Stand}
 use Rattle.control_points.specs.declared.Start.{Start}
 use Rattle.control_points.specs.declared.Start.the-variants as S
 use Rattle.control_points.proofs.Steps.{pair-drop}
@@ -24,7 +24,7 @@ use Rattle.polyline_spline.specs.Steps.{Placed, settledAt, begunAt}
 
 -- ---- one double delta
 
-module _ (p : Place) (met : Bool) (dd : Pair) where
+module _ (p : Stand) (met : Bool) (dd : Pair) where
   pub gone-delta : validDoubleDelta dd ≡ false → Stop Delta ≡ goneBy p met dd
   unfolding goneBy
   gone-delta e = rw e
@@ -44,14 +44,14 @@ module _ (p : Place) (met : Bool) (dd : Pair) where
       gone-on e s r x y = rw (a, ← is, b, ← to, e, ← x) y
 
   -- where it leads to passed POSITION
-  pub record Went (q : Place) (m : Bool) : Type 0 where
+  pub record Went (q : Stand) (m : Bool) : Type 0 where
     pub small : validDoubleDelta dd ≡ true
     pub is : q ≡ movedOf p dd
     pub delta : validPointPos (movedOf p dd .delta) ≡ true
     pub point : validPointPos (movedOf p dd .point) ≡ true
     pub meets : m ≡ cond met true (samePoint (p .point) (movedOf p dd .point))
 
-  pub gone-went : (q : Place) (m : Bool) → goneBy p met dd ≡ On q m → Went q m
+  pub gone-went : (q : Stand) (m : Bool) → goneBy p met dd ≡ On q m → Went q m
   unfolding goneBy
   gone-went q m e = go (validDoubleDelta dd) (validPointPos (movedOf p dd .delta)) (validPointPos (movedOf p dd .point)) refl refl refl e
     where
@@ -64,25 +64,25 @@ module _ (p : Place) (met : Bool) (dd : Pair) where
 
 -- ---- a turn of the loop
 
-pub record Along (first : Place) (ds : List ℤ) (p : Place) (met : Bool) (k : ℕ) : Type 0 where
+pub record Along (first : Stand) (ds : List ℤ) (p : Stand) (met : Bool) (k : ℕ) : Type 0 where
   pub turns : k ≤ length ds / 2
   pub placed : Placed p
   pub left : goneFrom p met (drop (2 * k) ds) ≡ goneFrom first false ds
 
-pub along-begin : (start : Pair) (ds : List ℤ) (p : Place) → p ≡ placeAt start → validPointPos start ≡ true → Along p ds p false 0
-unfolding placeAt validPointPos
+pub along-begin : (start : Pair) (ds : List ℤ) (p : Stand) → p ≡ standAt start → validPointPos start ≡ true → Along p ds p false 0
+unfolding standAt validPointPos
 along-begin start ds p e h = rw e (record { turns = omega arith; placed = record { delta = refl; point = h }; left = refl })
 
-pub from-first : (start : Pair) (ds : List ℤ) (p : Place) → p ≡ placeAt start → goneFrom p false ds ≡ goneOf start ds
+pub from-first : (start : Pair) (ds : List ℤ) (p : Stand) → p ≡ standAt start → goneFrom p false ds ≡ goneOf start ds
 unfolding goneOf
 from-first start ds p e = rw e
 
-module _ (first : Place) (ds : List ℤ) (p : Place) (met : Bool) (k : ℕ) (a : Along first ds p met k) (h : k < length ds / 2) (dd : Pair) (at : dd ≡ pairAt ds k) (g : Gone) (is : g ≡ goneBy p met dd) where
+module _ (first : Stand) (ds : List ℤ) (p : Stand) (met : Bool) (k : ℕ) (a : Along first ds p met k) (h : k < length ds / 2) (dd : Pair) (at : dd ≡ pairAt ds k) (g : Gone) (is : g ≡ goneBy p met dd) where
   unrolled : goneFrom p met (drop (2 * k) ds) ≡ onward g (λ q m. goneFrom q m (drop (2 * (k + 1)) ds))
   unfolding goneFrom
   unrolled = rw (pair-drop ds k (omega arith), is, at)
 
-  pub along-more : (q : Place) (m : Bool) → g ≡ On q m → Along first ds q m (k + 1)
+  pub along-more : (q : Stand) (m : Bool) → g ≡ On q m → Along first ds q m (k + 1)
   along-more q m e =
       let w = gone-went p met dd q m (sym is ∙ e) in
       record {
@@ -94,25 +94,25 @@ module _ (first : Place) (ds : List ℤ) (p : Place) (met : Bool) (k : ℕ) (a :
   pub along-stop : (c : Code) → g ≡ Stop c → Stop c ≡ goneFrom first false ds
   along-stop c e = sym (unrolled ∙ rw e) ∙ a .left
 
-gone-end : (p : Place) (met : Bool) (ds : List ℤ) → length ds < 2 → goneFrom p met ds ≡ On p met
+gone-end : (p : Stand) (met : Bool) (ds : List ℤ) → length ds < 2 → goneFrom p met ds ≡ On p met
 unfolding goneFrom
 gone-end p met [] h = refl
 gone-end p met (a ∷ []) h = refl
 gone-end p met (a ∷ b ∷ ds) h = absurd (omega arith)
 
-pub along-end : (first : Place) (ds : List ℤ) (p : Place) (met : Bool) (k : ℕ) → Along first ds p met k → length ds / 2 ≤ k → On p met ≡ goneFrom first false ds
+pub along-end : (first : Stand) (ds : List ℤ) (p : Stand) (met : Bool) (k : ℕ) → Along first ds p met k → length ds / 2 ≤ k → On p met ≡ goneFrom first false ds
 along-end first ds p met k a h = sym (gone-end p met (drop (2 * k) ds) (omega (arith, length-drop (2 * k) ds))) ∙ a .left
 
 -- ---- along again
 
-gone-passes : (ds : List ℤ) (p : Place) (met : Bool) (q : Place) (m : Bool) → goneFrom p met ds ≡ On q m → passes p ds ≡ true
+gone-passes : (ds : List ℤ) (p : Stand) (met : Bool) (q : Stand) (m : Bool) → goneFrom p met ds ≡ On q m → passes p ds ≡ true
 unfolding goneFrom passes
 gone-passes [] p met q m e = refl
 gone-passes (a ∷ []) p met q m e = refl
 gone-passes (a ∷ b ∷ ds) p met q m e = go (goneBy p met (record { x = a; y = b })) refl e (λ r n f. gone-passes ds r n q m f)
   where
     go : (g : Gone) → goneBy p met (record { x = a; y = b }) ≡ g → onward g (λ r n. goneFrom r n ds) ≡ On q m
-        → ((r : Place) (n : Bool) → goneFrom r n ds ≡ On q m → passes r ds ≡ true)
+        → ((r : Stand) (n : Bool) → goneFrom r n ds ≡ On q m → passes r ds ≡ true)
         → cond (validDoubleDelta (record { x = a; y = b })) (cond (validPointPos (movedOf p (record { x = a; y = b }) .delta)) (cond (validPointPos (movedOf p (record { x = a; y = b }) .point))
         (passes (movedOf p (record { x = a; y = b })) ds) false) false) false ≡ true
     go (On r n) x f rest =
@@ -120,9 +120,9 @@ gone-passes (a ∷ b ∷ ds) p met q m e = go (goneBy p met (record { x = a; y =
         rw (w .small, w .delta, w .point) (rw (w .is) at (rest r n f))
     go (Stop c) x f rest = let w : _≡_ {A = ℕ} 0 1 = cc in absurd (omega arith)
 
-pub passable : (start : Pair) (ds : List ℤ) (q : Place) (m : Bool) → validPointPos start ≡ true → goneOf start ds ≡ On q m → Passable (placeAt start) ds
-unfolding goneOf placeAt validPointPos
-passable start ds q m h e = record { delta = refl; point = h; rest = gone-passes ds (placeAt start) false q m e }
+pub passable : (start : Pair) (ds : List ℤ) (q : Stand) (m : Bool) → validPointPos start ≡ true → goneOf start ds ≡ On q m → Passable (standAt start) ds
+unfolding goneOf standAt validPointPos
+passable start ds q m h e = record { delta = refl; point = h; rest = gone-passes ds (standAt start) false q m e }
 
 -- ---- the start
 
@@ -134,10 +134,10 @@ module _ (ds : List ℤ) (s : Start) where
     pub begun-stop : (c : Code) → g ≡ Stop c → begun′.Stop c ≡ begunAt ds s
     begun-stop c e = rw (at, ← is, e)
 
-    pub begun-meets : (q : Place) (m : Bool) → g ≡ On q m → m ≡ true → begun′.Stop Coincide ≡ begunAt ds s
+    pub begun-meets : (q : Stand) (m : Bool) → g ≡ On q m → m ≡ true → begun′.Stop Coincide ≡ begunAt ds s
     begun-meets q m e t = rw (at, ← is, e, t)
 
-    pub begun-at : (q : Place) (m : Bool) → g ≡ On q m → m ≡ false → begun′.At p ≡ begunAt ds s
+    pub begun-at : (q : Stand) (m : Bool) → g ≡ On q m → m ≡ false → begun′.At p ≡ begunAt ds s
     begun-at q m e t = rw (at, ← is, e, t)
 
 -- Assumes nothing.

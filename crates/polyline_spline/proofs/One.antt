@@ -12,7 +12,7 @@ use Rattle.codes.specs.declared.Code.{Code}
 use Rattle.codes.specs.declared.Code.the-variants.{Room}
 use Rattle.write_judge.specs.declared.Verdict.the-variants.{Fine, Fault}
 use Rattle.writer.specs.declared.WriteAnswer.the-variants.{Done, Refused}
-use Rattle.control_points.specs.ControlPoints.{startingPoint, controlPoints, placeAt, validPointPos}
+use Rattle.control_points.specs.ControlPoints.{startingPoint, controlPoints, standAt, validPointPos}
 use Rattle.control_points.specs.Asked.{Passable}
 use Rattle.control_points.specs.declared.Pair.{Pair}
 use Rattle.control_points.specs.declared.Start.{Start}
@@ -38,7 +38,7 @@ begun-fault k ds (S.At p) c e = go (goneOf p ds) e
 pub record Begins (k : ℕ) (ds : List ℤ) (s : Start) (p : Pair) : Type 0 where
   pub at : s ≡ S.At p
   pub fine : begun k ds s ≡ Fine
-  pub pass : validPointPos p ≡ true → Passable (placeAt p) ds
+  pub pass : validPointPos p ≡ true → Passable (standAt p) ds
 
 pub begun-fine : (k : ℕ) (ds : List ℤ) (s : Start) (p : Pair) → begun′.At p ≡ begunAt ds s → Begins k ds s p
 begun-fine k ds S.Out p e = let z : _≡_ {A = ℕ} 0 1 = cc in absurd (omega arith)
@@ -56,7 +56,7 @@ module _ (k : ℕ) (ds : List ℤ) (x y : Float) (l l′ : List ℕ) where
   one-refused c e = rw (begun-fault k ds (startingPoint x y) c (sym e)) (record { leaves = refl })
 
   module _ (p : Pair) (e : begun′.At p ≡ begunAt ds (startingPoint x y)) where
-    pub one-passes : Passable (placeAt p) ds
+    pub one-passes : Passable (standAt p) ds
     one-passes = let b = begun-fine k ds (startingPoint x y) p e in b .pass (start-valid x y p (b .at))
 
     pub one-full : PutLeaves 0 (pointsText (controlPoints p ds)) Full l l′ → (place : ℕ) → place ≡ k

@@ -7,10 +7,10 @@ use native.Mathlib.Omega.{arith}
 use lib.IntN.{ℤ}
 use lib.ListN.{length, set, drop, length-append, length-drop}
 use lib.Seq.{sets, length-sets}
-use Rattle.control_points.specs.ControlPoints.{movedOf, placeAt, pairAt, laterPoints, controlPoints}
+use Rattle.control_points.specs.ControlPoints.{movedOf, standAt, pairAt, laterPoints, controlPoints}
 use Rattle.control_points.specs.Asked.{Passable}
 use Rattle.control_points.specs.declared.Pair.{Pair}
-use Rattle.control_points.specs.declared.Place.{Place}
+use Rattle.control_points.specs.declared.Stand.{Stand}
 use Rattle.control_points.proofs.Walks.{points-more, points-done, walk-more}
 use Rattle.write_steps.proofs.Stores.{sets-append}
 use Rattle.polyline.specs.Write.{numberText, pairText, laterText, pointsText}
@@ -33,7 +33,7 @@ later-put p l l1 l2 at end a b = (b .0 ∙ rw (a, add-one at), omega (arith, b .
 
 -- ---- a turn of the loop
 
-pub record Rest (from : Place) (ds : List ℤ) (text₀ : List ℕ) (begin : ℕ) (text : List ℕ) (place : Place) (at k : ℕ) : Type 0 where
+pub record Rest (from : Stand) (ds : List ℤ) (text₀ : List ℕ) (begin : ℕ) (text : List ℕ) (place : Stand) (at k : ℕ) : Type 0 where
   pub turns : k ≤ length ds / 2
   pub pass : Passable place (drop (2 * k) ds)
   pub kept : length text ≡ length text₀
@@ -41,11 +41,11 @@ pub record Rest (from : Place) (ds : List ℤ) (text₀ : List ℕ) (begin : ℕ
   pub many : at + length (laterText (laterPoints place (drop (2 * k) ds))) ≡ begin + length (laterText (laterPoints from ds))
   pub so : sets text at (laterText (laterPoints place (drop (2 * k) ds))) ≡ sets text₀ begin (laterText (laterPoints from ds))
 
-pub rest-begin : (from : Place) (ds : List ℤ) (text : List ℕ) (begin : ℕ) → Passable from ds → begin ≤ 17 → Rest from ds text begin text from begin 0
+pub rest-begin : (from : Stand) (ds : List ℤ) (text : List ℕ) (begin : ℕ) → Passable from ds → begin ≤ 17 → Rest from ds text begin text from begin 0
 rest-begin from ds text begin p h = record { turns = omega arith; pass = p; kept = refl; few = omega arith; many = refl; so = refl }
 
-module _ (from : Place) (ds : List ℤ) (text₀ : List ℕ) (begin : ℕ) (text : List ℕ) (place : Place) (at k : ℕ) (r : Rest from ds text₀ begin text place at k) where
-  pub rest-more : k < length ds / 2 → at ≤ length text → (q : Place) → q ≡ movedOf place (pairAt ds k) → (text′ : List ℕ) (at′ : ℕ)
+module _ (from : Stand) (ds : List ℤ) (text₀ : List ℕ) (begin : ℕ) (text : List ℕ) (place : Stand) (at k : ℕ) (r : Rest from ds text₀ begin text place at k) where
+  pub rest-more : k < length ds / 2 → at ≤ length text → (q : Stand) → q ≡ movedOf place (pairAt ds k) → (text′ : List ℕ) (at′ : ℕ)
       → (text′ ≡ sets text at (32 ∷ pairText (q .point))) × (at′ ≡ at + length (32 ∷ pairText (q .point))) × (at′ ≤ at + 18) → Rest from ds text₀ begin text′ q at′ (k + 1)
   unfolding laterText
   rest-more h room q is text′ at′ s =
@@ -76,16 +76,16 @@ module _ (from : Place) (ds : List ℤ) (text₀ : List ℕ) (begin : ℕ) (text
 
 -- ---- the start before the rest
 
-module _ (start : Pair) (ds : List ℤ) (l l1 l2 : List ℕ) (at : ℕ) (p : (l1 ≡ sets l 0 (pairText start)) × (at ≡ 0 + length (pairText start)) × (at ≤ 0 + 17)) (q : Place) (is : q ≡ placeAt start) where
+module _ (start : Pair) (ds : List ℤ) (l l1 l2 : List ℕ) (at : ℕ) (p : (l1 ≡ sets l 0 (pairText start)) × (at ≡ 0 + length (pairText start)) × (at ≤ 0 + 17)) (q : Stand) (is : q ≡ standAt start) where
   pub points-put : (r : _) → PutLeaves at (laterText (laterPoints q ds)) r l1 l2 → PutLeaves 0 (pointsText (controlPoints start ds)) r l l2
   unfolding pointsText controlPoints
   points-put (Ends n) s =
-      let t = laterText (laterPoints (placeAt start) ds) in
+      let t = laterText (laterPoints (standAt start) ds) in
       let e = rw is at (s .leaves) in
       let len = ap length (p .0) ∙ length-sets l 0 (pairText start) in
       record { leaves = (omega (arith, e .0, p .1, length-append (pairText start) t), omega (arith, e .1, len), e .2 ∙ rw (p .0, p .1) (sym (sets-append l 0 (pairText start) t))) }
   points-put Full s =
-      let t = laterText (laterPoints (placeAt start) ds) in
+      let t = laterText (laterPoints (standAt start) ds) in
       let e = rw is at (s .leaves) in
       let len = ap length (p .0) ∙ length-sets l 0 (pairText start) in
       record { leaves = omega (arith, e, p .1, len, length-append (pairText start) t) }

@@ -14,7 +14,7 @@ use Rattle.write_judge.specs.declared.Verdict.{Verdict}
 use Rattle.write_judge.specs.declared.Verdict.the-variants.{Fine, Fault}
 use Rattle.control_points.specs.ControlPoints.{validPointPos}
 use Rattle.control_points.specs.declared.Pair.{Pair}
-use Rattle.control_points.specs.declared.Place.{Place}
+use Rattle.control_points.specs.declared.Stand.{Stand}
 use Rattle.control_points.specs.declared.Start.{Start}
 use Rattle.control_points.specs.declared.Start.the-variants as S
 use Rattle.polyline.specs.declared.Gone.{Gone}
@@ -27,7 +27,7 @@ use Rattle.polyline_spline.specs.declared.Put.{Put}
 use Rattle.polyline_spline.specs.declared.Put.the-variants.{Ends, Full}
 
 -- a delta and a point that passed POSITION
-pub record Placed (p : Place) : Type 0 where
+pub record Placed (p : Stand) : Type 0 where
   pub delta : validPointPos (p .delta) ≡ true
   pub point : validPointPos (p .point) ≡ true
 

@@ -1,7 +1,7 @@
 // Writes one spline as a points text: judged as building does, but for its length and area, then put where there is room.
 use codes::Code;
 use control_points::Pair;
-use control_points::Place;
+use control_points::Stand;
 use control_points::Start;
 use control_points::starting_point;
 use decimal::put_byte;
@@ -16,7 +16,7 @@ ghost use mathlib.Core.List.{_∷_};
 ghost use Prim.Native.Nat.{_+_, _≤_, _<_};
 ghost use lib.ListN.{length};
 ghost use lib.Seq.{sets};
-ghost use Rattle.control_points.specs.ControlPoints.{belowDeltaLimit, validPointPos, validDoubleDelta, startingPoint, laterPoints, controlPoints, placeAt};
+ghost use Rattle.control_points.specs.ControlPoints.{belowDeltaLimit, validPointPos, validDoubleDelta, startingPoint, laterPoints, controlPoints, standAt};
 ghost use Rattle.control_points.specs.Asked.{Passable};
 ghost use Rattle.polyline.specs.declared.Gone.{Gone};
 ghost use Rattle.polyline.specs.Write.{pairText, laterText, pointsText, goneBy, goneOf, textAt};
@@ -58,7 +58,7 @@ fn small(dd: Pair) -> bool
 }
 
 // A place that was reached, and whether two adjacent points met so far: no reason to stop before all points.
-fn reached(place: Place, earlier: bool, meets: bool) -> Gone
+fn reached(place: Stand, earlier: bool, meets: bool) -> Gone
     ensures { λ r. ⌜ r ≡ Gone.On place (cond earlier Bool.true meets) ⌝ }
 {
     if earlier {
@@ -69,7 +69,7 @@ fn reached(place: Place, earlier: bool, meets: bool) -> Gone
 }
 
 // One double delta on: DELTA, POSITION of the delta, POSITION of the point.
-fn go_on(place: Place, met: bool, dd: Pair) -> Gone
+fn go_on(place: Stand, met: bool, dd: Pair) -> Gone
     requires { ⌜ Placed place ⌝ }
     ensures { λ r. ⌜ r ≡ goneBy place met dd ⌝ }
 {
@@ -85,7 +85,7 @@ fn go_on(place: Place, met: bool, dd: Pair) -> Gone
         return Gone::Stop(Code::Position);
     }
     let meets = same(place.point, point);
-    reached(Place { delta, point }, met, meets)
+    reached(Stand { delta, point }, met, meets)
 }
 
 // All double deltas.
@@ -93,7 +93,7 @@ fn go_along(start: Pair, deltas: &[i32]) -> Gone
     requires { ⌜ validPointPos start ≡ Bool.true ⌝ }
     ensures { λ r. ⌜ r ≡ goneOf start (now (deltas .entry)) ⌝ }
 {
-    let mut place = Place::at(start);
+    let mut place = Stand::at(start);
     let mut met = false;
     let n = deltas.len() / 2;
     let mut k = 0;
@@ -152,7 +152,7 @@ fn put_later(text: &mut [u8], at: usize, p: Pair) -> usize
 }
 
 // The points behind a place.
-fn put_rest(from: Place, deltas: &[i32], text: &mut [u8], begin: usize) -> Put
+fn put_rest(from: Stand, deltas: &[i32], text: &mut [u8], begin: usize) -> Put
     requires { ⌜ Passable from (now deltas) × (begin ≤ 17) ⌝ }
     ensures { λ r. ⌜ PutLeaves begin (laterText (laterPoints from (now (deltas .entry)))) r (now (text .entry)) (now (text .exit)) ⌝ }
 {
@@ -175,11 +175,11 @@ fn put_rest(from: Place, deltas: &[i32], text: &mut [u8], begin: usize) -> Put
 }
 
 fn put_points(start: Pair, deltas: &[i32], text: &mut [u8]) -> Put
-    requires { ⌜ Passable (placeAt start) (now deltas) ⌝ }
+    requires { ⌜ Passable (standAt start) (now deltas) ⌝ }
     ensures { λ r. ⌜ PutLeaves 0 (pointsText (controlPoints start (now (deltas .entry)))) r (now (text .entry)) (now (text .exit)) ⌝ }
 {
     let at = put_pair(text, 0, start);
-    put_rest(Place::at(start), deltas, text, at)
+    put_rest(Stand::at(start), deltas, text, at)
 }
 
 // ---- both

@@ -13,7 +13,7 @@ use borrow.Author.Tests.{lt-ltb, le-ltb}
 use Rattle.codes.specs.declared.Code.{Code}
 use Rattle.list.specs.declared.Next.{Next}
 use Rattle.shape.specs.Shape.{pointsOf}
-use Rattle.list.specs.List.{unpackSigned, packSigned, ListRooms, Got, got, stop, Splines, splines, Described, described, andThen, startsOf, splinesOf, describe, ended, afterStarts, lacking, readOf, startsList, splinesList}
+use Rattle.list.specs.List.{unpackSigned, packSigned, ListRooms, Got, got, stop, Splines, splines, Described, described, andThen, startsIn, splinesOf, describe, ended, afterStarts, lacking, readOf, startsList, splinesList}
 use Rattle.list.specs.Steps.{nextOf, f32Of}
 use Rattle.list.proofs.Buffers.{next-is, next-not}
 use Rattle.list.proofs.Accepted.{starts-read, splines-read}
@@ -173,7 +173,7 @@ module _ (limit : ℕ) (rooms : ListRooms) (l : List ℕ) where
 
 read-at : (limit : ℕ) (rooms : ListRooms) (l : List ℕ) (v : ℕ) → nextOf l ≡ Next.Value v → v < limit → v + 1 ≤ rooms .counts → 2 * (v + 1) ≤ rooms .starts
     → 128 * (v + 1) ≤ rooms .coefficients
-    → readOf limit rooms l ≡ andThen (startsOf (length l) true (pos 0) (pos 0) (v + 1) (drop 1 l)) (λ zs l1. afterStarts (length l) limit (rooms .deltas) (v + 1) zs l1)
+    → readOf limit rooms l ≡ andThen (startsIn (length l) true (pos 0) (pos 0) (v + 1) (drop 1 l)) (λ zs l1. afterStarts (length l) limit (rooms .deltas) (v + 1) zs l1)
 unfolding readOf
 read-at limit rooms [] v e h a b c = cc
 read-at limit rooms (x ∷ l) v e h a b c =
@@ -183,7 +183,7 @@ read-at limit rooms (x ∷ l) v e h a b c =
 module _ (limit : ℕ) (rooms : ListRooms) (l rest : List ℕ) (v : ℕ) (e : nextOf l ≡ Next.Value v) (h : v < limit) (a : v + 1 ≤ rooms .counts)
     (b : 2 * (v + 1) ≤ rooms .starts) (c : 128 * (v + 1) ≤ rooms .coefficients) (er : rest ≡ drop 1 l) (f f′ : List Float) where
   abbrev Starts : Got (List ℤ)
-  Starts = startsOf (length l) true (pos 0) (pos 0) (v + 1) rest
+  Starts = startsIn (length l) true (pos 0) (pos 0) (v + 1) rest
 
   at-starts : readOf limit rooms l ≡ andThen Starts (λ zs l1. afterStarts (length l) limit (rooms .deltas) (v + 1) zs l1)
   at-starts = read-at limit rooms l v e h a b c ∙ rw (← er)

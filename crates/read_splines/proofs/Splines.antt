@@ -12,7 +12,7 @@ use borrow.Author.Tests.{lt-ltb, le-ltb}
 use Rattle.codes.specs.declared.Code.{Code}
 use Rattle.list.specs.declared.Next.{Next}
 use Rattle.shape.specs.Shape.{pointsOf}
-use Rattle.list.specs.List.{packSigned, Got, got, stop, Spline, spline, Splines, splines, andThen, ontoSplines, deltasOf, coefficientsOf, splineIn, splinesOf}
+use Rattle.list.specs.List.{packSigned, Got, got, stop, Spline, spline, Splines, splines, andThen, ontoSplines, deltasIn, coefficientsIn, splineIn, splinesOf}
 use Rattle.list.specs.Steps.{nextOf}
 use Rattle.list.proofs.Buffers.{part-tail, next-is, next-not}
 use Rattle.list.proofs.Accepted.{deltas-read, SplineRead, spline-read}
@@ -65,7 +65,7 @@ module _ (t left room : ℕ) (l : List ℕ) where
   spline-room n e h g = rw (next-is l n e, le-ltb left n h, lt-ltb room (2 * n) g)
 
 spline-at : (t left room : ℕ) (l : List ℕ) (n : ℕ) → nextOf l ≡ Next.Value n → n ≤ left → 2 * n ≤ room
-    → splineIn t left room l ≡ andThen (deltasOf t n (drop 1 l)) (λ ds l1. andThen (coefficientsOf t 128 l1) (λ cs l2. got (spline n ds cs) l2))
+    → splineIn t left room l ≡ andThen (deltasIn t n (drop 1 l)) (λ ds l1. andThen (coefficientsIn t 128 l1) (λ cs l2. got (spline n ds cs) l2))
 unfolding splineIn
 spline-at t left room [] n e h g = cc
 spline-at t left room (a ∷ l) n e h g =
@@ -74,12 +74,12 @@ spline-at t left room (a ∷ l) n e h g =
 
 -- its double deltas have been read, from the part after its count
 module _ (t left room : ℕ) (l after : List ℕ) (n : ℕ) (e : nextOf l ≡ Next.Value n) (h : n ≤ left) (g : 2 * n ≤ room) (ea : after ≡ drop 1 l) (d d′ : List ℤ) where
-  pub spline-deltas-stop : (k : Code) (p : ℕ) → Filled (deltasOf t n after) (Step.Stop k p) d d′ → splineIn t left room l ≡ stop k p
-  spline-deltas-stop k p f = spline-at t left room l n e h g ∙ rw (← ea, filled-stopped (deltasOf t n after) d d′ k p f)
+  pub spline-deltas-stop : (k : Code) (p : ℕ) → Filled (deltasIn t n after) (Step.Stop k p) d d′ → splineIn t left room l ≡ stop k p
+  spline-deltas-stop k p f = spline-at t left room l n e h g ∙ rw (← ea, filled-stopped (deltasIn t n after) d d′ k p f)
 
-  module _ (f : Filled (deltasOf t n after) Step.Done d d′) where
-    gave : Gave (deltasOf t n after) d d′
-    gave = filled-gave (deltasOf t n after) d d′ f
+  module _ (f : Filled (deltasIn t n after) Step.Done d d′) where
+    gave : Gave (deltasIn t n after) d d′
+    gave = filled-gave (deltasIn t n after) d d′ f
 
     far : (gave .rest ≡ drop (2 * n) after) × (2 * n ≤ length after)
     far =
@@ -91,15 +91,15 @@ module _ (t left room : ℕ) (l after : List ℕ) (n : ℕ) (e : nextOf l ≡ Ne
 
     -- and its coefficients from the part after those
     module _ (tail : List ℕ) (et : tail ≡ drop (2 * n) after) (c c′ : List ℤ) where
-      at-tail : splineIn t left room l ≡ andThen (coefficientsOf t 128 tail) (λ cs l2. got (spline n (gave .vs) cs) l2)
+      at-tail : splineIn t left room l ≡ andThen (coefficientsIn t 128 tail) (λ cs l2. got (spline n (gave .vs) cs) l2)
       at-tail = spline-at t left room l n e h g ∙ rw (← ea, gave .is, far .0, ← et)
 
-      pub spline-coefficients-stop : (k : Code) (p : ℕ) → Filled (coefficientsOf t 128 tail) (Step.Stop k p) c c′ → splineIn t left room l ≡ stop k p
-      spline-coefficients-stop k p b = at-tail ∙ rw (filled-stopped (coefficientsOf t 128 tail) c c′ k p b)
+      pub spline-coefficients-stop : (k : Code) (p : ℕ) → Filled (coefficientsIn t 128 tail) (Step.Stop k p) c c′ → splineIn t left room l ≡ stop k p
+      spline-coefficients-stop k p b = at-tail ∙ rw (filled-stopped (coefficientsIn t 128 tail) c c′ k p b)
 
-      pub spline-done : Filled (coefficientsOf t 128 tail) Step.Done c c′ → SplineLeft (splineIn t left room l) (Points.Count n) d d′ c c′
+      pub spline-done : Filled (coefficientsIn t 128 tail) Step.Done c c′ → SplineLeft (splineIn t left room l) (Points.Count n) d d′ c c′
       spline-done b =
-          let k = filled-gave (coefficientsOf t 128 tail) c c′ b in
+          let k = filled-gave (coefficientsIn t 128 tail) c c′ b in
           let is : splineIn t left room l ≡ got (spline n (gave .vs) (k .vs)) (k .rest)
           = at-tail ∙ ap (λ (x : Got (List ℤ)). andThen x (λ cs l2. got (spline n (gave .vs) cs) l2)) (k .is) in
           subst (λ (x : Got Spline). SplineLeft x (Points.Count n) d d′ c c′) (sym is) (refl, gave .left, k .left)

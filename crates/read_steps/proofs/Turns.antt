@@ -12,7 +12,7 @@ use lib.IntN.{ℤ, pos}
 use lib.Ieee.{Float}
 use Rattle.codes.specs.declared.Code.{Code}
 use Rattle.list.specs.declared.Next.{Next}
-use Rattle.list.specs.List.{unpackSigned, posLimit, deltaLimit, beyond, Got, got, stop, onto, coordinate, startsOf, deltasOf, coefficientsOf}
+use Rattle.list.specs.List.{unpackSigned, posLimit, deltaLimit, beyond, Got, got, stop, onto, coordinate, startsIn, deltasIn, coefficientsIn}
 use Rattle.list.specs.Steps.{nextOf, f32Of}
 use Rattle.list.proofs.Buffers.{part-tail, next-not}
 use Rattle.read_steps.specs.declared.Pair.{Pair}
@@ -87,14 +87,14 @@ pair-is (a ∷ b ∷ l) x y e = cc
 
 -- ---- coefficients
 
-pub coefficients-short : (t m : ℕ) (l : List ℕ) → 0 < m → nextOf l ≡ Next.End → coefficientsOf t m l ≡ stop Code.Short t
-unfolding coefficientsOf
+pub coefficients-short : (t m : ℕ) (l : List ℕ) → 0 < m → nextOf l ≡ Next.End → coefficientsIn t m l ≡ stop Code.Short t
+unfolding coefficientsIn
 coefficients-short t zero l h e = absurd (not-suc-le-zero h)
 coefficients-short t (suc m) l h e = rw (next-not l e)
 
 coefficients-one : (t m : ℕ) (l : List ℕ) (x : ℕ) → 0 < m → nextOf l ≡ Next.Value x
-    → coefficientsOf t m l ≡ onto (unpackSigned x ∷ []) (coefficientsOf t (m - 1) (drop 1 l))
-unfolding coefficientsOf
+    → coefficientsIn t m l ≡ onto (unpackSigned x ∷ []) (coefficientsIn t (m - 1) (drop 1 l))
+unfolding coefficientsIn
 coefficients-one t zero l x h e = absurd (not-suc-le-zero h)
 coefficients-one t (suc m) [] x h e = cc
 coefficients-one t (suc m) (a ∷ l) x h e =
@@ -103,31 +103,31 @@ coefficients-one t (suc m) (a ∷ l) x h e =
     rw (p, s)
 
 pub coefficients-more : (t n i : ℕ) (list rest : List ℕ) (out : List ℤ) (x : ℕ)
-    → coefficientsOf t n list ≡ onto (take i out) (coefficientsOf t (n - i) rest) → i < n → i < length out → nextOf rest ≡ Next.Value x
-    → coefficientsOf t n list ≡ onto (take (i + 1) (set out i (unpackSigned x))) (coefficientsOf t (n - (i + 1)) (take (length rest - 1) (drop 1 rest)))
+    → coefficientsIn t n list ≡ onto (take i out) (coefficientsIn t (n - i) rest) → i < n → i < length out → nextOf rest ≡ Next.Value x
+    → coefficientsIn t n list ≡ onto (take (i + 1) (set out i (unpackSigned x))) (coefficientsIn t (n - (i + 1)) (take (length rest - 1) (drop 1 rest)))
 coefficients-more t n i list rest out x e h g v =
     let m : n - i - 1 ≡ n - (i + 1) = omega arith in
     rw (part-tail 1 rest)
-    (e ∙ rw (coefficients-one t (n - i) rest x (omega arith) v, m) (one-more out i (unpackSigned x) (coefficientsOf t (n - (i + 1)) (drop 1 rest)) g))
+    (e ∙ rw (coefficients-one t (n - i) rest x (omega arith) v, m) (one-more out i (unpackSigned x) (coefficientsIn t (n - (i + 1)) (drop 1 rest)) g))
 
 -- ---- double deltas
 
-pub deltas-short : (t m : ℕ) (l : List ℕ) → 0 < m → pairOf l ≡ Pair.Short → deltasOf t m l ≡ stop Code.Short t
-unfolding deltasOf
+pub deltas-short : (t m : ℕ) (l : List ℕ) → 0 < m → pairOf l ≡ Pair.Short → deltasIn t m l ≡ stop Code.Short t
+unfolding deltasIn
 deltas-short t zero l h e = absurd (not-suc-le-zero h)
 deltas-short t (suc m) [] h e = refl
 deltas-short t (suc m) (a ∷ []) h e = refl
 deltas-short t (suc m) (a ∷ b ∷ l) h e = cc
 
 pub deltas-wild : (t m : ℕ) (l : List ℕ) (x y : ℕ) → 0 < m → pairOf l ≡ Pair.Both x y → beyond deltaLimit (unpackSigned x) (unpackSigned y) ≡ true
-    → deltasOf t m l ≡ stop Code.Delta (t - length l)
-unfolding deltasOf
+    → deltasIn t m l ≡ stop Code.Delta (t - length l)
+unfolding deltasIn
 deltas-wild t zero l x y h e w = absurd (not-suc-le-zero h)
 deltas-wild t (suc m) l x y h e w = rw (pair-is l x y e, w)
 
 deltas-one : (t m : ℕ) (l : List ℕ) (x y : ℕ) → 0 < m → pairOf l ≡ Pair.Both x y → beyond deltaLimit (unpackSigned x) (unpackSigned y) ≡ false
-    → deltasOf t m l ≡ onto (unpackSigned x ∷ unpackSigned y ∷ []) (deltasOf t (m - 1) (drop 2 l))
-unfolding deltasOf
+    → deltasIn t m l ≡ onto (unpackSigned x ∷ unpackSigned y ∷ []) (deltasIn t (m - 1) (drop 2 l))
+unfolding deltasIn
 deltas-one t zero l x y h e w = absurd (not-suc-le-zero h)
 deltas-one t (suc m) [] x y h e w = cc
 deltas-one t (suc m) (a ∷ []) x y h e w = cc
@@ -138,36 +138,36 @@ deltas-one t (suc m) (a ∷ b ∷ l) x y h e w =
     rw (p, q, w, s)
 
 pub deltas-more : (t n m i : ℕ) (list rest : List ℕ) (out : List ℤ) (x y : ℕ)
-    → deltasOf t n list ≡ onto (take i out) (deltasOf t m rest) → 0 < m → i + 1 < length out → pairOf rest ≡ Pair.Both x y
+    → deltasIn t n list ≡ onto (take i out) (deltasIn t m rest) → 0 < m → i + 1 < length out → pairOf rest ≡ Pair.Both x y
     → beyond deltaLimit (unpackSigned x) (unpackSigned y) ≡ false
-    → deltasOf t n list ≡ onto (take (i + 2) (set (set out i (unpackSigned x)) (i + 1) (unpackSigned y))) (deltasOf t (m - 1) (take (length rest - 2) (drop 2 rest)))
+    → deltasIn t n list ≡ onto (take (i + 2) (set (set out i (unpackSigned x)) (i + 1) (unpackSigned y))) (deltasIn t (m - 1) (take (length rest - 2) (drop 2 rest)))
 deltas-more t n m i list rest out x y e h g v w =
     rw (part-tail 2 rest)
-    (e ∙ rw (deltas-one t m rest x y h v w) (two-more out i (unpackSigned x) (unpackSigned y) (deltasOf t (m - 1) (drop 2 rest)) g))
+    (e ∙ rw (deltas-one t m rest x y h v w) (two-more out i (unpackSigned x) (unpackSigned y) (deltasIn t (m - 1) (drop 2 rest)) g))
 
 -- ---- starts
 
-pub starts-short : (t : ℕ) (first : Bool) (x y : ℤ) (m : ℕ) (l : List ℕ) → 0 < m → pairOf l ≡ Pair.Short → startsOf t first x y m l ≡ stop Code.Short t
-unfolding startsOf
+pub starts-short : (t : ℕ) (first : Bool) (x y : ℤ) (m : ℕ) (l : List ℕ) → 0 < m → pairOf l ≡ Pair.Short → startsIn t first x y m l ≡ stop Code.Short t
+unfolding startsIn
 starts-short t first x y zero l h e = absurd (not-suc-le-zero h)
 starts-short t first x y (suc m) [] h e = refl
 starts-short t first x y (suc m) (a ∷ []) h e = refl
 starts-short t first x y (suc m) (a ∷ b ∷ l) h e = cc
 
 pub starts-far : (t : ℕ) (first : Bool) (x y cx cy : ℤ) (m : ℕ) (l : List ℕ) (a b : ℕ) → 0 < m → pairOf l ≡ Pair.Both a b
-    → cx ≡ coordinate first x a → cy ≡ coordinate first y b → beyond posLimit cx cy ≡ true → startsOf t first x y m l ≡ stop Code.Coord (t - length l)
-unfolding startsOf
+    → cx ≡ coordinate first x a → cy ≡ coordinate first y b → beyond posLimit cx cy ≡ true → startsIn t first x y m l ≡ stop Code.Coord (t - length l)
+unfolding startsIn
 starts-far t first x y cx cy zero l a b h e ex ey w = absurd (not-suc-le-zero h)
 starts-far t first x y cx cy (suc m) l a b h e ex ey w = rw (pair-is l a b e, ← ex, ← ey, w)
 
 starts-one : (t : ℕ) (first : Bool) (x y cx cy : ℤ) (m : ℕ) (l : List ℕ) (a b : ℕ) → 0 < m → pairOf l ≡ Pair.Both a b
     → cx ≡ coordinate first x a → cy ≡ coordinate first y b → beyond posLimit cx cy ≡ false
-    → startsOf t first x y m l ≡ onto (cx ∷ cy ∷ []) (startsOf t false cx cy (m - 1) (drop 2 l))
-unfolding startsOf
+    → startsIn t first x y m l ≡ onto (cx ∷ cy ∷ []) (startsIn t false cx cy (m - 1) (drop 2 l))
+unfolding startsIn
 starts-one t first x y cx cy zero l a b h e ex ey w = absurd (not-suc-le-zero h)
 starts-one t first x y cx cy (suc m) l a b h e ex ey w =
     let s : suc m - 1 ≡ m = omega arith in
-    subst (λ (k : List ℕ). startsOf t first x y (suc m) k ≡ onto (cx ∷ cy ∷ []) (startsOf t false cx cy (suc m - 1) (drop 2 k)))
+    subst (λ (k : List ℕ). startsIn t first x y (suc m) k ≡ onto (cx ∷ cy ∷ []) (startsIn t false cx cy (suc m - 1) (drop 2 k)))
     (sym (pair-is l a b e))
     (rw (← ex, ← ey, w, s))
 
@@ -176,13 +176,13 @@ floats-two x y (got zs l) = refl
 floats-two x y (stop c p) = refl
 
 pub starts-more : (t n m i : ℕ) (list rest : List ℕ) (out : List Float) (first : Bool) (x y cx cy : ℤ) (a b : ℕ)
-    → floats (startsOf t true (pos 0) (pos 0) n list) ≡ onto (take i out) (floats (startsOf t first x y m rest))
+    → floats (startsIn t true (pos 0) (pos 0) n list) ≡ onto (take i out) (floats (startsIn t first x y m rest))
     → 0 < m → i + 1 < length out → pairOf rest ≡ Pair.Both a b → cx ≡ coordinate first x a → cy ≡ coordinate first y b → beyond posLimit cx cy ≡ false
-    → floats (startsOf t true (pos 0) (pos 0) n list)
-    ≡ onto (take (i + 2) (set (set out i (f32Of cx)) (i + 1) (f32Of cy))) (floats (startsOf t false cx cy (m - 1) (take (length rest - 2) (drop 2 rest))))
+    → floats (startsIn t true (pos 0) (pos 0) n list)
+    ≡ onto (take (i + 2) (set (set out i (f32Of cx)) (i + 1) (f32Of cy))) (floats (startsIn t false cx cy (m - 1) (take (length rest - 2) (drop 2 rest))))
 starts-more t n m i list rest out first x y cx cy a b e h g v ex ey w =
     rw (part-tail 2 rest)
-    (e ∙ rw (starts-one t first x y cx cy m rest a b h v ex ey w, floats-two cx cy (startsOf t false cx cy (m - 1) (drop 2 rest)))
-    (two-more out i (f32Of cx) (f32Of cy) (floats (startsOf t false cx cy (m - 1) (drop 2 rest))) g))
+    (e ∙ rw (starts-one t first x y cx cy m rest a b h v ex ey w, floats-two cx cy (startsIn t false cx cy (m - 1) (drop 2 rest)))
+    (two-more out i (f32Of cx) (f32Of cy) (floats (startsIn t false cx cy (m - 1) (drop 2 rest))) g))
 
 -- Assumes nothing.

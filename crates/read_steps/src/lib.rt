@@ -11,7 +11,7 @@ ghost use lib.Dec.{leb};
 ghost use lib.IntN.{pos, natAbs, _+ℤ_};
 ghost use lib.ListN.{length};
 ghost use lib.Signed.{mag};
-ghost use Rattle.list.specs.List.{unpackSigned, posLimit, deltaLimit, beyond, coordinate, startsOf, deltasOf, coefficientsOf};
+ghost use Rattle.list.specs.List.{unpackSigned, posLimit, deltaLimit, beyond, coordinate, startsIn, deltasIn, coefficientsIn};
 ghost use Rattle.list.specs.Steps.{f32Of};
 ghost use Rattle.read_steps.specs.Steps.{pairOf, floats, Filled};
 
@@ -50,7 +50,7 @@ pub fn wild(a: u32, b: u32) -> bool
 
 pub fn read_deltas(list: &[u32], total: usize, n: usize, out: &mut [i32]) -> Step
     requires { ⌜ (2 * n ≤ length (now out)) × (length (now list) ≤ total) ⌝ }
-    ensures { λ r. ⌜ Filled (deltasOf total n (now (list .entry))) r (now (out .entry)) (now (out .exit)) ⌝ }
+    ensures { λ r. ⌜ Filled (deltasIn total n (now (list .entry))) r (now (out .entry)) (now (out .exit)) ⌝ }
 {
     let mut rest = list;
     let mut left = n;
@@ -74,7 +74,7 @@ pub fn read_deltas(list: &[u32], total: usize, n: usize, out: &mut [i32]) -> Ste
 
 pub fn read_coefficients(list: &[u32], total: usize, n: usize, out: &mut [i32]) -> Step
     requires { ⌜ n ≤ length (now out) ⌝ }
-    ensures { λ r. ⌜ Filled (coefficientsOf total n (now (list .entry))) r (now (out .entry)) (now (out .exit)) ⌝ }
+    ensures { λ r. ⌜ Filled (coefficientsIn total n (now (list .entry))) r (now (out .entry)) (now (out .exit)) ⌝ }
 {
     let mut rest = list;
     let mut i = 0;
@@ -130,7 +130,7 @@ pub fn start_of(x: i64) -> f32
 
 pub fn read_starts(list: &[u32], total: usize, n: usize, out: &mut [f32]) -> Step
     requires { ⌜ (2 * n ≤ length (now out)) × (length (now list) ≤ total) ⌝ }
-    ensures { λ r. ⌜ Filled (floats (startsOf total Bool.true (pos 0) (pos 0) n (now (list .entry)))) r (now (out .entry)) (now (out .exit)) ⌝ }
+    ensures { λ r. ⌜ Filled (floats (startsIn total Bool.true (pos 0) (pos 0) n (now (list .entry)))) r (now (out .entry)) (now (out .exit)) ⌝ }
 {
     let mut rest = list;
     let mut left = n;

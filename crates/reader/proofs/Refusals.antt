@@ -13,7 +13,7 @@ use lib.IntN.{ℤ, pos, natAbs}
 use borrow.Author.Tests.{lt-ltb, le-ltb, ltb-true, ltb-false}
 use Rattle.codes.specs.declared.Code.{Code}
 use Rattle.codes.proofs.Decides.{Decides, at-most, less-than, either-decides}
-use Rattle.list.specs.List.{unpackSigned, posLimit, deltaLimit, beyond, ListRooms, Got, got, stop, Spline, spline, Splines, splines, Described, andThen, onto, coordinate, startsOf, deltasOf, coefficientsOf, splineIn, ontoSplines, splinesOf, describe, ended, afterStarts, lacking, readOf}
+use Rattle.list.specs.List.{unpackSigned, posLimit, deltaLimit, beyond, ListRooms, Got, got, stop, Spline, spline, Splines, splines, Described, andThen, onto, coordinate, startsIn, deltasIn, coefficientsIn, splineIn, ontoSplines, splinesOf, describe, ended, afterStarts, lacking, readOf}
 use Rattle.list.specs.List as L
 use Rattle.reader.specs.Refusals.{Due, count, starts, adjustment, points, deltas, coefficients, nothing, wants, Reached, begin, counted, started, all-started, adjusted, pointed, moved, all-moved, weighed, all-weighed, all-pointed, DueRefusal, short, many-splines, far-start, many-points, far-delta, left-over, no-room, no-deltas, placeOf, ReadRefusal, Far, Close, FewCells, EnoughCells}
 
@@ -70,17 +70,17 @@ module _ (limit : ℕ) (rooms : ListRooms) (t : ℕ) where
   splinesFrom s used r = follow (splinesOf t (limit - used) (rooms .deltas - 2 * used) s r) end
 
   abbrev coefficientsFrom : ℕ → ℕ → ℕ → List ℕ → Fate
-  coefficientsFrom s used n r = follow (coefficientsOf t n r) (splinesFrom s used)
+  coefficientsFrom s used n r = follow (coefficientsIn t n r) (splinesFrom s used)
 
   abbrev deltasFrom : ℕ → ℕ → ℕ → List ℕ → Fate
-  deltasFrom s used n r = follow (deltasOf t n r) (coefficientsFrom s used 128)
+  deltasFrom s used n r = follow (deltasIn t n r) (coefficientsFrom s used 128)
 
   abbrev adjustmentFrom : ℕ → List ℕ → Fate
   adjustmentFrom s [] = at Code.Short t
   adjustmentFrom s (u ∷ r) = splinesFrom s 0 r
 
   abbrev startsFrom : ℕ → ℕ → Bool → ℤ → ℤ → List ℕ → Fate
-  startsFrom s n first x y r = follow (startsOf t first x y n r) (adjustmentFrom s)
+  startsFrom s n first x y r = follow (startsIn t first x y n r) (adjustmentFrom s)
 
   abbrev countFrom : List ℕ → Fate
   countFrom [] = at Code.Short t
@@ -101,18 +101,18 @@ module _ (limit : ℕ) (rooms : ListRooms) (t : ℕ) where
 
   starts-step : (s n : ℕ) (first : Bool) (x y : ℤ) (a b : ℕ) (r : List ℕ) → beyond posLimit (coordinate first x a) (coordinate first y b) ≡ false
       → startsFrom s (suc n) first x y (a ∷ b ∷ r) ≡ startsFrom s n false (coordinate first x a) (coordinate first y b) r
-  unfolding startsOf
+  unfolding startsIn
   starts-step s n first x y a b r e =
-      rw e (follow-onto (coordinate first x a ∷ coordinate first y b ∷ []) (startsOf t false (coordinate first x a) (coordinate first y b) n r) (adjustmentFrom s))
+      rw e (follow-onto (coordinate first x a ∷ coordinate first y b ∷ []) (startsIn t false (coordinate first x a) (coordinate first y b) n r) (adjustmentFrom s))
 
   deltas-step : (s used n a b : ℕ) (r : List ℕ) → beyond deltaLimit (unpackSigned a) (unpackSigned b) ≡ false
       → deltasFrom s used (suc n) (a ∷ b ∷ r) ≡ deltasFrom s used n r
-  unfolding deltasOf
-  deltas-step s used n a b r e = rw e (follow-onto (unpackSigned a ∷ unpackSigned b ∷ []) (deltasOf t n r) (coefficientsFrom s used 128))
+  unfolding deltasIn
+  deltas-step s used n a b r e = rw e (follow-onto (unpackSigned a ∷ unpackSigned b ∷ []) (deltasIn t n r) (coefficientsFrom s used 128))
 
   coefficients-step : (s used n u : ℕ) (r : List ℕ) → coefficientsFrom s used (suc n) (u ∷ r) ≡ coefficientsFrom s used n r
-  unfolding coefficientsOf
-  coefficients-step s used n u r = follow-onto (unpackSigned u ∷ []) (coefficientsOf t n r) (splinesFrom s used)
+  unfolding coefficientsIn
+  coefficients-step s used n u r = follow-onto (unpackSigned u ∷ []) (coefficientsIn t n r) (splinesFrom s used)
 
   -- a point count
   abbrev pointsFrom : ℕ → ℕ → ℕ → List ℕ → Fate
@@ -134,18 +134,18 @@ module _ (limit : ℕ) (rooms : ListRooms) (t : ℕ) where
           let y : rooms .deltas - 2 * used - 2 * n ≡ rooms .deltas - 2 * (used + n) = omega arith in
           rw (x, y) (follow-splines (spline n ds cs) (splinesOf t (limit - (used + n)) (rooms .deltas - 2 * (used + n)) s l2) end)
 
-      first : (g : Got (List ℤ)) → follow (andThen (andThen g (λ ds l1. andThen (coefficientsOf t 128 l1) (λ cs l2. got (spline n ds cs) l2))) others) end
+      first : (g : Got (List ℤ)) → follow (andThen (andThen g (λ ds l1. andThen (coefficientsIn t 128 l1) (λ cs l2. got (spline n ds cs) l2))) others) end
           ≡ follow g (coefficientsFrom s (used + n) 128)
       first (stop c p) = refl
-      first (got ds l1) = last ds (coefficientsOf t 128 l1)
+      first (got ds l1) = last ds (coefficientsIn t 128 l1)
 
       test : (p q : Bool)
           → follow (andThen (cond p (stop Code.Points (t - length (n ∷ r))) (cond q (stop Code.Room (t - length (n ∷ r)))
-          (andThen (deltasOf t n r) (λ ds l1. andThen (coefficientsOf t 128 l1) (λ cs l2. got (spline n ds cs) l2))))) others) end
+          (andThen (deltasIn t n r) (λ ds l1. andThen (coefficientsIn t 128 l1) (λ cs l2. got (spline n ds cs) l2))))) others) end
           ≡ cond p (at Code.Points (t - length (n ∷ r))) (cond q (at Code.Room (t - length (n ∷ r))) (deltasFrom s (used + n) n r))
       test true q = refl
       test false true = refl
-      test false false = first (deltasOf t n r)
+      test false false = first (deltasIn t n r)
 
   points-on : (s used n : ℕ) (r : List ℕ) → used + n ≤ limit → 2 * (used + n) ≤ rooms .deltas → splinesFrom (suc s) used (n ∷ r) ≡ deltasFrom s (used + n) n r
   points-on s used n r h w = points-step s used n r ∙ rw (le-ltb (limit - used) n (omega arith), le-ltb (rooms .deltas - 2 * used) (2 * n) (omega arith))
@@ -155,21 +155,21 @@ module _ (limit : ℕ) (rooms : ListRooms) (t : ℕ) where
   splines-end used r = refl
 
   deltas-end : (s used : ℕ) (r : List ℕ) → deltasFrom s used zero r ≡ coefficientsFrom s used 128 r
-  unfolding deltasOf
+  unfolding deltasIn
   deltas-end s used r = refl
 
   coefficients-end : (s used : ℕ) (r : List ℕ) → coefficientsFrom s used zero r ≡ splinesFrom s used r
-  unfolding coefficientsOf
+  unfolding coefficientsIn
   coefficients-end s used r = refl
 
   starts-end : (s : ℕ) (first : Bool) (x y : ℤ) (r : List ℕ) → startsFrom s zero first x y r ≡ adjustmentFrom s r
-  unfolding startsOf
+  unfolding startsIn
   starts-end s first x y r = refl
 
   -- ---- what the table says is what becomes of reading there
 
   ends : (d : Due) (r : List ℕ) → length r < wants d → from d r ≡ at Code.Short t
-  unfolding startsOf deltasOf coefficientsOf splinesOf splineIn
+  unfolding startsIn deltasIn coefficientsIn splinesOf splineIn
   ends count [] h = refl
   ends count (a ∷ r) h = absurd (omega arith)
   ends (starts s zero first x y) r h = absurd (not-suc-le-zero h)
@@ -214,7 +214,7 @@ module _ (limit : ℕ) (rooms : ListRooms) (t : ℕ) where
   under (all-pointed q) = tt
 
   given-at : {c : Code} {d : Due} {r : List ℕ} → Under d → DueRefusal limit rooms c d r → from d r ≡ at c (placeOf c t r)
-  unfolding startsOf deltasOf coefficientsOf
+  unfolding startsIn deltasIn coefficientsIn
   given-at u (short {d} {r} h) = ends d r h
   given-at u (many-splines {v} {r} h) = rw (lt-ltb limit (v + 1) h)
   given-at u (far-start {first = first} {x = x} {y = y} {a = a} {b = b} h) = rw (decides-far posLimit (coordinate first x a) (coordinate first y b) .passes h)
@@ -262,13 +262,13 @@ read-fate limit rooms (v ∷ l) =
     rw none (test (ltb limit (v + 1)) (lacking rooms (v + 1)))
   where
     test : (p q : Bool)
-        → fate (cond p (stop Code.Splines 0) (cond q (stop Code.Room 0) (andThen (startsOf (length (v ∷ l)) true (pos 0) (pos 0) (v + 1) l)
+        → fate (cond p (stop Code.Splines 0) (cond q (stop Code.Room 0) (andThen (startsIn (length (v ∷ l)) true (pos 0) (pos 0) (v + 1) l)
         (λ zs l1. afterStarts (length (v ∷ l)) limit (rooms .deltas) (v + 1) zs l1))))
         ≡ cond p (at Code.Splines 0) (cond q (at Code.Room 0) (startsFrom limit rooms (length (v ∷ l)) (v + 1) (v + 1) true (pos 0) (pos 0) l))
     test true q = refl
     test false true = refl
     test false false =
-        fate-then (startsOf (length (v ∷ l)) true (pos 0) (pos 0) (v + 1) l) (λ zs l1. afterStarts (length (v ∷ l)) limit (rooms .deltas) (v + 1) zs l1)
+        fate-then (startsIn (length (v ∷ l)) true (pos 0) (pos 0) (v + 1) l) (λ zs l1. afterStarts (length (v ∷ l)) limit (rooms .deltas) (v + 1) zs l1)
         (adjustmentFrom limit rooms (length (v ∷ l)) (v + 1)) (λ zs l1. after-fate limit rooms (length (v ∷ l)) (v + 1) zs l1)
 
 -- what the table says is given

@@ -17,7 +17,7 @@ use Rattle.checks.specs.declared.Verdict.the-variants.{Fine}
 use Rattle.desks.specs.Desks.{sightOf, hiddenIn, shown, allOwned}
 use Rattle.desks.proofs.Shown.{shown-listed, owned-first}
 use Rattle.draw.specs.declared.DrawAnswer.the-variants.{Done}
-use Rattle.draw.specs.Draw.{pixel, count, updates, drawnChannel, Table, Sight, rowOf, shownOf, spanGood, judgeOf, Channels, leaves, drawOf}
+use Rattle.draw.specs.Draw.{pixel, count, updates, drawnChannel, Table, Sight, rowOf, shownOf, spanGood, judgeDraw, Channels, leaves, drawOf}
 use Rattle.checks.proofs.Checks.{RowFacts, Passed, judged-fine}
 use Rattle.checks.proofs.Refusals.{span-fits, below-each}
 use Rattle.entries.proofs.Entries.{hidden-kept, hidden-counts}
@@ -49,7 +49,7 @@ module _ (t : Table) (s : Sight) (i y x0 n : ℕ) (row : shownOf t s y ≡ i ∷
   drawn-one : (c : ℕ) (xs : List Float) → drawnChannel c t s y x0 n xs ≡ drawnChannelAlone c (segmentAt (t .segments) i) y x0 n xs
   drawn-one c xs = ap (λ (listed : List ℕ). edit (firstCells n (λ k v. pixel c (t .segments) y (x0 + k) listed v)) xs) row
 
-module _ (t : Table) (s : Sight) (i y x0 n : ℕ) (a : Channels) (fine : judgeOf t s y x0 n (length (a .r0)) (length (a .r1)) (length (a .r2)) ≡ Fine) where
+module _ (t : Table) (s : Sight) (i y x0 n : ℕ) (a : Channels) (fine : judgeDraw t s y x0 n (length (a .r0)) (length (a .r1)) (length (a .r2)) ≡ Fine) where
   passed : Passed t s y x0 n (length (a .r0)) (length (a .r1)) (length (a .r2))
   passed = judged-fine t s y x0 n (length (a .r0)) (length (a .r1)) (length (a .r2)) fine
 

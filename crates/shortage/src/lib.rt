@@ -7,7 +7,7 @@ use segments::Segment;
 use table::BuildAnswer;
 
 // How many segments are drawn, or the spline that has no room.
-enum Drawn {
+enum Counted {
     Count(u32),
     Short(usize),
 }
@@ -24,7 +24,7 @@ fn draw_all(
     walk: &mut [f32],
     segments: &mut [f32],
     owners: &mut [u64],
-) -> Drawn {
+) -> Counted {
     let mut row_starts = [0u32; 1];
     let mut entries = [0u32; 1];
     match table::build(
@@ -46,8 +46,8 @@ fn draw_all(
         &mut row_starts,
         &mut entries,
     ) {
-        BuildAnswer::Refused(_, k) => Drawn::Short(k),
-        BuildAnswer::Done(count, _, _, _) => Drawn::Count(count),
+        BuildAnswer::Refused(_, k) => Counted::Short(k),
+        BuildAnswer::Done(count, _, _, _) => Counted::Count(count),
     }
 }
 
@@ -141,12 +141,12 @@ fn say_entries(needed: u64) -> u8
 }
 
 // The spline k was drawn as the first of all: where it has no room then either, its walk is too long, else the segments are too many.
-fn say_drawn(drawn: Drawn, k: usize) -> u8
+fn say_drawn(drawn: Counted, k: usize) -> u8
     ensures { λ r. ⌜ r ≡ 1 ⌝ }
 {
     match drawn {
-        Drawn::Count(_) => say_segments(k),
-        Drawn::Short(first) => if first == 0 {
+        Counted::Count(_) => say_segments(k),
+        Counted::Short(first) => if first == 0 {
             say_walk(k)
         } else {
             say_segments(k)
@@ -259,8 +259,8 @@ pub fn say(
         segments,
         owners,
     ) {
-        Drawn::Count(count) => say_entries(entries_of(segments, count, height)),
-        Drawn::Short(k) => say_spline(
+        Counted::Count(count) => say_entries(entries_of(segments, count, height)),
+        Counted::Short(k) => say_spline(
             counts,
             starts,
             deltas,

@@ -3,7 +3,7 @@ ghost use mathlib.Core.Path.{_≡_};
 ghost use Prim.Native.Nat.{_*_, _/_, _≤_};
 ghost use lib.ListN.{length};
 ghost use Rattle.points.specs.Points.{segmentRoom, filledOf, FilledOn};
-ghost use Rattle.control_points.specs.ControlPoints.{placeAt};
+ghost use Rattle.control_points.specs.ControlPoints.{standAt};
 ghost use Rattle.control_points.specs.Asked.{Passable};
 ghost use Rattle.curve.specs.Curve.{pathRoom};
 ghost use Rattle.walk.specs.Walk.{walkIn, walkRoom};
@@ -68,7 +68,7 @@ pub fn draw_spline(
     out: &mut [f32],
     from: usize,
 ) -> Filled
-    requires { ⌜ Passable (placeAt start) (now deltas) × (from ≤ segmentRoom (length (now out))) ⌝ }
+    requires { ⌜ Passable (standAt start) (now deltas) × (from ≤ segmentRoom (length (now out))) ⌝ }
     ensures { λ r. ⌜ (r ≡ strandFilled (segmentRoom (length (now (out .entry)))) from (strandOf (pathRoom (length (now (path .entry)))) (walkRoom (length (now (walk .entry)))) start (now (deltas .entry)) spline «high_precision»))
         × FilledOn r from (segmentsOf (strandOf (pathRoom (length (now (path .entry)))) (walkRoom (length (now (walk .entry)))) start (now (deltas .entry)) spline «high_precision»)) (now (out .entry)) (now (out .exit)) ⌝ }
 {

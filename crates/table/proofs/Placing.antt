@@ -21,9 +21,9 @@ use Rattle.points.specs.Points.{eights}
 use Rattle.points.proofs.Adding.{length-eights}
 use Rattle.owners.specs.Owners.{ownedRoom}
 use Rattle.painting.specs.Painting.{Painted, All, NoRoomAt, drawnOf, DrawnOn, paintOf}
-use Rattle.painting.specs.declared.Drawn.{Drawn}
-use Rattle.painting.specs.declared.Drawn.the-variants as Drawn
-use Rattle.rows.specs.Rows.{inRow, built}
+use Rattle.painting.specs.declared.Segmented.{Segmented}
+use Rattle.painting.specs.declared.Segmented.the-variants as Segmented
+use Rattle.rows.specs.Rows.{inRow, listedRows}
 use Rattle.rows.proofs.Table.{rest-same}
 use Rattle.table.specs.Table.{BuildRooms, BuildOutcome, Setting, roomsOf, givenOf, refusedWith, afterRows, afterPaint, buildOf}
 use Rattle.verdict.specs.Verdict.{verdictOf}
@@ -38,17 +38,17 @@ front xs o e h l = h ∙ sets-front xs o l
 abbrev On : Painted → List Float → List Float → List ℕ → List ℕ → Type 0
 On p o e u v = DrawnOn p (ownedRoom (length o) (length u)) o e u v
 
-pub painted-fits : (o e : List Float) (u v : List ℕ) (p : Painted) → On p o e u v → (n : ℕ) → drawnOf p ≡ Drawn.Count n → (8 * n ≤ length o) × (n ≤ length u) × (n ≤ 2 ^ 24)
+pub painted-fits : (o e : List Float) (u v : List ℕ) (p : Painted) → On p o e u v → (n : ℕ) → drawnOf p ≡ Segmented.Count n → (8 * n ≤ length o) × (n ≤ length u) × (n ≤ 2 ^ 24)
 painted-fits o e u v (NoRoomAt k) h n q = absurd (let z : _≡_ {A = ℕ} 0 1 = cc in omega arith)
 painted-fits o e u v (All segs owners) h n q = let m : length segs ≡ n = cc in omega (arith, h .2)
 
 module _ (r : BuildRooms) (height estimate : ℕ) where
-  pub painted-none : (p : Painted) (k : ℕ) → drawnOf p ≡ Drawn.Room k → refusedWith r Code.Room k ≡ afterPaint r height estimate p
+  pub painted-none : (p : Painted) (k : ℕ) → drawnOf p ≡ Segmented.Room k → refusedWith r Code.Room k ≡ afterPaint r height estimate p
   painted-none (NoRoomAt j) k q = let m : k ≡ j = cc in ap (refusedWith r Code.Room) m
   painted-none (All segs owners) k q = absurd (let z : _≡_ {A = ℕ} 0 1 = cc in omega arith)
 
-  pub painted-all : (o e : List Float) (u v : List ℕ) (p : Painted) → On p o e u v → (n : ℕ) → drawnOf p ≡ Drawn.Count n
-      → afterRows r estimate n (take (8 * n) e) (take n v) (built (inRow e) n height (r .starts) (r .entries)) ≡ afterPaint r height estimate p
+  pub painted-all : (o e : List Float) (u v : List ℕ) (p : Painted) → On p o e u v → (n : ℕ) → drawnOf p ≡ Segmented.Count n
+      → afterRows r estimate n (take (8 * n) e) (take n v) (listedRows (inRow e) n height (r .starts) (r .entries)) ≡ afterPaint r height estimate p
   painted-all o e u v (NoRoomAt k) h n q = absurd (let z : _≡_ {A = ℕ} 0 1 = cc in omega arith)
   painted-all o e u v (All segs owners) h n q =
       let m : n ≡ length segs = cc in
@@ -68,10 +68,10 @@ module _ (r : BuildRooms) (height estimate : ℕ) where
 -- the same, said of what the call before left: its buffers are as long as they were
 module _ (path walk segments : List Float) (owners starts entries : List ℕ) (path′ walk′ segments′ : List Float) (owners′ : List ℕ) (a : length path′ ≡ length path) (b : length walk′ ≡ length walk) (c : length segments′ ≡ length segments) (d : length owners′ ≡ length owners)
     (height estimate : ℕ) (p : Painted) {x : BuildOutcome} where
-  pub refused-none : (k : ℕ) → x ≡ refusedWith (roomsOf path′ walk′ segments′ owners′ starts entries) Code.Room k → drawnOf p ≡ Drawn.Room k → x ≡ afterPaint (roomsOf path walk segments owners starts entries) height estimate p
+  pub refused-none : (k : ℕ) → x ≡ refusedWith (roomsOf path′ walk′ segments′ owners′ starts entries) Code.Room k → drawnOf p ≡ Segmented.Room k → x ≡ afterPaint (roomsOf path walk segments owners starts entries) height estimate p
   refused-none k e q = (rw (a, b, c, d) at e) ∙ painted-none (roomsOf path walk segments owners starts entries) height estimate p k q
 
-  pub listed-all : (n : ℕ) → x ≡ afterRows (roomsOf path′ walk′ segments′ owners′ starts entries) estimate n (take (8 * n) segments′) (take n owners′) (built (inRow segments′) n height (length starts) (length entries)) → On p segments segments′ owners owners′ → drawnOf p ≡ Drawn.Count n
+  pub listed-all : (n : ℕ) → x ≡ afterRows (roomsOf path′ walk′ segments′ owners′ starts entries) estimate n (take (8 * n) segments′) (take n owners′) (listedRows (inRow segments′) n height (length starts) (length entries)) → On p segments segments′ owners owners′ → drawnOf p ≡ Segmented.Count n
       → x ≡ afterPaint (roomsOf path walk segments owners starts entries) height estimate p
   listed-all n e h q = (rw (a, b, c, d) at e) ∙ painted-all (roomsOf path walk segments owners starts entries) height estimate segments segments′ owners owners′ p h n q
 

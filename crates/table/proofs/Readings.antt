@@ -6,7 +6,7 @@ use native.Mathlib.Omega.{arith}
 use lib.IntN.{ℤ, pos, negsuc, _+ℤ_, +ℤ-idr}
 use lib.ListN.{length}
 use Rattle.codes.specs.declared.Code.the-variants as Code
-use Rattle.control_points.specs.ControlPoints.{plusOf, placeAt, movedOf, laterPoints, controlPoints}
+use Rattle.control_points.specs.ControlPoints.{plusOf, standAt, movedOf, laterPoints, controlPoints}
 use Rattle.dequantize.specs.Judge.{Description, deltasOf, totalOf}
 use Rattle.control_points.specs.Refusals.{Adjacent}
 use Rattle.dequantize.specs.Refusals.{Traces, SplinePasses, points-meet}
@@ -22,7 +22,7 @@ stays : (a b : ℤ) → _≡_ {A = Pair} (record { x = a; y = b }) (record { x =
 stays a b = rw (+ℤ-idr a, +ℤ-idr b)
 
 meet : (p : Pair) → Adjacent (controlPoints p (pos 1 ∷ pos 0 ∷ negsuc 0 ∷ pos 0 ∷ []))
-unfolding plusOf placeAt movedOf laterPoints controlPoints
+unfolding plusOf standAt movedOf laterPoints controlPoints
 meet p = record { j = 1; inside = omega arith; equal = stays (p .x +ℤ pos 1) (p .y +ℤ pos 0) }
 
 -- the code and the place, where the splines before it pass, its own pairs too, and AREA does not come first

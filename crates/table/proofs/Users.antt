@@ -73,10 +73,10 @@ module _ (d : Description) (i : Setting) (r : BuildRooms) where
   unfolding buildOf
   after-passes f a = ap rest (fits-verdict f ∙ all-fine d (givenOf i) a)
 
-  abbrev Drawn : List Segment → List ℕ → Type 0
-  Drawn segs owners = DrawnUpTo d (givenOf i) (i .high) (r .path) (r .walk) (r .segments) (r .owners) (length (d .counts)) segs owners
+  abbrev Segmented : List Segment → List ℕ → Type 0
+  Segmented segs owners = DrawnUpTo d (givenOf i) (i .high) (r .path) (r .walk) (r .segments) (r .owners) (length (d .counts)) segs owners
 
-  pub is-drawn : Fits d i r → AllPass d (givenOf i) → (segs : List Segment) (owners : List ℕ) → Drawn segs owners → painted d i r ≡ All segs owners
+  pub is-drawn : Fits d i r → AllPass d (givenOf i) → (segs : List Segment) (owners : List ℕ) → Segmented segs owners → painted d i r ≡ All segs owners
   is-drawn f a segs owners w = all-exactly d (givenOf i) (i .high) (r .path) (r .walk) (r .segments) (r .owners) (f .shape) (passed a) segs owners .1 w
 
   pub refused : {c : Code} {p : ℕ} → BuildRefusal d i r c p → buildOf d i r ≡ refusedWith r c p
@@ -117,7 +117,7 @@ module _ (d : Description) (i : Setting) (r : BuildRooms) where
       inr (record { code = Code.Room; place = k; why = drawing f a (room-exactly d (givenOf i) (i .high) (r .path) (r .walk) (r .segments) (r .owners) (f .shape) (passed a) k .0 q) })
   by-paint f a (All segs owners) q = go (either (inRow (eights segs)) (length segs) (i .height) (r .starts) (r .entries))
     where
-      w : Drawn segs owners
+      w : Segmented segs owners
       w = all-exactly d (givenOf i) (i .high) (r .path) (r .walk) (r .segments) (r .owners) (f .shape) (passed a) segs owners .0 q
 
       go : ((entryTotal i segs ≤ r .entries) × (entryTotal i segs ≤ 2 ^ 30)) ⊎ ((r .entries < entryTotal i segs) ⊎ (2 ^ 30 < entryTotal i segs)) → Accepts ⊎ Refuses

@@ -16,7 +16,7 @@ use Rattle.walk.specs.Walk.{walkRoom}
 use Rattle.points.specs.Points.{eights}
 use Rattle.owners.specs.Owners.{ownedRoom}
 use Rattle.painting.specs.Painting.{Painted, All, NoRoomAt, paintOf}
-use Rattle.rows.specs.Rows.{inRow, built}
+use Rattle.rows.specs.Rows.{inRow, listedRows}
 pub use Rattle.build_answer.specs.Answer.{BuildRooms, roomsOf, BuildTold, toldOf, BuildOutcome, leaves, zeros, afterRows}
 unfoldable pub use Rattle.build_answer.specs.Answer.{refusedWith}
 
@@ -51,7 +51,7 @@ givenOf i = record { adjustment = i .adjustment; «y_to_x» = i .ytox; «y_to_b�
 abbrev pub afterPaint : BuildRooms → ℕ → ℕ → Painted → BuildOutcome
 afterPaint r height estimate (NoRoomAt k) = refusedWith r Code.Room k
 afterPaint r height estimate (All segs owners) =
-    afterRows r estimate (length segs) (eights segs) owners (built (inRow (eights segs)) (length segs) height (r .starts) (r .entries))
+    afterRows r estimate (length segs) (eights segs) owners (listedRows (inRow (eights segs)) (length segs) height (r .starts) (r .entries))
 
 abbrev pub afterJudge : BuildRooms → ℕ → Judged → Painted → BuildOutcome
 afterJudge r height (Judged.Refused code k) painted = refusedWith r code k

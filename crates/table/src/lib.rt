@@ -15,7 +15,7 @@ use build_answer::refuse;
 use codes::Code;
 use dequantize::Given;
 use dequantize::judge::Judged;
-use painting::Drawn;
+use painting::Segmented;
 
 fn given_of(
     adjustment: i32,
@@ -71,7 +71,7 @@ fn paint(
         segments,
         owners,
     ) {
-        Drawn::Room(k) => refuse(
+        Segmented::Room(k) => refuse(
             Code::Room,
             k,
             path,
@@ -81,7 +81,7 @@ fn paint(
             row_starts,
             entries,
         ),
-        Drawn::Count(count) => list_segments(
+        Segmented::Count(count) => list_segments(
             count,
             height,
             estimate,

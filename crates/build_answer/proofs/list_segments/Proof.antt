@@ -4,7 +4,7 @@ use mathlib.Core.List.{List}
 use Prim.Native.Nat.{ℕ, _*_}
 use lib.ListN.{length, take}
 use lib.Ieee.{Float, binary32, ofBits}
-use Rattle.rows.specs.Rows.{RowsOutcome, inRow, built}
+use Rattle.rows.specs.Rows.{RowsOutcome, inRow, listedRows}
 use Rattle.build_answer.specs.Answer.{BuildRooms, roomsOf}
 use Rattle.faint.proofs.Counts.{faint-take}
 use Rattle.build_answer.proofs.Ends.{kept, rows-room, rows-done}
@@ -23,7 +23,7 @@ abbrev owned : tie.Start → List ℕ
 owned s = take (s .args .count) (s .args .owners .now)
 
 abbrev listing : tie.Start → RowsOutcome
-listing s = built (inRow (s .args .segments .now)) (s .args .count) (s .args .height) (length (s .args .row-starts .now)) (length (s .args .entries .now))
+listing s = listedRows (inRow (s .args .segments .now)) (s .args .count) (s .args .height) (length (s .args .row-starts .now)) (length (s .args .entries .now))
 
 list-rows-requires : tie.Need-list-rows-requires
 list-rows-requires c κs = search needs

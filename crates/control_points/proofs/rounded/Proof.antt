@@ -13,7 +13,7 @@ use Rattle.kinds.specs.Kind.{cutI32, saturatedI32}
 use Rattle.kinds.specs.declared.KindI32.the-variants as I32
 use Rattle.kinds.proofs.ByKind.{saturated-i32}
 use Rattle.control_points.specs.ControlPoints.{coordinateBy, inRange, roundedOf}
-use Rattle.control_points.specs.declared.Whole.the-variants as W
+use Rattle.control_points.specs.declared.Coordinate.the-variants as W
 use Rattle.control_points.proofs.rounded.Statement.{statement}
 use Rattle.control_points.proofs.rounded.Tie as tie
 

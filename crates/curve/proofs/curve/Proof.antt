@@ -5,7 +5,7 @@ use native.Mathlib.Omega.{arith}
 use borrow.Author.Needs.{needs}
 use lib.ListN.{length}
 use Rattle.buffers.proofs.Filling.{filled-none, filled-more, filled-all}
-use Rattle.control_points.specs.ControlPoints.{placeAt}
+use Rattle.control_points.specs.ControlPoints.{standAt}
 use Rattle.curve.specs.Curve.{pointOf, pathOf, flat, pathRoom}
 use Rattle.curve.proofs.Paths.{two, length-path, path-one, curved-room, curved-points}
 use Rattle.curve.proofs.curve.Statement.{statement}
@@ -30,7 +30,7 @@ returns-2 c =
     (omega (arith, length-path (a .start) (a .deltas .now), c .before .before .path-room .ensures, c .before .if1 .left, c .if2 .taken))
 
 of-requires : tie.Need-of-requires
-unfolding placeAt
+unfolding standAt
 of-requires c κs = c .before .before .before .before .before .pre .point
 
 put2-requires : tie.Need-put2-requires

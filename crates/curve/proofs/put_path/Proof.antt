@@ -29,17 +29,17 @@ loop-holds c =
 add-loop : tie.Need-add-loop Inv-loop μ-loop
 add-loop c = omega arith
 
-add-next-place : tie.Need-add-next-place Inv-loop μ-loop
-add-next-place c = omega arith
+add-next-stand : tie.Need-add-next-stand Inv-loop μ-loop
+add-next-stand c = omega arith
 
-next-place-requires : tie.Need-next-place-requires Inv-loop μ-loop
-next-place-requires c κs = (c .before .loop .inv .5 .walk, omega arith)
+next-stand-requires : tie.Need-next-stand-requires Inv-loop μ-loop
+next-stand-requires c κs = (c .before .loop .inv .5 .walk, omega arith)
 
 next-requires : tie.Need-next-requires Inv-loop μ-loop
 next-requires c κs =
     let l = c .before .before .loop in
     let a = c .before .before .before .before .before .args in
-    rw (c .next-place .ensures) (walk-more (l .t .place) (a .deltas .now) (l .k + 1) (omega arith) (l .inv .5 .walk) .point)
+    rw (c .next-stand .ensures) (walk-more (l .t .stand) (a .deltas .now) (l .k + 1) (omega arith) (l .inv .5 .walk) .point)
 
 mul-put-window : tie.Need-mul-put-window Inv-loop μ-loop
 mul-put-window c = omega arith
@@ -67,8 +67,8 @@ loop-again c =
       omega arith,
       omega arith,
       omega (arith, c .before .before .put-window .kept .0),
-      rw (s .next .ensures, s .before .next-place .ensures) (next-under (l .t) _ k (l .inv .5) (omega arith)),
-      rw (c .before .before .put-window .ensures, c .before .before .before .window .ensures, s .next .ensures, s .before .next-place .ensures, m)
+      rw (s .next .ensures, s .before .next-stand .ensures) (next-under (l .t) _ k (l .inv .5) (omega arith)),
+      rw (c .before .before .put-window .ensures, c .before .before .before .window .ensures, s .next .ensures, s .before .next-stand .ensures, m)
           (filled-turn (l .t) _ k (l .inv .5) (l .out) (l .inv .6) (omega arith) (omega arith)),
     )
 
@@ -117,8 +117,8 @@ put-path-spec =
     first-turn-requires
     loop-holds
     add-loop
-    add-next-place
-    next-place-requires
+    add-next-stand
+    next-stand-requires
     next-requires
     mul-put-window
     window-requires

@@ -12,7 +12,7 @@ use Rattle.curve.specs.Curve.{pathRoom}
 use Rattle.walk.specs.Walk.{walkRoom}
 use Rattle.points.specs.Points.{segmentRoom, FilledOn}
 use Rattle.strand.specs.Strand.{strandFilled, segmentsOf}
-use Rattle.painting.specs.declared.Drawn.the-variants as Drawn
+use Rattle.painting.specs.declared.Segmented.the-variants as Segmented
 use Rattle.painting.specs.Painting.{Passed, strandOfSpline}
 use Rattle.painting.proofs.Painting.{Painting, painting-none, painting-all, painting-room, painting-fits, painting-more, part-is}
 use Rattle.painting.proofs.draw_each.Statement.{statement}
@@ -177,7 +177,7 @@ returns-2 : tie.Need-returns-2 Inv-loop μ-loop
 returns-2 c =
     let l = c .before .loop in
     let a = l .inv .13 in
-    rw (painting-all _ _ _ _ _ _ _ _ (l .out) (l .owners) (l .k) (l .at) (l .count) a (omega arith)) (ap Drawn.Count (sym (a .size)), (a .buffer, a .numbers, omega (arith, a .size, a .fits), a .owned ∙ sym (a .size)))
+    rw (painting-all _ _ _ _ _ _ _ _ (l .out) (l .owners) (l .k) (l .at) (l .count) a (omega arith)) (ap Segmented.Count (sym (a .size)), (a .buffer, a .numbers, omega (arith, a .size, a .fits), a .owned ∙ sym (a .size)))
 
 pub draw-each-spec : {M : Type 1} → statement M
 draw-each-spec =

@@ -2,14 +2,14 @@
 use mathlib.Core.Path.{_≡_}
 use native.Mathlib.Omega.{arith}
 use denote.Ref.{now}
-use Rattle.control_points.specs.ControlPoints.{placeAt}
+use Rattle.control_points.specs.ControlPoints.{standAt}
 use Rattle.polyline_spline.proofs.Puts.{points-put}
 use borrow.Author.Needs.{needs}
 use Rattle.polyline_spline.proofs.put_points.Statement.{statement}
 use Rattle.polyline_spline.proofs.put_points.Tie as tie
 
 put-pair-requires : tie.Need-put-pair-requires
-unfolding placeAt
+unfolding standAt
 put-pair-requires c κs = (omega arith, c .before .before .pre .point)
 
 at-requires : tie.Need-at-requires

@@ -7,7 +7,7 @@ use lib.ListN.{length, take, drop, length-set}
 use native.Mathlib.Nat.{sub-zero}
 use mir.Syntax.{w32}
 use mir.Facts.{toZ-ofZ}
-use Rattle.list.specs.List.{onto, coefficientsOf}
+use Rattle.list.specs.List.{onto, coefficientsIn}
 use Rattle.codes.specs.declared.Code.{Code}
 use Rattle.list.proofs.Buffers.{next-is}
 use Rattle.read_steps.proofs.Turns.{keep-one, onto-none, filled-done, filled-stop, coefficients-short, coefficients-more}
@@ -15,7 +15,7 @@ use Rattle.read_steps.proofs.read_coefficients.Statement.{statement}
 use Rattle.read_steps.proofs.read_coefficients.Tie as tie
 
 abbrev Inv-loop : tie.InvT-loop
-Inv-loop list total n out₀ rest₀ i₀ out rest i = (i ≤ n) × (length out ≡ length out₀) × (drop i out ≡ drop i out₀) × (coefficientsOf total n list ≡ onto (take i out) (coefficientsOf total (n - i) rest))
+Inv-loop list total n out₀ rest₀ i₀ out rest i = (i ≤ n) × (length out ≡ length out₀) × (drop i out ≡ drop i out₀) × (coefficientsIn total n list ≡ onto (take i out) (coefficientsIn total (n - i) rest))
 
 abbrev μ-loop : tie.MeasureT-loop
 μ-loop list total n out₀ rest₀ i₀ out rest i = n - i
@@ -82,7 +82,7 @@ same-length-2 : tie.Need-same-length-2 Inv-loop μ-loop
 same-length-2 c = c .before .loop .inv .1
 
 returns-2 : tie.Need-returns-2 Inv-loop μ-loop
-unfolding coefficientsOf
+unfolding coefficientsIn
 returns-2 c =
     let a = c .before .before .before .args in
     let v = c .before .loop in

@@ -6,14 +6,14 @@ use borrow.Author.Needs.{needs}
 use lib.ListN.{length, take, drop, length-set}
 use mir.Syntax.{w32}
 use mir.Facts.{toZ-ofZ}
-use Rattle.list.specs.List.{onto, deltasOf}
+use Rattle.list.specs.List.{onto, deltasIn}
 use Rattle.codes.specs.declared.Code.{Code}
 use Rattle.read_steps.proofs.Turns.{keep-two, onto-none, filled-done, filled-stop, pair-is, deltas-short, deltas-wild, deltas-more}
 use Rattle.read_steps.proofs.read_deltas.Statement.{statement}
 use Rattle.read_steps.proofs.read_deltas.Tie as tie
 
 abbrev Inv-loop : tie.InvT-loop
-Inv-loop list total n out₀ rest₀ left₀ i₀ out rest left i = (i + 2 * left ≡ 2 * n) × (length out ≡ length out₀) × (length rest ≤ total) × (drop i out ≡ drop i out₀) × (deltasOf total n list ≡ onto (take i out) (deltasOf total left rest))
+Inv-loop list total n out₀ rest₀ left₀ i₀ out rest left i = (i + 2 * left ≡ 2 * n) × (length out ≡ length out₀) × (length rest ≤ total) × (drop i out ≡ drop i out₀) × (deltasIn total n list ≡ onto (take i out) (deltasIn total left rest))
 
 abbrev μ-loop : tie.MeasureT-loop
 μ-loop list total n out₀ rest₀ left₀ i₀ out rest left i = left
@@ -114,7 +114,7 @@ same-length-3 : tie.Need-same-length-3 Inv-loop μ-loop
 same-length-3 c = c .before .loop .inv .1
 
 returns-3 : tie.Need-returns-3 Inv-loop μ-loop
-unfolding deltasOf
+unfolding deltasIn
 returns-3 c =
     let v = c .before .loop in
     let m : v .left ≡ 0 = omega arith in

@@ -10,7 +10,7 @@ use lib.Signed.{mag}
 use mir.Syntax.{w64}
 use mir.Val.{toZ}
 use mir.Facts.{toZ-ofZ}
-use Rattle.list.specs.List.{posLimit, beyond, onto, startsOf}
+use Rattle.list.specs.List.{posLimit, beyond, onto, startsIn}
 use Rattle.codes.specs.declared.Code.{Code}
 use Rattle.read_steps.specs.Steps.{floats}
 use Rattle.read_steps.proofs.Numbers.{not-far, judge, as-small}
@@ -19,7 +19,7 @@ use Rattle.read_steps.proofs.read_starts.Statement.{statement}
 use Rattle.read_steps.proofs.read_starts.Tie as tie
 
 abbrev Inv-loop : tie.InvT-loop
-Inv-loop list total n out₀ rest₀ left₀ i₀ first₀ last-x₀ last-y₀ out rest left i first last-x last-y = (i + 2 * left ≡ 2 * n) × (length out ≡ length out₀) × (length rest ≤ total) × (drop i out ≡ drop i out₀) × (mag (toZ w64 last-x) < 2 ^ 23) × (mag (toZ w64 last-y) < 2 ^ 23) × (floats (startsOf total true (pos 0) (pos 0) n list) ≡ onto (take i out) (floats (startsOf total first (toZ w64 last-x) (toZ w64 last-y) left rest)))
+Inv-loop list total n out₀ rest₀ left₀ i₀ first₀ last-x₀ last-y₀ out rest left i first last-x last-y = (i + 2 * left ≡ 2 * n) × (length out ≡ length out₀) × (length rest ≤ total) × (drop i out ≡ drop i out₀) × (mag (toZ w64 last-x) < 2 ^ 23) × (mag (toZ w64 last-y) < 2 ^ 23) × (floats (startsIn total true (pos 0) (pos 0) n list) ≡ onto (take i out) (floats (startsIn total first (toZ w64 last-x) (toZ w64 last-y) left rest)))
 
 abbrev μ-loop : tie.MeasureT-loop
 μ-loop list total n out₀ rest₀ left₀ i₀ first₀ last-x₀ last-y₀ out rest left i first last-x last-y = left
@@ -151,7 +151,7 @@ same-length-3 : tie.Need-same-length-3 Inv-loop μ-loop
 same-length-3 c = c .before .loop .inv .1
 
 returns-3 : tie.Need-returns-3 Inv-loop μ-loop
-unfolding startsOf
+unfolding startsIn
 returns-3 c =
     let v = c .before .loop in
     let m : v .left ≡ 0 = omega arith in

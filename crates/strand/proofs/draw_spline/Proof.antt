@@ -7,7 +7,7 @@ use lib.ListN.{length}
 use lib.Seq.{length-take-le}
 use Rattle.curve.specs.Curve.{pathRoom, pathOf}
 use Rattle.curve.proofs.Paths.{length-path}
-use Rattle.curve.proofs.Answers.{Drawn, curved-got, curved-none}
+use Rattle.curve.proofs.Answers.{OnFront, curved-got, curved-none}
 use Rattle.walk.specs.Walk.{walkRoom}
 use Rattle.strand.proofs.Strands.{strand-none, strand-drawn}
 use Rattle.strand.proofs.draw_spline.Statement.{statement}
@@ -15,7 +15,7 @@ use Rattle.strand.proofs.draw_spline.Tie as tie
 
 -- the path that was drawn
 drawn : (e : tie.After-known-told)
-    → Drawn (pathRoom (length (e .before .before .before .before .before .before .before .before .before .before .args .path .now))) (pathOf (e .before .before .before .before .before .before .before .before .before .before .args .start) (e .before .before .before .before .before .before .before .before .before .before .args .deltas .now)) (e .before .before .before .before .before .curve .last .1 .1 .0) (e .before .n .given .0 .0)
+    → OnFront (pathRoom (length (e .before .before .before .before .before .before .before .before .before .before .args .path .now))) (pathOf (e .before .before .before .before .before .before .before .before .before .before .args .start) (e .before .before .before .before .before .before .before .before .before .before .args .deltas .now)) (e .before .before .before .before .before .curve .last .1 .1 .0) (e .before .n .given .0 .0)
 drawn e = curved-got _ _ _ _ _ (sym (e .before .n .given .1) ∙ e .before .before .before .before .before .curve .ensures .0) (e .before .before .before .before .before .curve .ensures .1)
 
 -- it lies inside the buffer

@@ -11,17 +11,17 @@ use Rattle.codes.specs.declared.Code.the-variants.{Position, Coincide}
 use Rattle.codes.proofs.Decides.{both}
 use Rattle.control_points.specs.ControlPoints.{validPointPos}
 use Rattle.control_points.specs.declared.Pair.{Pair}
-use Rattle.control_points.specs.declared.Place.{Place}
+use Rattle.control_points.specs.declared.Stand.{Stand}
 use Rattle.polyline.specs.declared.Figure.{Figure}
 use Rattle.polyline.specs.declared.Spot.{Spot}
 use Rattle.polyline.specs.declared.Track.{Track}
 use Rattle.polyline.specs.declared.Track.the-variants.{Empty, At}
 use Rattle.polyline.specs.declared.Judged.{Judged}
 use Rattle.polyline.specs.declared.Judged.the-variants.{On, Stop}
-use Rattle.polyline.specs.declared.Walked.{Walked}
-use Rattle.polyline.specs.declared.Walked.the-variants.{Came, Halt}
+use Rattle.polyline.specs.declared.Tracked.{Tracked}
+use Rattle.polyline.specs.declared.Tracked.the-variants.{Came, Halt}
 use Rattle.polyline.specs.Spots.{figureAt, grownBy, spotOf, spotsFrom}
-use Rattle.polyline.specs.Read.{minusOf, placeable, meets, trackTo, stepDeltas, judgedOf, afterPair, walkFrom, deltasFrom, firstPoint, laterOf}
+use Rattle.polyline.specs.Read.{minusOf, placeable, meets, trackTo, stepDeltas, judgedOf, afterPair, trackFrom, deltasFrom, firstPoint, laterOf}
 
 -- ---- one pair
 
@@ -61,23 +61,23 @@ unplaceable (At p start) q e = rw e (go (validPointPos (minusOf q (p .point))))
 -- ---- one pair further
 
 module _ (t : Track) (s : Spot) (ss : List Spot) where
-  pub walk-on : (u : Track) → judgedOf t (s .point) ≡ On u → walkFrom t (s ∷ ss) ≡ walkFrom u ss
-  unfolding walkFrom
+  pub walk-on : (u : Track) → judgedOf t (s .point) ≡ On u → trackFrom t (s ∷ ss) ≡ trackFrom u ss
+  unfolding trackFrom
   walk-on u e = rw e
 
-  pub walk-stop : (c : Code) → judgedOf t (s .point) ≡ Stop c → walkFrom t (s ∷ ss) ≡ Halt c (s .begin)
-  unfolding walkFrom
+  pub walk-stop : (c : Code) → judgedOf t (s .point) ≡ Stop c → trackFrom t (s ∷ ss) ≡ Halt c (s .begin)
+  unfolding trackFrom
   walk-stop c e = rw e
 
   pub record Further (v : Track) : Type 0 where
     pub passes : Passes t (s .point) (trackTo t (s .point))
-    pub rest : walkFrom (trackTo t (s .point)) ss ≡ Came v
+    pub rest : trackFrom (trackTo t (s .point)) ss ≡ Came v
 
-  pub walk-came : (v : Track) → walkFrom t (s ∷ ss) ≡ Came v → Further v
-  unfolding walkFrom
+  pub walk-came : (v : Track) → trackFrom t (s ∷ ss) ≡ Came v → Further v
+  unfolding trackFrom
   walk-came v e = go (judgedOf t (s .point)) refl e
     where
-      go : (j : Judged) → judgedOf t (s .point) ≡ j → afterPair j (s .begin) (λ u. walkFrom u ss) ≡ Came v → Further v
+      go : (j : Judged) → judgedOf t (s .point) ≡ j → afterPair j (s .begin) (λ u. trackFrom u ss) ≡ Came v → Further v
       go (On u) h e =
           let p = judged-on t (s .point) u h in
           record { passes = record { placed = p .placed; apart = p .apart; is = refl }; rest = rw (p .is) at e }
@@ -87,11 +87,11 @@ module _ (t : Track) (s : Spot) (ss : List Spot) where
 
 -- the first pair is kept
 pub record Keeps (start : Pair) (t : Track) : Type 0 where
-  pub place : Place
+  pub place : Stand
   pub is : t ≡ At place start
 
-pub walk-keeps : (ss : List Spot) (p : Place) (start : Pair) (v : Track) → walkFrom (At p start) ss ≡ Came v → Keeps start v
-unfolding walkFrom trackTo
+pub walk-keeps : (ss : List Spot) (p : Stand) (start : Pair) (v : Track) → trackFrom (At p start) ss ≡ Came v → Keeps start v
+unfolding trackFrom trackTo
 walk-keeps [] p start v e = record { place = p; is = cc }
 walk-keeps (s ∷ ss) p start v e = walk-keeps ss _ start v (walk-came (At p start) s ss v e .rest)
 
@@ -99,7 +99,7 @@ pub record First (ss : List Spot) (v : Track) : Type 0 where
   pub valid : validPointPos (firstPoint ss) ≡ true
   pub keeps : Keeps (firstPoint ss) v
 
-pub walk-first : (ss : List Spot) (v : Track) → 0 < length ss → walkFrom Empty ss ≡ Came v → First ss v
+pub walk-first : (ss : List Spot) (v : Track) → 0 < length ss → trackFrom Empty ss ≡ Came v → First ss v
 unfolding trackTo
 walk-first [] v h e = absurd (omega arith)
 walk-first (s ∷ ss) v h e =
@@ -107,7 +107,7 @@ walk-first (s ∷ ss) v h e =
     record { valid = placeable-valid Empty (s .point) (w .passes .placed); keeps = walk-keeps ss _ (s .point) v (w .rest) }
 
 -- two numbers for each pair behind the first
-pub deltas-length-at : (ss : List Spot) (p : Place) (start : Pair) → length (deltasFrom (At p start) ss) ≡ 2 * length ss
+pub deltas-length-at : (ss : List Spot) (p : Stand) (start : Pair) → length (deltasFrom (At p start) ss) ≡ 2 * length ss
 unfolding deltasFrom stepDeltas trackTo
 deltas-length-at [] p start = refl
 deltas-length-at (s ∷ ss) p start = ap (λ (k : ℕ). suc (suc k)) (deltas-length-at ss _ start) ∙ omega arith

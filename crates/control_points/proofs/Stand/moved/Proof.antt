@@ -1,8 +1,8 @@
 -- What is asked for are the facts that the two sums ask for.
 use borrow.Author.Needs.{needs}
 use Rattle.control_points.specs.ControlPoints.{movedOf}
-use Rattle.control_points.proofs.Place.moved.Statement.{statement}
-use Rattle.control_points.proofs.Place.moved.Tie as tie
+use Rattle.control_points.proofs.Stand.moved.Statement.{statement}
+use Rattle.control_points.proofs.Stand.moved.Tie as tie
 
 plus-requires : tie.Need-plus-requires
 plus-requires c κs = search needs

@@ -1,8 +1,8 @@
 -- Each row is a call's answer, last call first.
 use borrow.Author.Needs.{needs}
-use Rattle.dequantize.specs.Coefficients.{rowsOf}
-use Rattle.dequantize.proofs.coefficients.rows_of.Statement.{statement}
-use Rattle.dequantize.proofs.coefficients.rows_of.Tie as tie
+use Rattle.dequantize.specs.Coefficients.{gainedRows}
+use Rattle.dequantize.proofs.coefficients.gained_rows.Statement.{statement}
+use Rattle.dequantize.proofs.coefficients.gained_rows.Tie as tie
 
 row-requires : tie.Need-row-requires
 row-requires c κs = search needs
@@ -23,7 +23,7 @@ row-requires-4 : tie.Need-row-requires-4
 row-requires-4 c κs = search needs
 
 returns : tie.Need-returns
-unfolding rowsOf
+unfolding gainedRows
 returns c =
     rw (
       c .before .gained2 .ensures,
@@ -34,8 +34,8 @@ returns c =
       c .before .before .before .before .before .row .ensures,
     )
 
-pub rows-of-spec : {M : Type 1} → statement M
-rows-of-spec =
+pub gained-rows-spec : {M : Type 1} → statement M
+gained-rows-spec =
     tie.close
     (tie.spec
     row-requires
