@@ -9,10 +9,10 @@ use Rattle.shape.proofs.Shape.{sum-turn, sum-end, sum-left}
 use Rattle.little.specs.Little.{numbersIn}
 use Rattle.trace.specs.Trace.{part}
 use Rattle.trace.proofs.Checks.{part-at}
-use Rattle.trace_judge.proofs.Faults.{held-length}
+use Rattle.trace_parts.proofs.Parts.{held-length}
 use borrow.Author.Needs.{needs}
-use Rattle.trace_judge.proofs.sum_is.Statement.{statement}
-use Rattle.trace_judge.proofs.sum_is.Tie as tie
+use Rattle.trace_parts.proofs.sum_is.Statement.{statement}
+use Rattle.trace_parts.proofs.sum_is.Tie as tie
 
 abbrev Inv-loop : tie.InvT-loop
 Inv-loop bytes from n points left₀ i₀ left i =

@@ -1,8 +1,8 @@
 -- `no_start` meets its contract: the number stands for one below 2^31, or for a negative one.
 use native.Mathlib.Omega.{arith}
-use Rattle.trace_judge.proofs.Faults.{start-low, start-high}
-use Rattle.trace_judge.proofs.no_start.Statement.{statement}
-use Rattle.trace_judge.proofs.no_start.Tie as tie
+use Rattle.trace_parts.proofs.Parts.{start-low, start-high}
+use Rattle.trace_parts.proofs.no_start.Statement.{statement}
+use Rattle.trace_parts.proofs.no_start.Tie as tie
 
 returns : tie.Need-returns
 returns c = start-low (c .before .args .number) (c .if1 .taken)

@@ -1,8 +1,8 @@
 -- `no_delta` meets its contract: the number stands for one below 2^31, or for a negative one.
 use native.Mathlib.Omega.{arith}
-use Rattle.trace_judge.proofs.Faults.{delta-low, delta-high}
-use Rattle.trace_judge.proofs.no_delta.Statement.{statement}
-use Rattle.trace_judge.proofs.no_delta.Tie as tie
+use Rattle.trace_parts.proofs.Parts.{delta-low, delta-high}
+use Rattle.trace_parts.proofs.no_delta.Statement.{statement}
+use Rattle.trace_parts.proofs.no_delta.Tie as tie
 
 returns : tie.Need-returns
 returns c = delta-low (c .before .args .number) (c .if1 .taken)

@@ -3,10 +3,10 @@ use mathlib.Core.Path.{sym, _∙_}
 use borrow.Author.Tests.{not-true, not-false}
 use denote.Ref.{now}
 use Rattle.little.specs.Little.{numbersIn}
-use Rattle.trace_judge.proofs.Faults.{parts-shape, parts-start, parts-rest}
+use Rattle.trace_parts.proofs.Parts.{parts-shape, parts-start, parts-rest}
 use borrow.Author.Needs.{needs}
-use Rattle.trace_judge.proofs.judge_parts.Statement.{statement}
-use Rattle.trace_judge.proofs.judge_parts.Tie as tie
+use Rattle.trace_parts.proofs.judge_parts.Statement.{statement}
+use Rattle.trace_parts.proofs.judge_parts.Tie as tie
 
 sum-is-requires : tie.Need-sum-is-requires
 sum-is-requires c κs = search needs
