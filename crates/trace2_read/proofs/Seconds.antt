@@ -21,7 +21,7 @@ use Rattle.write_judge.proofs.Checks.{fails, passed, faults-before, fine-before
 use Rattle.little.specs.Little.{numbersIn}
 use Rattle.little.proofs.Little.{numbers-length}
 use Rattle.trace.specs.Read.{splinesIn, pointsIn, tight, describedIn, readTraceOf}
-use Rattle.trace_read.specs.Steps.{Loadable}
+use Rattle.trace_load.specs.Steps.{Loadable}
 use Rattle.trace_read.proofs.Loads.{Sound, sound-body, sound-loadable, same-rooms, wiped-refused, wiped-done}
 use Rattle.trace2.specs.Editions.{editionIn}
 use Rattle.trace2.specs.Read.{laidChecks, fileChecks, wholeChecks2, readFile, answerOf, editionOf, fileLeaves, editionTold, withEdition, readFileOf}

@@ -5,7 +5,7 @@ use mir.Facts.{toZ-ofZ}
 use denote.Ref.{now}
 use Rattle.reader.specs.Read.{roomsOf}
 use Rattle.little.specs.Little.{signedIn}
-use Rattle.trace_read.proofs.Loads.{all-loaded}
+use Rattle.trace_load.proofs.Loads.{all-loaded}
 use borrow.Author.Needs.{needs}
 use Rattle.trace2_read.proofs.load.Statement.{statement}
 use Rattle.trace2_read.proofs.load.Tie as tie

@@ -10,9 +10,9 @@ use lib.ListN.{length, take, drop, length-set}
 use borrow.Author.Needs.{needs}
 use Rattle.little.specs.Little.{numbersIn, signedIn}
 use Rattle.trace.specs.Trace.{part}
-use Rattle.trace_read.proofs.Loads.{load-more, load-all}
-use Rattle.trace_read.proofs.load_signed.Statement.{statement}
-use Rattle.trace_read.proofs.load_signed.Tie as tie
+use Rattle.trace_load.proofs.Loads.{load-more, load-all}
+use Rattle.trace_load.proofs.load_signed.Statement.{statement}
+use Rattle.trace_load.proofs.load_signed.Tie as tie
 
 abbrev Inv-loop : tie.InvT-loop
 Inv-loop bytes from n out₀ i₀ out i = (i ≤ n) × (length out ≡ length out₀) × (out ≡ take i (map signedIn (part from n (numbersIn bytes))) ++ drop i out₀)

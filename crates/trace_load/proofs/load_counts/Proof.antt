@@ -9,10 +9,9 @@ use borrow.Author.Needs.{needs}
 use Rattle.little.specs.Little.{numbersIn}
 use Rattle.trace.specs.Trace.{part}
 use Rattle.trace.proofs.Checks.{part-at}
-use Rattle.trace_judge.proofs.Faults.{held-length}
-use Rattle.trace_read.proofs.Loads.{front-more, front-all}
-use Rattle.trace_read.proofs.load_counts.Statement.{statement}
-use Rattle.trace_read.proofs.load_counts.Tie as tie
+use Rattle.trace_load.proofs.Loads.{front-more, front-all, held-length}
+use Rattle.trace_load.proofs.load_counts.Statement.{statement}
+use Rattle.trace_load.proofs.load_counts.Tie as tie
 
 abbrev Inv-loop : tie.InvT-loop
 Inv-loop bytes from n out₀ i₀ out i = (i ≤ n) × (length out ≡ length out₀) × (out ≡ take i (part from n (numbersIn bytes)) ++ drop i out₀)

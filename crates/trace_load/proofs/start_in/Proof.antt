@@ -2,11 +2,11 @@ use mathlib.Core.Path.{_∙_}
 use native.Mathlib.Omega.{arith}
 use mir.Syntax.{w32, w64}
 use mir.Facts.{toZ-ofZ}
-use Rattle.trace_read.specs.Steps.{startIn}
-use Rattle.trace_read.proofs.Loads.{placed-small}
+use Rattle.trace_load.specs.Steps.{startIn}
+use Rattle.trace_load.proofs.Loads.{placed-small}
 use borrow.Author.Needs.{needs}
-use Rattle.trace_read.proofs.start_in.Statement.{statement}
-use Rattle.trace_read.proofs.start_in.Tie as tie
+use Rattle.trace_load.proofs.start_in.Statement.{statement}
+use Rattle.trace_load.proofs.start_in.Tie as tie
 
 signed-requires : tie.Need-signed-requires
 signed-requires c κs = search needs

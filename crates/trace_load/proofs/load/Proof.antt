@@ -5,10 +5,10 @@ use mir.Facts.{toZ-ofZ}
 use denote.Ref.{now}
 use Rattle.reader.specs.Read.{roomsOf}
 use Rattle.little.specs.Little.{signedIn}
-use Rattle.trace_read.proofs.Loads.{all-loaded}
+use Rattle.trace_load.proofs.Loads.{all-loaded}
 use borrow.Author.Needs.{needs}
-use Rattle.trace_read.proofs.load.Statement.{statement}
-use Rattle.trace_read.proofs.load.Tie as tie
+use Rattle.trace_load.proofs.load.Statement.{statement}
+use Rattle.trace_load.proofs.load.Tie as tie
 
 number-at-requires : tie.Need-number-at-requires
 number-at-requires c κs = search needs

@@ -8,10 +8,10 @@ use lib.ListN.{length, take, drop, length-set}
 use borrow.Author.Needs.{needs}
 use Rattle.little.specs.Little.{numbersIn}
 use Rattle.trace.specs.Trace.{part}
-use Rattle.trace_read.specs.Steps.{startIn}
-use Rattle.trace_read.proofs.Loads.{load-more, load-all, placed-at}
-use Rattle.trace_read.proofs.load_starts.Statement.{statement}
-use Rattle.trace_read.proofs.load_starts.Tie as tie
+use Rattle.trace_load.specs.Steps.{startIn}
+use Rattle.trace_load.proofs.Loads.{load-more, load-all, placed-at}
+use Rattle.trace_load.proofs.load_starts.Statement.{statement}
+use Rattle.trace_load.proofs.load_starts.Tie as tie
 
 abbrev Inv-loop : tie.InvT-loop
 Inv-loop bytes from n out₀ i₀ out i = (i ≤ n) × (length out ≡ length out₀) × (out ≡ take i (map startIn (part from n (numbersIn bytes))) ++ drop i out₀)

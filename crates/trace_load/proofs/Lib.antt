@@ -1,0 +1,2 @@
+-- The laws of the crate `trace_load`.
+pub mod Loads
