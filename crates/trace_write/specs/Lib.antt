@@ -1,2 +1,1 @@
 -- The definitions of the crate `trace_write`.
-pub mod Steps

@@ -1,4 +1,4 @@
--- What the steps below `trace_write` speak of.
+-- What putting a trace file speaks of.
 use mathlib.Core.Path.{_≡_}
 use mathlib.Core.List.{List, _++_, map}
 use Prim.Native.Nat.{ℕ, _+_, _*_, _^_, _≤_, _<_}

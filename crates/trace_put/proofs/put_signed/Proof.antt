@@ -12,9 +12,9 @@ use lib.ListN.{getD}
 use mir.Syntax.{w32}
 use mir.Facts.{toZ-ofZ}
 use Rattle.little.specs.Little.{bytesOf, unsignedOf}
-use Rattle.trace_write.proofs.Puts.{put-more, put-end, map-at}
-use Rattle.trace_write.proofs.put_signed.Statement.{statement}
-use Rattle.trace_write.proofs.put_signed.Tie as tie
+use Rattle.trace_put.proofs.Puts.{put-more, put-end, map-at}
+use Rattle.trace_put.proofs.put_signed.Statement.{statement}
+use Rattle.trace_put.proofs.put_signed.Tie as tie
 
 abbrev Inv-loop : tie.InvT-loop
 Inv-loop numbers bytes₀ from i₀ bytes i =

@@ -1,9 +1,9 @@
 -- `put_parts` meets its contract: each part stands behind the one before it.
 use denote.Ref.{now}
-use Rattle.trace_write.proofs.Puts.{parts-put}
+use Rattle.trace_put.proofs.Puts.{parts-put}
 use borrow.Author.Needs.{needs}
-use Rattle.trace_write.proofs.put_parts.Statement.{statement}
-use Rattle.trace_write.proofs.put_parts.Tie as tie
+use Rattle.trace_put.proofs.put_parts.Statement.{statement}
+use Rattle.trace_put.proofs.put_parts.Tie as tie
 
 mul-from : tie.Need-mul-from
 mul-from c = search needs

@@ -5,10 +5,10 @@ use native.Mathlib.Omega.{arith}
 use mir.Syntax.{w32}
 use mir.Facts.{toZ-ofZ}
 use Rattle.trace.proofs.Starts.{fit-signed, fit-small}
-use Rattle.trace_write.specs.Steps.{startNumber}
+use Rattle.trace_put.specs.Steps.{startNumber}
 use borrow.Author.Needs.{needs}
-use Rattle.trace_write.proofs.start_number.Statement.{statement}
-use Rattle.trace_write.proofs.start_number.Tie as tie
+use Rattle.trace_put.proofs.start_number.Statement.{statement}
+use Rattle.trace_put.proofs.start_number.Tie as tie
 
 float-to-int-unsigned : tie.Need-float-to-int-unsigned
 float-to-int-unsigned c = fit-signed (c .before .args .x) (c .before .pre)

@@ -8,9 +8,9 @@ use lib.ListN.{length, drop, length-map}
 use lib.Seq.{sets}
 use borrow.Author.Needs.{needs}
 use Rattle.little.specs.Little.{bytesOf}
-use Rattle.trace_write.proofs.Puts.{put-more, put-end}
-use Rattle.trace_write.proofs.put_numbers.Statement.{statement}
-use Rattle.trace_write.proofs.put_numbers.Tie as tie
+use Rattle.trace_put.proofs.Puts.{put-more, put-end}
+use Rattle.trace_put.proofs.put_numbers.Statement.{statement}
+use Rattle.trace_put.proofs.put_numbers.Tie as tie
 
 abbrev Inv-loop : tie.InvT-loop
 Inv-loop numbers bytes₀ from i₀ bytes i =

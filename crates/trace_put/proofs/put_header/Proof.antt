@@ -1,10 +1,11 @@
 -- `put_header` meets its contract: eight numbers, put in a row.
-use mathlib.Core.Path.{_∙_}
+use mathlib.Core.Path.{_≡_, ap, _∙_}
 use mir.Syntax.{w32}
 use mir.Facts.{toZ-ofZ}
 use borrow.Author.Needs.{needs}
-use Rattle.trace_write.proofs.put_header.Statement.{statement}
-use Rattle.trace_write.proofs.put_header.Tie as tie
+use Rattle.little.specs.Little.{unsignedOf}
+use Rattle.trace_put.proofs.put_header.Statement.{statement}
+use Rattle.trace_put.proofs.put_header.Tie as tie
 
 add-starts : tie.Need-add-starts
 add-starts c = search needs
@@ -53,7 +54,8 @@ returns c =
     let u = c .before .before .before .before .before .unsigned in
     let a = c .before .before .before .before .before .before .before .args in
     let z = toZ-ofZ {w = w32} {z = a .adjustment} (c .before .before .before .before .before .before .before .fits .adjustment) in
-    c .before .before .put-numbers .ensures ∙ rw (u .ensures, z)
+    let v : u .result ≡ unsignedOf (a .adjustment) = u .ensures ∙ ap unsignedOf z in
+    c .before .before .put-numbers .ensures ∙ rw v
 
 pub put-header-spec : {M : Type 1} → statement M
 put-header-spec =

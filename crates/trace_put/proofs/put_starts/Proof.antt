@@ -12,10 +12,10 @@ use Rattle.codes.specs.declared.Code.the-variants.{Coord}
 use Rattle.little.specs.Little.{bytesOf}
 use Rattle.trace.specs.Write.{misfit}
 use Rattle.trace.proofs.Checks.{fine-each}
-use Rattle.trace_write.specs.Steps.{startNumber}
-use Rattle.trace_write.proofs.Puts.{put-more, put-end, map-at}
-use Rattle.trace_write.proofs.put_starts.Statement.{statement}
-use Rattle.trace_write.proofs.put_starts.Tie as tie
+use Rattle.trace_put.specs.Steps.{startNumber}
+use Rattle.trace_put.proofs.Puts.{put-more, put-end, map-at}
+use Rattle.trace_put.proofs.put_starts.Statement.{statement}
+use Rattle.trace_put.proofs.put_starts.Tie as tie
 
 abbrev Inv-loop : tie.InvT-loop
 Inv-loop starts bytes₀ from i₀ bytes i =

@@ -1,0 +1,2 @@
+-- The laws of the crate `trace_put`.
+pub mod Puts
