@@ -22,11 +22,11 @@ pub mod trace_files;
 pub mod trace_files2;
 
 use told::tell;
-use told::told_build;
-use told::told_draw;
-use told::told_reach;
-use told::told_read;
-use told::told_write;
+use told_lists::told_read;
+use told_lists::told_write;
+use told_tables::told_build;
+use told_tables::told_draw;
+use told_tables::told_reach;
 
 // The natural logarithm of an f32.
 #[no_mangle]

@@ -3,7 +3,7 @@ ghost use mathlib.Core.Path.{_≡_};
 ghost use Rattle.makers.specs.Check.{checkOf};
 ghost use Rattle.aktyrbuz.specs.MakersExported.{checkLeaves, checkExport};
 use told::tell;
-use told::told_check;
+use told_tables::told_check;
 
 #[no_mangle]
 pub extern "C" fn aktyrbuz_check(

@@ -6,7 +6,7 @@ ghost use Rattle.polyline.specs.Write.{writePointsOf};
 ghost use Rattle.aktyrbuz.specs.Exported.{writeLeaves, writeExport};
 ghost use Rattle.aktyrbuz.specs.Polylines.{pointsLeaves, pointsExport};
 use told::tell;
-use told::told_write;
+use told_lists::told_write;
 
 #[no_mangle]
 pub extern "C" fn aktyrbuz_points_read(

@@ -6,8 +6,8 @@ ghost use Rattle.trace.specs.Read.{readTraceOf};
 ghost use Rattle.trace.specs.Write.{writeTraceOf};
 ghost use Rattle.aktyrbuz.specs.Exported.{readLeaves, readExport, writeLeaves, writeExport};
 use told::tell;
-use told::told_read;
-use told::told_write;
+use told_lists::told_read;
+use told_lists::told_write;
 
 #[no_mangle]
 pub extern "C" fn aktyrbuz_trace_read(

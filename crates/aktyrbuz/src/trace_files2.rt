@@ -7,8 +7,8 @@ ghost use Rattle.trace2.specs.Write.{writeFileOf};
 ghost use Rattle.aktyrbuz.specs.Exported.{readLeaves, writeLeaves, writeExport};
 ghost use Rattle.aktyrbuz.specs.Trace2Exported.{fileExport};
 use told::tell;
-use told::told_file;
-use told::told_write;
+use told_lists::told_file;
+use told_lists::told_write;
 
 #[no_mangle]
 pub extern "C" fn aktyrbuz_trace_read2(

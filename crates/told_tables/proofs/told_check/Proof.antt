@@ -3,8 +3,8 @@ use native.Mathlib.Omega.{arith}
 use mir.Syntax.{w64}
 use mir.Facts.{toZ-pos}
 use borrow.Author.Needs.{needs}
-use Rattle.told.proofs.told_check.Statement.{statement}
-use Rattle.told.proofs.told_check.Tie as tie
+use Rattle.told_tables.proofs.told_check.Statement.{statement}
+use Rattle.told_tables.proofs.told_check.Tie as tie
 
 enum-known-answer : tie.Need-enum-known-answer
 enum-known-answer c = search needs

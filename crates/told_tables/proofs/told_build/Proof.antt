@@ -3,10 +3,10 @@ use mathlib.Core.Path.{refl}
 use native.Mathlib.Omega.{arith}
 use mir.Syntax.{w64}
 use mir.Facts.{toZ-pos}
 use Rattle.told.proofs.Numbers.{signed-back}
 use borrow.Author.Needs.{needs}
-use Rattle.told.proofs.told_build.Statement.{statement}
-use Rattle.told.proofs.told_build.Tie as tie
+use Rattle.told_tables.proofs.told_build.Statement.{statement}
+use Rattle.told_tables.proofs.told_build.Tie as tie
 
 enum-known-answer : tie.Need-enum-known-answer
 enum-known-answer c = search needs

@@ -5,8 +5,8 @@ use mir.Syntax.{w32, w64}
 use mir.Val.{toZ, ofZ}
 use mir.Facts.{toZ-ofZ, toZ-pos}
 use borrow.Author.Needs.{needs}
-use Rattle.told.proofs.told_read.Statement.{statement}
-use Rattle.told.proofs.told_read.Tie as tie
+use Rattle.told_lists.proofs.told_read.Statement.{statement}
+use Rattle.told_lists.proofs.told_read.Tie as tie
 
 enum-known-answer : tie.Need-enum-known-answer
 enum-known-answer c = search needs

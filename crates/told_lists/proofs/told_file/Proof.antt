@@ -1,12 +1,12 @@
 -- `told_file` meets its contract: in each arm the answer is known, and its numbers come back from their bits.
-use mathlib.Core.Path.{_≡_}
+use mathlib.Core.Path.{_≡_, refl}
 use native.Mathlib.Omega.{arith}
 use mir.Syntax.{w32, w64}
 use mir.Val.{toZ, ofZ}
 use mir.Facts.{toZ-ofZ, toZ-pos}
 use borrow.Author.Needs.{needs}
-use Rattle.told.proofs.told_file.Statement.{statement}
-use Rattle.told.proofs.told_file.Tie as tie
+use Rattle.told_lists.proofs.told_file.Statement.{statement}
+use Rattle.told_lists.proofs.told_file.Tie as tie
 
 enum-known-answer : tie.Need-enum-known-answer
 enum-known-answer c = search needs
@@ -41,7 +41,7 @@ returns c =
     let b = toZ-pos w64 {n = p .1 .0} (omega (arith, k .1 .0 .1)) in
     let f = toZ-pos w64 {n = p .1 .1 .1 .0} (omega (arith, k .1 .1 .1 .0 .1)) in
     let z = toZ-ofZ {w = w64} {z = p .1 .1 .0} (record { sfits = omega (arith, k .1 .1 .0 .1) }) in
-    rw (c .before .answer .given .1, back c, a, b, f, z)
+    rw (c .before .answer .given .1, back c, a, b, f, z) refl
 
 returns-2 : tie.Need-returns-2
 returns-2 c = rw (c .before .before .answer2 .given .1) (c .told-refusal .ensures)
