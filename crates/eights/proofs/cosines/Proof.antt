@@ -7,10 +7,10 @@ use lib.ListN.{length}
 use Rattle.numbers.specs.Arith.{f, _⊕_}
 use Rattle.dequantize.specs.Coefficients.{table}
 use Rattle.dequantize.proofs.Tables.{Filling, filling-none, filling-more, filling-all}
-use Rattle.transform.specs.Transform.{dctMultiplier, cosineAt}
-use Rattle.transform.proofs.Dots.{cosine-is}
-use Rattle.transform.proofs.cosines.Statement.{statement}
-use Rattle.transform.proofs.cosines.Tie as tie
+use Rattle.eights.specs.Eights.{dctMultiplier, cosineAt}
+use Rattle.eights.proofs.Feeding.{cosine-is}
+use Rattle.eights.proofs.cosines.Statement.{statement}
+use Rattle.eights.proofs.cosines.Tie as tie
 
 abbrev Inv-loop : tie.InvT-loop
 Inv-loop from t multipliers tandhalf eight₀ j₀ eight j =

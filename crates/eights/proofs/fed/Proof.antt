@@ -3,9 +3,9 @@ use mathlib.Core.Logic.{⊎-elim}
 use Prim.Native.Nat.{_-_}
 use native.Mathlib.Omega.{arith}
 use borrow.Author.Needs.{needs}
-use Rattle.transform.proofs.Dots.{Fed, fed-first, fed-next, fed-more, fed-all}
-use Rattle.transform.proofs.fed.Statement.{statement}
-use Rattle.transform.proofs.fed.Tie as tie
+use Rattle.eights.proofs.Feeding.{Fed, fed-first, fed-next, fed-more, fed-all}
+use Rattle.eights.proofs.fed.Statement.{statement}
+use Rattle.eights.proofs.fed.Tie as tie
 
 abbrev Inv-loop : tie.InvT-loop
 Inv-loop sum row from t eight first s₀ j₀ s j = Fed row eight t from s j

@@ -3,10 +3,10 @@ use mathlib.Core.Path.{refl}
 use borrow.Author.Needs.{needs}
 use lib.Ieee.{mul, div, ofInt, ofBits}
 use Rattle.dequantize.specs.Coefficients.{table}
-use Rattle.transform.specs.Transform.{dctMultiplier}
-use Rattle.transform.proofs.Dots.{eight-is, last-eighth}
-use Rattle.transform.proofs.dct_multipliers.Statement.{statement}
-use Rattle.transform.proofs.dct_multipliers.Tie as tie
+use Rattle.eights.specs.Eights.{dctMultiplier}
+use Rattle.eights.proofs.Feeding.{eight-is, last-eighth}
+use Rattle.eights.proofs.dct_multipliers.Statement.{statement}
+use Rattle.eights.proofs.dct_multipliers.Tie as tie
 
 array-read-t7 : tie.Need-array-read-t7
 array-read-t7 c = search needs
