@@ -19,8 +19,10 @@ use Rattle.checks.specs.Checks.{allBelow, rowGoodFor}
 use Rattle.checks.specs.Refusals.{Lent}
 use Rattle.checks.proofs.Checks.{row-facts-for}
 use Rattle.checks.proofs.Entries.{slice-next, slice-none, not-below, not-owned, owned-on}
-use Rattle.hull.specs.Reach.{joined, reachOver, columnsBelow}
-use Rattle.hull.proofs.Hulls.{same-range, joinedOver, joined-over}
+use Rattle.joins.specs.Joins.{joined, columnsBelow}
+use Rattle.joins.proofs.Joins.{same-range}
+use Rattle.hull.specs.Reach.{reachOver}
+use Rattle.hull.proofs.Hulls.{joinedOver, joined-over}
 use Rattle.band_sums.specs.declared.BandNumbers.{BandNumbers}
 use Rattle.band_sums.specs.declared.Summed.{Summed}
 use Rattle.band_sums.specs.declared.Summed.the-variants.{Good, Bad}

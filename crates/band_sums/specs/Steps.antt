@@ -9,7 +9,7 @@ use Rattle.segments.specs.declared.Range.{Range}
 use Rattle.desks.specs.Desks.{Sight, shown, allOwned}
 use Rattle.checks.specs.Tables.{Table, shownOf}
 use Rattle.checks.specs.Checks.{allBelow, rowGoodFor}
-use Rattle.hull.specs.Reach.{joined, columnsBelow}
+use Rattle.joins.specs.Joins.{joined, columnsBelow}
 use Rattle.band_sums.specs.declared.BandNumbers.{BandNumbers}
 use Rattle.band_sums.specs.declared.Summed.{Summed}
 use Rattle.band_sums.specs.declared.Summed.the-variants.{Good, Bad}

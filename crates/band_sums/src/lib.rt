@@ -46,7 +46,7 @@ fn with_shown(sum: BandNumbers, segments: &[f32], i: u32, width: u32) -> BandNum
         first: sum.first,
         past: sum.past,
     };
-    let joined = hull::with_segment(found, Segment::at(segments, i as usize), width);
+    let joined = joins::with_segment(found, Segment::at(segments, i as usize), width);
     let least = least_with(sum, i);
     let greatest = if sum.greatest < i { i } else { sum.greatest };
     BandNumbers {

@@ -16,7 +16,9 @@ use Rattle.segments.specs.declared.Range.{Range}
 use Rattle.segments.proofs.Ranges.{has-column}
 use Rattle.shade.proofs.Edits.{lt-or-ge}
 use Rattle.checks.proofs.Entries.{and-left, and-right}
-use Rattle.hull.specs.Reach.{none, joined, hull, touched, reachOver, columnsBelow}
+use Rattle.joins.specs.Joins.{joined, columnsBelow}
+use Rattle.joins.proofs.Joins.{same-range}
+use Rattle.hull.specs.Reach.{none, hull, touched, reachOver}
 
 -- ---- the least range of a set of columns
 
@@ -30,9 +32,6 @@ pub record Least (In : ℕ → Type 0) (r : Range) : Type 0 where
 pub one-less : (a b : ℕ) → a < b → (x : ℕ) × (suc x ≡ b)
 one-less a zero h = absurd (omega arith)
 one-less a (suc b) h = (b, refl)
-
-pub same-range : (r s : Range) → r .first ≡ s .first → r .past ≡ s .past → r ≡ s
-same-range r s p q = rw (p, q)
 
 module _ {In : ℕ → Type 0} {r s : Range} (a : Least In r) (b : Least In s) where
   -- the one lies in the other

@@ -2,16 +2,15 @@
 use mathlib.Core.Path.{_≡_, refl, sym, ap, subst, _∙_}
 use mathlib.Core.Bool.{Bool, true, false, cond}
 use mathlib.Core.List.{List, _∷_}
-use Prim.Native.Nat.{ℕ, _+_, _^_, _<_, _≤_, min}
+use Prim.Native.Nat.{ℕ, _+_, _^_, _<_, _≤_}
 use native.Mathlib.Omega.{arith}
 use lib.Dec.{leb, ltb}
 use lib.ListN.{length, getD}
 use lib.Seq.{slice}
 use lib.Ieee.{Float}
-use borrow.Author.Tests.{le-ltb, leb-true, ltb-true}
+use borrow.Author.Tests.{leb-true, ltb-true}
 use Rattle.codes.specs.declared.Code.{Code}
 use Rattle.segments.specs.Segment.{segmentAt}
-use Rattle.segments.specs.Ranges.{columnFirst, columnPast}
 use Rattle.segments.specs.declared.Segment.{Segment}
 use Rattle.segments.specs.declared.Range.{Range}
 use Rattle.checks.specs.declared.Verdict.{Verdict}
@@ -21,26 +20,11 @@ use Rattle.checks.specs.Tables.{Table, shownOf}
 use Rattle.checks.specs.Refusals.{Lent}
 use Rattle.checks.proofs.Checks.{RowFactsFor, passed-check, judged-row}
 use Rattle.checks.proofs.Entries.{slice-next, slice-none}
-use Rattle.hull.specs.Reach.{none, joined, touched, reachOver, columnsBelow, judgeReachOf, reachAnswer, tells, reachOf}
+use Rattle.joins.specs.Joins.{joined, columnsBelow}
+use Rattle.joins.proofs.Joins.{same-range}
+use Rattle.hull.specs.Reach.{none, touched, reachOver, judgeReachOf, reachAnswer, tells, reachOf}
 use Rattle.hull.specs.declared.ReachAnswer.the-variants.{Done, Refused}
-use Rattle.hull.proofs.Hulls.{Least, same-range, Passing, least-hull, joinedOver, joined-over}
-
--- ---- a segment
-
-skipped : {a : Range} (b : Range) → b .past ≤ b .first → a ≡ joined a b
-unfolding joined
-skipped b h = rw (le-ltb (b .first) (b .past) h)
-
-module _ (found : Range) (s : Segment) (W a e p : ℕ) (f : a ≡ columnFirst s) (l : e ≡ columnPast s) (q : p ≡ min W e) where
-  cut : record { first = a; past = p } ≡ columnsBelow W s
-  cut = same-range _ _ f (q ∙ ap (min W) l)
-
-  -- one without columns below the width is skipped
-  pub skip-segment : p ≤ a → found ≡ joined found (columnsBelow W s)
-  skip-segment h = skipped (record { first = a; past = p }) h ∙ ap (joined found) cut
-
-  pub join-segment : {r : Range} → r ≡ joined found (record { first = a; past = p }) → r ≡ joined found (columnsBelow W s)
-  join-segment k = k ∙ ap (joined found) cut
+use Rattle.hull.proofs.Hulls.{Least, Passing, least-hull, joinedOver, joined-over}
 
 -- ---- the entries
 

@@ -1,20 +1,20 @@
 -- The reach of a row for a desk: the hull of the columns below W that drawing the row would touch. Definitions only.
 use mathlib.Core.Bool.{Bool, true, false, cond, _||_}
 use mathlib.Core.List.{List, [], _∷_}
-use Prim.Native.Nat.{ℕ, zero, suc, _^_, min, max}
-use lib.Dec.{leb, ltb}
+use Prim.Native.Nat.{ℕ, zero, suc, _^_}
+use lib.Dec.{leb}
 use lib.Ieee.{Float}
 use Rattle.codes.specs.Codes.{numberOf}
 use Rattle.codes.specs.declared.Code.{Code}
 use Rattle.segments.specs.Segment.{segmentAt}
-use Rattle.segments.specs.Ranges.{hasColumn, columnFirst, columnPast}
-use Rattle.segments.specs.declared.Segment.{Segment}
+use Rattle.segments.specs.Ranges.{hasColumn}
 use Rattle.segments.specs.declared.Range.{Range}
 use Rattle.desks.specs.Desks.{Sight, deskGood}
 use Rattle.checks.specs.Tables.{Table, shownOf}
 use Rattle.checks.specs.Checks.{orFault, judgeRow}
 use Rattle.checks.specs.declared.Verdict.{Verdict}
 use Rattle.checks.specs.declared.Verdict.the-variants.{Fine, Fault}
+use Rattle.joins.specs.Joins.{joined}
 use Rattle.hull.specs.declared.ReachAnswer.{ReachAnswer}
 use Rattle.hull.specs.declared.ReachAnswer.the-variants.{Done, Refused}
 
@@ -22,13 +22,6 @@ use Rattle.hull.specs.declared.ReachAnswer.the-variants.{Done, Refused}
 
 abbrev pub none : Range
 none = record { first = 0; past = 0 }
-
--- the least range that holds both; one without columns is skipped
-unfoldable pub joined : Range → Range → Range
-joined a b =
-    cond (ltb (b .first) (b .past))
-    (cond (ltb (a .first) (a .past)) (record { first = min (a .first) (b .first); past = max (a .past) (b .past) }) b)
-    a
 
 -- the least range that holds every column below W that passes the test; 0, 0 where none does
 unfoldable pub hull : (ℕ → Bool) → ℕ → Range
@@ -44,10 +37,6 @@ touched segments (i ∷ listed) x = hasColumn (segmentAt segments i) x || touche
 
 abbrev pub reachOver : List Float → ℕ → List ℕ → Range
 reachOver segments W listed = hull (touched segments listed) W
-
--- the columns of a segment as a range, cut at W; it may have none
-abbrev pub columnsBelow : ℕ → Segment → Range
-columnsBelow W s = record { first = columnFirst s; past = min W (columnPast s) }
 
 -- ---- the call
 

@@ -2,14 +2,15 @@
 ghost use mathlib.Core.Path.{_≡_};
 ghost use mathlib.Core.Bool.{true, cond};
 ghost use mathlib.Core.List.{[], _∷_};
-ghost use Prim.Native.Nat.{_+_, _*_, _^_, _<_, _≤_, min, max};
+ghost use Prim.Native.Nat.{_+_, _*_, _^_, _<_, _≤_};
 ghost use lib.ListN.{length, getD};
 ghost use lib.Seq.{slice};
 ghost use Rattle.segments.specs.Segment.{segmentAt};
 ghost use Rattle.desks.specs.Desks.{sightOf, hiddenIn, shown, allOwned};
 ghost use Rattle.checks.specs.Tables.{tableOf};
 ghost use Rattle.checks.specs.Checks.{allBelow};
-ghost use Rattle.hull.specs.Reach.{joined, reachOver, columnsBelow, judgeReachOf, tells, reachOf};
+ghost use Rattle.joins.specs.Joins.{joined, columnsBelow};
+ghost use Rattle.hull.specs.Reach.{reachOver, judgeReachOf, tells, reachOf};
 use checks::Verdict;
 use codes::Code;
 use segments::Range;
@@ -19,45 +20,6 @@ use segments::Segment;
 pub enum ReachAnswer {
     Done(u32, u32),
     Refused(Code, usize),
-}
-
-fn least(a: u32, b: u32) -> u32
-    ensures { λ r. ⌜ r ≡ min a b ⌝ }
-{
-    if a < b { a } else { b }
-}
-
-fn greatest(a: u32, b: u32) -> u32
-    ensures { λ r. ⌜ r ≡ max a b ⌝ }
-{
-    if a < b { b } else { a }
-}
-
-// The least range that holds what was found and the columns from `first` up to `past`.
-fn join(found: Range, first: u32, past: u32) -> Range
-    requires { ⌜ first < past ⌝ }
-    ensures { λ r. ⌜ r ≡ joined found (record { first = first; past = past }) ⌝ }
-{
-    if found.past <= found.first {
-        return Range { first, past };
-    }
-    Range {
-        first: least(found.first, first),
-        past: greatest(found.past, past),
-    }
-}
-
-// The least range that holds what was found and the segment's columns below the width; a segment without such columns is skipped.
-pub fn with_segment(found: Range, segment: Segment, width: u32) -> Range
-    ensures { λ r. ⌜ r ≡ joined found (columnsBelow width segment) ⌝ }
-{
-    let first = segments::column_first(segment.center_x - segment.maximum_distance);
-    let last = segments::column_past(segment.center_x + segment.maximum_distance);
-    let past = least(width, last);
-    if past <= first {
-        return found;
-    }
-    join(found, first, past)
 }
 
 // What was found, joined with segment i unless it is hidden for the desk.
@@ -78,7 +40,7 @@ fn with_shown(
     if hides {
         found
     } else {
-        with_segment(found, Segment::at(segments, i), width)
+        joins::with_segment(found, Segment::at(segments, i), width)
     }
 }
 

@@ -1,9 +1,9 @@
 -- Each way out is decided by the tests that led there.
 use borrow.Author.Needs.{needs}
 use borrow.Author.Tests.{lt-ltb, le-ltb}
-use Rattle.hull.specs.Reach.{joined}
-use Rattle.hull.proofs.join.Statement.{statement}
-use Rattle.hull.proofs.join.Tie as tie
+use Rattle.joins.specs.Joins.{joined}
+use Rattle.joins.proofs.join.Statement.{statement}
+use Rattle.joins.proofs.join.Tie as tie
 
 returns : tie.Need-returns
 unfolding joined

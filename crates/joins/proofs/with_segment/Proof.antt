@@ -3,9 +3,9 @@ use mathlib.Core.Path.{_≡_}
 use Prim.Native.Nat.{_≤_, min}
 use native.Mathlib.Omega.{arith}
 use borrow.Author.Needs.{needs}
-use Rattle.hull.proofs.Reaches.{skip-segment, join-segment}
-use Rattle.hull.proofs.with_segment.Statement.{statement}
-use Rattle.hull.proofs.with_segment.Tie as tie
+use Rattle.joins.proofs.Joins.{skip-segment, join-segment}
+use Rattle.joins.proofs.with_segment.Statement.{statement}
+use Rattle.joins.proofs.with_segment.Tie as tie
 
 column-first-requires : tie.Need-column-first-requires
 column-first-requires c κs = search needs
