@@ -1,62 +1,28 @@
--- Laws of segments drawn two at a time: a segment added in a range of columns, and the range of those that it has.
+-- Laws of segments drawn two at a time: a segment added in the range of the columns that it has.
 use mathlib.Core.Path.{_≡_, refl, sym, ap, _∙_}
-use mathlib.Core.Bool.{Bool, true, false, cond, _&&_}
+use mathlib.Core.Bool.{Bool, true, false, cond}
 use mathlib.Core.Logic.{⊎-elim}
-use mathlib.Core.List.{List, [], _∷_, _++_}
-use Prim.Native.Nat.{ℕ, zero, suc, _+_, _-_, _^_, _<_, _≤_, min, max}
+use mathlib.Core.List.{List, [], _∷_}
+use Prim.Native.Nat.{ℕ, zero, suc, _+_, _-_, _≤_}
 use native.Mathlib.Omega.{arith}
-use lib.ListN.{length, getD, take, drop}
-use lib.Dec.{leb}
+use lib.ListN.{length, getD}
 use lib.Ieee.{Float, nan, binary32}
-use borrow.Author.Tests.{lt-ltb, le-ltb, le-leb, lt-leb}
+use borrow.Author.Tests.{lt-ltb, le-ltb, lt-leb}
 use Rattle.roots.specs.Root.{sqrtOf}
 use Rattle.segments.specs.Segment.{segmentAt}
-use Rattle.segments.specs.Ranges.{hasColumn, columnsOf}
+use Rattle.segments.specs.Ranges.{hasColumn}
 use Rattle.segments.specs.declared.Segment.{Segment}
 use Rattle.segments.specs.declared.Range.{Range}
-use Rattle.shade.specs.Edit.{edit, firstCells, inside}
+use Rattle.shade.specs.Edit.{edit, firstCells}
 use Rattle.shade.specs.Shade.{sqd, dy2, intensityAt, localIntensity, shade, shaded, shadedByIntensity, Holds}
-use Rattle.shade.proofs.Edits.{lt-or-ge, length-edit, edit-cong, edit-part}
+use Rattle.shade.proofs.Edits.{lt-or-ge, length-edit, edit-cong}
 use Rattle.blocks.proofs.Blocks.{passed}
 use Rattle.desks.specs.Desks.{Sight, hiddenIn, shown}
 use Rattle.columns.specs.Columns.{pixel, between, count, updates}
-use Rattle.columns.proofs.Columns.{count-between, count-cong, ranged, has-columns}
-use Rattle.couples.specs.Couples.{Cuts, shadedInRange, shadedInRangeBy, shownChannel}
-
--- ---- which columns lie in a range
-
-off : (b : Bool) → (b && false) ≡ false
-off true = refl
-off false = refl
-
-between-past : (first past x : ℕ) → past ≤ x → between first past x ≡ false
-between-past first past x l = rw (le-ltb x past l) (off (leb first x))
-
-between-none : (first past x : ℕ) → past ≤ first → between first past x ≡ false
-between-none first past x l = ⊎-elim (λ m. rw (lt-leb first x m)) (λ m. between-past first past x (omega arith)) (lt-or-ge x first)
-
--- a range cut to a part
-cut-between : (first past a e x0 n k : ℕ) → a ≡ max x0 first → e ≡ min (x0 + n) past → k < n → between a e (x0 + k) ≡ between first past (x0 + k)
-cut-between first past a e x0 n k p q h =
-    ⊎-elim
-    (λ l. rw (lt-leb first (x0 + k) l, lt-leb a (x0 + k) (omega arith)))
-    (λ l. rw (le-leb first (x0 + k) l, le-leb a (x0 + k) (omega arith)) (⊎-elim
-    (λ m. rw (lt-ltb (x0 + k) past m, lt-ltb (x0 + k) e (omega arith)))
-    (λ m. rw (le-ltb (x0 + k) past m, le-ltb (x0 + k) e (omega arith)))
-    (lt-or-ge (x0 + k) past)))
-    (lt-or-ge (x0 + k) first)
-
--- none of the columns
-pub cuts-none : (r : Range) (p : ℕ → Bool) (x0 n : ℕ) → r .first ≡ x0 → r .past ≡ x0 → ((k : ℕ) → k < n → p (x0 + k) ≡ false) → Cuts r p x0 n
-cuts-none r p x0 n a e h = (omega arith, omega arith, omega arith, λ k l. between-none (r .first) (r .past) (x0 + k) (omega arith) ∙ sym (h k l))
-
-module _ (s : Segment) (columns : Range) (a e x0 n : ℕ) (q : columns ≡ columnsOf s) (h : x0 + n ≤ 2 ^ 23) (p : a ≡ max x0 (columns .first)) (t : e ≡ min (x0 + n) (columns .past)) where
-  -- those that a segment has, cut to a part
-  pub has-cut : (k : ℕ) → k < n → between a e (x0 + k) ≡ hasColumn s (x0 + k)
-  has-cut k l = cut-between (columns .first) (columns .past) a e x0 n k p t l ∙ has-columns s columns (x0 + k) q (omega arith)
-
-  pub has-none : e ≤ a → (k : ℕ) → k < n → hasColumn s (x0 + k) ≡ false
-  has-none m k l = sym (has-cut k l) ∙ between-none a e (x0 + k) m
+use Rattle.columns.proofs.Columns.{count-between, count-cong, ranged}
+use Rattle.cuts.specs.Cuts.{Cuts, shadedInRangeBy}
+use Rattle.cuts.proofs.Cuts.{between-past}
+use Rattle.couples.specs.Couples.{shadedInRange, shownChannel}
 
 -- ---- one segment, shown or hidden, in the range of the columns that it has
 
@@ -108,32 +74,6 @@ unfolding Holds
 held g y x m v1 v2 v3 e l p q r = λ k h. r k h ∙ ap (intensityAt g) (passed (λ j w. sqrtOf binary32 w) m v1 v2 k (omega (arith, e)) h q ∙ ap (sqrtOf binary32) (p k h))
 
 module _ (g : Segment) (r : Range) (locals : List Float) (x0 c : ℕ) where
-  -- the part of a channel that holds the range, come back
-  pub added-part : (xs ys : List Float) → x0 ≤ r .first → r .first ≤ r .past → r .past ≤ x0 + length xs → ys ≡ edit (λ k v. shadedByIntensity g (getD locals k nan) c v) (take (r .past - x0 - (r .first - x0)) (drop (r .first - x0) xs)) → take (r .first - x0) xs ++ (ys ++ drop (r .past - x0 - (r .first - x0)) (drop (r .first - x0) xs)) ≡ edit (shadedInRangeBy g r locals x0 c) xs
-  added-part xs ys h k l e =
-      ap (λ (m : List Float). take a xs ++ (m ++ drop w (drop a xs))) (e ∙ edit-cong (λ i v. shadedByIntensity g (getD locals i nan) c v) (λ i v. f (a + i) v) (take w (drop a xs)) (λ i v m. ap (λ (j : ℕ). shadedByIntensity g (getD locals j nan) c v) (omega arith)))
-      ∙ edit-part f xs a w (omega arith)
-      ∙ edit-cong (λ i v. cond (inside a w i) (f i v) v) (shadedInRangeBy g r locals x0 c) xs (λ i v m. same i v)
-    where
-      a : ℕ
-      a = r .first - x0
-
-      w : ℕ
-      w = r .past - x0 - (r .first - x0)
-
-      f : ℕ → Float → Float
-      f i v = shadedByIntensity g (getD locals (i - a) nan) c v
-
-      same : (i : ℕ) (v : Float) → cond (inside a w i) (f i v) v ≡ shadedInRangeBy g r locals x0 c i v
-      same i v =
-          ⊎-elim
-          (λ m. rw (lt-leb a i m, lt-leb (r .first) (x0 + i) (omega arith)))
-          (λ m. rw (le-leb a i m, le-leb (r .first) (x0 + i) (omega arith)) (⊎-elim
-          (λ t. rw (lt-ltb i (a + w) t, lt-ltb (x0 + i) (r .past) (omega arith)) (ap (λ (j : ℕ). shadedByIntensity g (getD locals j nan) c v) (omega arith)))
-          (λ t. rw (le-ltb i (a + w) t, le-ltb (x0 + i) (r .past) (omega arith)))
-          (lt-or-ge i (a + w))))
-          (lt-or-ge i a)
-
   -- a range whose intensities are those of row y
   pub added-shaded : (y : ℕ) (xs : List Float) → Holds (r .past - r .first) (λ k. localIntensity g y (r .first + k)) locals → edit (shadedInRangeBy g r locals x0 c) xs ≡ edit (shadedInRange g r y x0 c) xs
   unfolding Holds

@@ -4,9 +4,9 @@ use mathlib.Core.Bool.{Bool, true, false, cond}
 use Prim.Native.Nat.{_+_}
 use native.Mathlib.Omega.{arith}
 use Rattle.segments.specs.Ranges.{hasColumn}
-use Rattle.couples.proofs.Couples.{cuts-none, has-cut, has-none}
-use Rattle.couples.proofs.part_of.Statement.{statement}
-use Rattle.couples.proofs.part_of.Tie as tie
+use Rattle.cuts.proofs.Cuts.{cuts-none, has-cut, has-none}
+use Rattle.cuts.proofs.part_of.Statement.{statement}
+use Rattle.cuts.proofs.part_of.Tie as tie
 
 returns : tie.Need-returns
 returns c =

@@ -1,9 +1,9 @@
 -- The part of each channel that holds the range comes back with the segment added.
 use native.Mathlib.Omega.{arith}
 use borrow.Author.Needs.{needs}
-use Rattle.couples.proofs.Couples.{added-part}
-use Rattle.couples.proofs.add_in.Statement.{statement}
-use Rattle.couples.proofs.add_in.Tie as tie
+use Rattle.cuts.proofs.Cuts.{added-part}
+use Rattle.cuts.proofs.add_in.Statement.{statement}
+use Rattle.cuts.proofs.add_in.Tie as tie
 
 sub-a : tie.Need-sub-a
 sub-a c = omega arith

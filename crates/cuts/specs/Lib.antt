@@ -1,0 +1,2 @@
+-- The definitions of the crate `cuts`.
+pub mod Cuts
