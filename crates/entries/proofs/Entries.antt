@@ -8,15 +8,16 @@ use native.Mathlib.Omega.{arith}
 use lib.ListN.{length, getD}
 use lib.Seq.{slice, length-slice}
 use lib.Dec.{ltb}
-use lib.Ieee.{Float, nan}
+use lib.Ieee.{Float}
 use Rattle.segments.specs.Segment.{segmentAt}
 use Rattle.segments.specs.Ranges.{hasColumn}
 use Rattle.shade.specs.Edit.{edit, firstCells}
-use Rattle.shade.proofs.Edits.{is-edit, edit-cong, edit-edit}
+use Rattle.shade.proofs.Edits.{edit-cong, edit-edit}
 use Rattle.desks.specs.Desks.{Sight, hiddenIn, shown}
 use Rattle.desks.proofs.Shown.{shown-most}
 use Rattle.checks.proofs.Entries.{slice-next, slice-none}
-use Rattle.columns.specs.Columns.{shadedInColumn, pixel, count, updates}
+use Rattle.columns.specs.Columns.{pixel, count, updates}
+use Rattle.singles.proofs.Singles.{rest, nothing-drawn}
 
 bit : (b : Bool) → cond b 1 0 ≤ 1
 bit true = omega arith
@@ -66,14 +67,6 @@ twice-cond : (b : Bool) (g : Float → Float) (w v : Float) → cond b (g (cond 
 twice-cond true g w v = refl
 twice-cond false g w v = refl
 
-same-cond : (b : Bool) (v : Float) → cond b v v ≡ v
-same-cond true v = refl
-same-cond false v = refl
-
--- a channel with the entries from i on still to be drawn
-abbrev pub rest : ℕ → List Float → ℕ → ℕ → ℕ → List ℕ → List Float → List Float
-rest c segs y x0 n es xs = edit (firstCells n (λ k v. pixel c segs y (x0 + k) es v)) xs
-
 pub rest-next : (s : Sight) (c : ℕ) (segs : List Float) (y x0 n i e : ℕ) (l : List ℕ) (xs ys all : List Float) → i < e → e ≤ length l → rest c segs y x0 n (shown s (slice i e l)) xs ≡ all → ys ≡ rest c segs y x0 n (shown s (getD l i 0 ∷ [])) xs → rest c segs y x0 n (shown s (slice (i + 1) e l)) ys ≡ all
 rest-next s c segs y x0 n i e l xs ys all h k p q =
     ap (rest c segs y x0 n (shown s (slice (i + 1) e l))) q
@@ -103,28 +96,10 @@ module _ (s : Sight) (segs : List Float) (x0 n i e : ℕ) (l : List ℕ) (h : i 
 
 -- ---- none left
 
-nothing-drawn : (n : ℕ) (xs : List Float) → xs ≡ edit (firstCells n (λ j v. v)) xs
-nothing-drawn n xs = is-edit (firstCells n (λ j v. v)) xs xs refl (λ j m. sym (same-cond (ltb j n) (getD xs j nan)))
-
 pub rest-none : (s : Sight) (c : ℕ) (segs : List Float) (y x0 n i e : ℕ) (l : List ℕ) (xs : List Float) → i ≤ e → e ≤ i → rest c segs y x0 n (shown s (slice i e l)) xs ≡ xs
 rest-none s c segs y x0 n i e l xs h k = ap (λ (es : List ℕ). rest c segs y x0 n (shown s es) xs) (slice-none i e l h k) ∙ sym (nothing-drawn n xs)
 
 pub total-none : (s : Sight) (segs : List Float) (x0 n i e : ℕ) (l : List ℕ) (total all : ℕ) → i ≤ e → e ≤ i → total + updates segs x0 n (shown s (slice i e l)) ≡ all → total ≡ all
 total-none s segs x0 n i e l total all h k p = omega (arith, p, ap (λ (m : List ℕ). updates segs x0 n (shown s m)) (slice-none i e l h k))
-
--- ---- one segment, hidden or drawn
-
-module _ (s : Sight) (segs : List Float) (y x0 n i : ℕ) where
-  pub hidden-kept : (c : ℕ) (xs : List Float) → hiddenIn s i ≡ true → xs ≡ rest c segs y x0 n (shown s (i ∷ [])) xs
-  hidden-kept c xs e = rw e (nothing-drawn n xs)
-
-  pub hidden-counts : hiddenIn s i ≡ true → 0 ≡ updates segs x0 n (shown s (i ∷ []))
-  hidden-counts e = rw e
-
-  pub shown-drawn : (c : ℕ) (xs ys : List Float) → hiddenIn s i ≡ false → ys ≡ edit (firstCells n (λ k v. shadedInColumn c segs y (x0 + k) v i)) xs → ys ≡ rest c segs y x0 n (shown s (i ∷ [])) xs
-  shown-drawn c xs ys e q = rw e q
-
-  pub shown-counts : {r : ℕ} → hiddenIn s i ≡ false → r ≡ count (hasColumn (segmentAt segs i)) x0 n → r ≡ updates segs x0 n (shown s (i ∷ []))
-  shown-counts {r} e q = rw e (omega (arith, q))
 
 -- Assumes nothing.

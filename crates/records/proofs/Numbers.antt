@@ -20,7 +20,7 @@ use Rattle.draw.specs.declared.DrawAnswer.the-variants.{Done}
 use Rattle.draw.specs.Draw.{pixel, count, updates, drawnChannel, Table, Sight, rowOf, shownOf, spanGood, judgeDraw, Channels, leaves, drawOf}
 use Rattle.checks.proofs.Checks.{RowFacts, Passed, judged-fine}
 use Rattle.checks.proofs.Refusals.{span-fits, below-each}
-use Rattle.entries.proofs.Entries.{hidden-kept, hidden-counts}
+use Rattle.singles.proofs.Singles.{hidden-kept, hidden-counts}
 use Rattle.draw.proofs.Checks.{answer-done}
 use Rattle.flat_records.proofs.Known.{known-here, not-counted, not-fitting}
 use Rattle.records.specs.Records.{isKnown, drawnChannelAlone, drawAlone, drawNumberOf, judgeFor, outcomeFor, drawFor}

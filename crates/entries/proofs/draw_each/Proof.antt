@@ -9,7 +9,8 @@ use Rattle.desks.specs.Desks.{sightOf, shown, allOwned}
 use Rattle.checks.specs.Checks.{allBelow}
 use Rattle.columns.specs.Columns.{updates}
 use Rattle.checks.proofs.Entries.{first-below, rest-below, first-owned, rest-owned}
-use Rattle.entries.proofs.Entries.{rest, updates-small, total-next, total-none, rest-next, rest-none}
+use Rattle.singles.proofs.Singles.{rest}
+use Rattle.entries.proofs.Entries.{updates-small, total-next, total-none, rest-next, rest-none}
 use Rattle.entries.proofs.draw_each.Statement.{statement}
 use Rattle.entries.proofs.draw_each.Tie as tie
 

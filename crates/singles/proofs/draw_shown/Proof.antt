@@ -4,9 +4,9 @@ use mathlib.Core.Bool.{true, false}
 use native.Mathlib.Omega.{arith}
 use borrow.Author.Needs.{needs}
 use Rattle.desks.specs.Desks.{sightOf}
-use Rattle.entries.proofs.Entries.{hidden-kept, hidden-counts, shown-drawn, shown-counts}
-use Rattle.entries.proofs.draw_shown.Statement.{statement}
-use Rattle.entries.proofs.draw_shown.Tie as tie
+use Rattle.singles.proofs.Singles.{hidden-kept, hidden-counts, shown-drawn, shown-counts}
+use Rattle.singles.proofs.draw_shown.Statement.{statement}
+use Rattle.singles.proofs.draw_shown.Tie as tie
 
 hidden-requires : tie.Need-hidden-requires
 hidden-requires c κs = omega arith
