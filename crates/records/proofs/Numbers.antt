@@ -23,9 +23,9 @@ use Rattle.checks.proofs.Refusals.{span-fits, below-each}
 use Rattle.singles.proofs.Singles.{hidden-kept, hidden-counts}
 use Rattle.draw.proofs.Checks.{answer-done}
 use Rattle.flat_records.proofs.Known.{known-here, not-counted, not-fitting}
+use Rattle.alone.proofs.Alone.{not-known, drawn-alone}
 use Rattle.records.specs.Records.{isKnown, drawnChannelAlone, drawAlone, drawNumberOf, judgeFor, outcomeFor, drawFor}
 use Rattle.records.specs.Numbers.{KnownIsDrawn, UnknownIsRefused, RowOfOneIsItsNumber, RowOfOneIsItsRecord}
-use Rattle.records.proofs.Alone.{not-known, drawn-alone}
 
 pub known-is-drawn : KnownIsDrawn
 known-is-drawn xs c i y x0 n a l f = ap (λ (known : Bool). drawAlone known (segmentAt xs i) y x0 n a) (known-here xs c i l f)

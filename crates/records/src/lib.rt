@@ -4,7 +4,8 @@ ghost use mathlib.Core.List.{[], _∷_};
 ghost use lib.ListN.{length, getD};
 ghost use Rattle.desks.specs.Desks.{sightOf};
 ghost use Rattle.draw.specs.Draw.{three, leaves};
-ghost use Rattle.records.specs.Records.{withoutOwner, zeroRecord, recordsOf, drawAlone, drawRecordOf, drawNumberOf, judgeFor, drawFor};
+ghost use Rattle.records.specs.Records.{zeroRecord, recordsOf, drawRecordOf, drawNumberOf, judgeFor, drawFor};
+use alone::draw_alone;
 use checks::Verdict;
 use codes::Code;
 use draw::DrawAnswer;
@@ -12,65 +13,6 @@ pub use flat_records::SegmentRecord;
 use flat_records::is_known;
 use flat_records::record_of;
 use flat_records::zero_record;
-use segments::Segment;
-
-// The segment of a record.
-fn segment_of(whole: SegmentRecord) -> Segment
-    ensures { λ r. ⌜ r ≡ withoutOwner whole ⌝ }
-{
-    Segment {
-        center_x: whole.center_x,
-        center_y: whole.center_y,
-        maximum_distance: whole.maximum_distance,
-        inv_sigma: whole.inv_sigma,
-        sigma_over_4_times_intensity: whole.sigma_over_4_times_intensity,
-        color0: whole.color0,
-        color1: whole.color1,
-        color2: whole.color2,
-    }
-}
-
-// Adds the segment of a record to those of the n pixels of row y from column x0 on whose columns it has, and counts them; `known` says that there is such a record.
-fn draw_alone(
-    known: bool,
-    whole: SegmentRecord,
-    y: u32,
-    x0: u32,
-    n: u32,
-    r0: &mut [f32],
-    r1: &mut [f32],
-    r2: &mut [f32],
-) -> DrawAnswer
-    ensures { λ r. ⌜ leaves r (three (now (r0 .exit)) (now (r1 .exit)) (now (r2 .exit)))
-        ≡ drawAlone known (withoutOwner whole) y x0 n (three (now (r0 .entry)) (now (r1 .entry)) (now (r2 .entry))) ⌝ }
-{
-    if !known {
-        return DrawAnswer::Refused(Code::Table, 0);
-    }
-    if 8388608 <= y {
-        return DrawAnswer::Refused(Code::Row, 0);
-    }
-    if !checks::span_good(x0, n, r0.len(), r1.len(), r2.len()) {
-        return DrawAnswer::Refused(Code::Span, 0);
-    }
-    let segment = segment_of(whole);
-    let columns = segment.columns();
-    let table = roots::ROOTS;
-    DrawAnswer::Done(
-        columns::draw_columns(
-            segment,
-            columns.first,
-            columns.past,
-            y,
-            x0,
-            n,
-            r0,
-            r1,
-            r2,
-            &table,
-        ) as u64,
-    )
-}
 
 // ---- a record for a desk
 

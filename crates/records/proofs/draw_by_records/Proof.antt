@@ -5,7 +5,8 @@ use borrow.Author.Tests.{not-true, not-false}
 use Rattle.segments.specs.Segment.{segmentAt}
 use Rattle.draw.specs.Draw.{three}
 use Rattle.records.specs.Records.{isKnown}
-use Rattle.records.proofs.Alone.{not-known, known-facts, in-16}
+use Rattle.alone.proofs.Alone.{not-known}
+use Rattle.records.proofs.Alone.{known-facts, in-16}
 use lib.ListN.{replicate}
 use borrow.Author.Needs.{needs}
 use Rattle.records.proofs.draw_by_records.Statement.{statement}

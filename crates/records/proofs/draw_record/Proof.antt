@@ -51,10 +51,10 @@ use Rattle.records.proofs.segment_at as seg
 use Rattle.records.proofs.segment_at.Symbol as seg-def
 use Rattle.records.proofs.segment_at.Symbol.{name as #records·segment-at}
 use Rattle.records.proofs.segment_at.Met as seg-thm
-use Rattle.records.proofs.draw_alone as alone
-use Rattle.records.proofs.draw_alone.Symbol as alone-def
-use Rattle.records.proofs.draw_alone.Symbol.{name as #records·draw-alone}
-use Rattle.records.proofs.draw_alone.Met as alone-thm
+use Rattle.alone.proofs.draw_alone as alone
+use Rattle.alone.proofs.draw_alone.Symbol as alone-def
+use Rattle.alone.proofs.draw_alone.Symbol.{name as #alone·draw-alone}
+use Rattle.alone.proofs.draw_alone.Met as alone-thm
 use Rattle.records.proofs.draw_record.Key.{name as #records·draw-record}
 use Rattle.records.proofs.draw_record as f
 use Rattle.records.proofs.draw_record.Statement as stated
@@ -156,7 +156,7 @@ module _ {M : Type 1} (𝓤 : URA M) (H : Heap 𝓤) (A : Atoms 𝓤) (W : Given
       move ! (2 ∷ 0 ∷ []) $ fjoin ! $ owned ! bool (Is bool) (bool-makes 𝓤 H A W) known _ refl $ fjoin ! $
       move ! (1 ∷ 0 ∷ []) $ join ! $ frame ! $ done !
 
-  module _ (C : Calls 𝓤 H) (Λ : Loops 𝓤 H) (fm : FmC 𝓤 H (W .laws) C) (known-seg : Triple 𝓤 (C #records·segment-at) (Seg 𝓤 H A mem run)) (known-alone : Triple 𝓤 (C #records·draw-alone) (Alone 𝓤 H A mem run)) where
+  module _ (C : Calls 𝓤 H) (Λ : Loops 𝓤 H) (fm : FmC 𝓤 H (W .laws) C) (known-seg : Triple 𝓤 (C #records·segment-at) (Seg 𝓤 H A mem run)) (known-alone : Triple 𝓤 (C #alone·draw-alone) (Alone 𝓤 H A mem run)) where
     walk : Room T.the-row (length (xr .now)) → Room f32 (length (c₀ .now)) → Room f32 (length (c₁ .now)) → Room f32 (length (c₂ .now))
         → ent 𝓤 (onEntry 𝓤 H A f.signature (κ, (κ₀, (κ₁, (κ₂, tt)))) (q, (q₀, (q₁, (q₂, tt)))) x at)
         (WpFn 𝓤 H C Λ code.function (slice xr ∷ vint w64 i ∷ vint w32 y ∷ vint w32 x0 ∷ vint w32 n ∷ slice c₀ ∷ slice c₁ ∷ slice c₂ ∷ []) Post)
@@ -199,7 +199,7 @@ module _ {M : Type 1} (𝓤 : URA M) (H : Heap 𝓤) (A : Atoms 𝓤) (W : Given
         move ! (41 ∷ 42 ∷ []) $ free1 ! $ move ! (39 ∷ 40 ∷ []) $ free1 ! $ move ! (37 ∷ 38 ∷ []) $ free1 ! $ move ! (35 ∷ 36 ∷ []) $ free1 ! $ move ! (33 ∷ 34 ∷ []) $ free1 ! $ move ! (31 ∷ 32 ∷ []) $ free1 ! $ move ! (29 ∷ 30 ∷ []) $ free1 ! $ move ! (27 ∷ 28 ∷ []) $ free1 ! $ move ! (25 ∷ 26 ∷ []) $ free1 ! $ move ! (23 ∷ 24 ∷ []) $ free1 ! $ move ! (21 ∷ 22 ∷ []) $ free1 ! $ move ! (19 ∷ 20 ∷ []) $ free1 ! $ move ! (17 ∷ 18 ∷ []) $ free1 ! $ move ! (15 ∷ 16 ∷ []) $ free1 ! $ move ! (13 ∷ 14 ∷ []) $ free1 ! $ move ! (11 ∷ 12 ∷ []) $ free1 ! $ move ! (9 ∷ 10 ∷ []) $ free1 ! $ move ! (7 ∷ 8 ∷ []) $ free1 ! $ free0 ! $
         keep ! (6 ∷ 1 ∷ 5 ∷ 4 ∷ 2 ∷ 0 ∷ []) $ by ! (exits r v (us .1 .1 .1 .1 .1 .0) (us .1 .1 .1 .1 .1 .1 .0) (us .1 .1 .1 .1 .1 .1 .1 .0) e₀ e₁ e₂ d)))))))))))))))))))))))))))))))
 
-module _ {M : Type 1} (𝓤 : URA M) (H : Heap 𝓤) (A : Atoms 𝓤) (W : Given 𝓤 H A) (mem : Memory → SProp 𝓤) (run : Routine → Fun 𝓤) (𝓣 : Tables 𝓤 H) (known-seg : Triple 𝓤 (𝓣 .C #records·segment-at) (Seg 𝓤 H A mem run)) (known-alone : Triple 𝓤 (𝓣 .C #records·draw-alone) (Alone 𝓤 H A mem run)) where
+module _ {M : Type 1} (𝓤 : URA M) (H : Heap 𝓤) (A : Atoms 𝓤) (W : Given 𝓤 H A) (mem : Memory → SProp 𝓤) (run : Routine → Fun 𝓤) (𝓣 : Tables 𝓤 H) (known-seg : Triple 𝓤 (𝓣 .C #records·segment-at) (Seg 𝓤 H A mem run)) (known-alone : Triple 𝓤 (𝓣 .C #alone·draw-alone) (Alone 𝓤 H A mem run)) where
   draw-record-walks : Walks 𝓤 H A f.ended stayed (WpFn 𝓤 H (𝓣 .C) (𝓣 .Λ) code.function) (f.clauses 𝓤 H A mem run)
   draw-record-walks = walked 𝓤 H A f.ended stayed (f.clauses 𝓤 H A mem run) (WpFn 𝓤 H (𝓣 .C) (𝓣 .Λ) code.function)
       (λ κs. (slice-vals, (uint-vals w64, (uint-vals w32, (uint-vals w32, (uint-vals w32, (slice-vals, (slice-vals, (slice-vals, tt)))))))))
@@ -237,6 +237,6 @@ draw-record-spec 𝓤 H 𝓜 𝓖 𝓡 =
     (tables 𝓤 H 𝓜 𝓡 code.env .C) (tables 𝓤 H 𝓜 𝓡 code.env .Λ) #records·draw-record code.function (code.unfolded 𝓤 H 𝓜 𝓡)
     (draw-record-meets 𝓤 H (𝓖 .A) (givenOf 𝓤 H 𝓜 𝓖) (𝓜 .mem) (𝓡 .run) (tablesOf 𝓤 H 𝓜 (tables 𝓤 H 𝓜 𝓡 code.env))
     (cited 𝓤 H (Seg 𝓤 H (𝓖 .A) (𝓜 .mem) (𝓡 .run)) 𝓜 𝓡 code.env #records·segment-at seg-def.routine code.calls-records·segment-at (seg-thm.met 𝓤 H 𝓜 𝓖 𝓡))
-    (cited 𝓤 H (Alone 𝓤 H (𝓖 .A) (𝓜 .mem) (𝓡 .run)) 𝓜 𝓡 code.env #records·draw-alone alone-def.routine code.calls-records·draw-alone (alone-thm.met 𝓤 H 𝓜 𝓖 𝓡)))
+    (cited 𝓤 H (Alone 𝓤 H (𝓖 .A) (𝓜 .mem) (𝓡 .run)) 𝓜 𝓡 code.env #alone·draw-alone alone-def.routine code.calls-alone·draw-alone (alone-thm.met 𝓤 H 𝓜 𝓖 𝓡)))
 
 -- Assumes nothing.

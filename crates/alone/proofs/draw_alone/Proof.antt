@@ -4,11 +4,11 @@ use native.Mathlib.Omega.{arith}
 use borrow.Author.Tests.{not-true, not-false}
 use Rattle.draw.specs.Draw.{three}
 use Rattle.checks.proofs.Checks.{span-facts}
-use Rattle.records.proofs.Alone.{not-known, no-row, no-span, drawn-alone, count-alone, columns-alone}
-use Rattle.records.specs.Records.{withoutOwner}
+use Rattle.alone.proofs.Alone.{not-known, no-row, no-span, drawn-alone, count-alone, columns-alone}
+use Rattle.alone.specs.Alone.{withoutOwner}
 use borrow.Author.Needs.{needs}
-use Rattle.records.proofs.draw_alone.Statement.{statement}
-use Rattle.records.proofs.draw_alone.Tie as tie
+use Rattle.alone.proofs.draw_alone.Statement.{statement}
+use Rattle.alone.proofs.draw_alone.Tie as tie
 
 returns : tie.Need-returns
 returns c =
