@@ -80,11 +80,11 @@ scratch_away() {
     scratch=''
 }
 
-# rt starts so many crates or edits together and waits for all of them: a dozen keep two processors busy nearly to the end of each round.
+# rt starts so many crates or edits together and waits for all of them: with two a processor idles at the end of each round, and with a dozen each takes a tenth longer, since they share a cache.
 proving_starts() { # WHO CRATE..
     who=$1
     shift
-    RT_JOBS=${RT_JOBS:-12}
+    RT_JOBS=${RT_JOBS:-4}
     export RT_JOBS
     scratch_in_memory
     mark=$top/host/target/proving.mark
