@@ -1,7 +1,9 @@
 -- `told_bands` meets its contract: in each arm the answer is known, and its bands are few.
+use mathlib.Core.Path.{ap}
 use native.Mathlib.Omega.{arith}
 use mir.Syntax.{w64}
 use mir.Facts.{toZ-pos}
+use Rattle.told.proofs.Numbers.{counted}
 use borrow.Author.Needs.{needs}
 use Rattle.told.proofs.told_bands.Statement.{statement}
 use Rattle.told.proofs.told_bands.Tie as tie
@@ -20,9 +22,8 @@ told-refusal-requires c κs = search needs
 
 returns : tie.Need-returns
 returns c =
-    let p = c .before .answer .given .0 .0 in
-    let a = toZ-pos w64 {n = p} (omega arith) in
-    rw (c .before .answer .given .1, a)
+    let n = c .before .answer .given .0 .0 in
+    rw (c .before .answer .given .1) (ap counted (toZ-pos w64 {n = n} (omega arith)))
 
 returns-2 : tie.Need-returns-2
 returns-2 c = rw (c .before .before .answer2 .given .1) (c .told-refusal .ensures)

@@ -1,4 +1,5 @@
 -- `told_profile_build`: the six numbers come back from their bits.
+use mathlib.Core.Path.{refl}
 use native.Mathlib.Omega.{arith}
 use mir.Syntax.{w64}
 use mir.Facts.{toZ-pos}
@@ -31,7 +32,7 @@ returns c =
     let a = toZ-pos w64 {n = t .first} (omega arith) in
     let b = toZ-pos w64 {n = t .second} (omega arith) in
     let f = toZ-pos w64 {n = t .fourth} (omega arith) in
-    rw (c .before .signed2 .ensures, c .before .before .before .before .signed .ensures, a, b, f, signed-back (t .place), signed-back (t .third), c .before .before .before .before .before .told .ensures)
+    rw (c .before .signed2 .ensures, c .before .before .before .before .signed .ensures, a, b, f, signed-back (t .place), signed-back (t .third), c .before .before .before .before .before .told .ensures) refl
 
 pub told-profile-build-spec : {M : Type 1} → statement M
 told-profile-build-spec =
