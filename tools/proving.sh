@@ -80,7 +80,7 @@ scratch_away() {
     scratch=''
 }
 
-# rt starts so many crates or edits together and waits for all of them: with two a processor idles at the end of each round, and with a dozen each takes a tenth longer, since they share a cache.
+# rt starts so many crates or edits together and waits for all of them: with two a processor idles at the end of each round, and with a dozen each takes a tenth longer, likely since they share a cache.
 proving_starts() { # WHO CRATE..
     who=$1
     shift
