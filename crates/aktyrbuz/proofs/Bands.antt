@@ -22,7 +22,7 @@ use Rattle.bands_laws.proofs.Refusals.{bands-place, bands-refused, bands-refused
 use Rattle.bands_laws.proofs.Fresh as laws
 use Rattle.bands_laws.proofs.Alike as alike
 use Rattle.aktyrbuz.proofs.AcceptedBands.{bands-same, band-same}
-use Rattle.bands_laws.proofs.Hides as after
+use Rattle.bands_laws.proofs.Hiding as after
 use Rattle.makers_laws.proofs.Built.{fits-drawing, kept-fit, kept-is-right}
 use Rattle.aktyrbuz.specs.Calls.{ReachCall, HideCall, with_bits}
 use Rattle.aktyrbuz.specs.BandsCalls.{BandsCall, BandCall, BandCalls}

@@ -20,7 +20,7 @@ use Rattle.desks.specs.Agree.{Agree}
 use Rattle.desks.specs.Hide.{HideOutcome, HideRefusal, hideOf}
 use Rattle.desks.specs.declared.HideAnswer.{HideAnswer}
 use Rattle.desks.proofs.Shown.{nothing_hidden}
-use Rattle.desks.proofs.Hides.{Way, no-desk, no_byte, one_bit, way, hide-refused, hide-done, hide-place, hide-refused-exactly, hide-length, hide-sets, hide-keeps, hides-length, hides-keep}
+use Rattle.desks.proofs.Hiding.{Way, no-desk, no_byte, one_bit, way, hide-refused, hide-done, hide-place, hide-refused-exactly, hide-length, hide-sets, hide-keeps, hides-length, hides-keep}
 use Rattle.checks.specs.Tables.{Table, row_of, shownOf}
 use Rattle.checks.specs.declared.Verdict.{Verdict}
 use Rattle.checks.specs.declared.Verdict.TheVariants.{Fine, Fault}
@@ -117,7 +117,7 @@ use Rattle.aktyrbuz.specs.PolylineCalls.{PointsReadCall, PointsWriteCall}
 use Rattle.makers.specs.Refusals as makers-table
 use Rattle.makers_laws.proofs.Refusals as makers-when
 use Rattle.desks.specs.Hide as hide-table
-use Rattle.desks.proofs.Hides as hiding
+use Rattle.desks.proofs.Hiding as hiding
 use Rattle.draw.proofs.Parts as parts
 use Rattle.rows.specs.Rows as listing
 use Rattle.kinds.specs.declared.KindI64.TheVariants as I64

@@ -1,5 +1,7 @@
 // The exported functions, on numbers and slices: the static library.
 // Every call but the logarithm returns its code's number and fills five numbers: the place, then the counts, then zeros.
+#![tactic(auto)]
+
 ghost use Rattle.std.specs.Prelude.{◌≡◌, length};
 ghost use Rattle.approximations.specs.Ln.{lnOf};
 ghost use Rattle.reader.specs.Read.{readOutcome, rooms_of};

@@ -1,4 +1,6 @@
 // One record drawn: its segment is added in the columns that it has, after the checks.
+#![tactic(auto)]
+
 ghost use Rattle.std.specs.Prelude.{◌≡◌};
 ghost use Rattle.draw.specs.Draw.{three, leaves};
 ghost use Rattle.alone.specs.Alone.{withoutOwner, drawAlone};

@@ -1,6 +1,8 @@
 // Functions that are computed by a fixed order of steps, and are nearly what they are named after, for all input.
 //   cosine, erf     fast_cos, fast_erff                       specs/Cos, specs/Erf
 //   logarithm       ln                                        specs/Ln
+#![tactic(auto)]
+
 ghost use Rattle.std.specs.Prelude.{◌≡◌, T};
 ghost use Rattle.std.specs.Float.Ieee.Positive.{positive};
 ghost use Rattle.approximations.specs.Cos.{cosCore, fastCos};

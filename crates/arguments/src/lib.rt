@@ -1,4 +1,6 @@
 // What a program is called with, taken apart: words, numbers, sizes and pixels, and what a file's name says.
+#![tactic(auto)]
+
 mod names;
 mod sizes;
 mod words;

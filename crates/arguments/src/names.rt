@@ -1,7 +1,7 @@
 // What a file's name says.
 
 // What a file's name says of its kind: a picture of either kind, a trace file, a line drawing, or another.
-#[derive(Drop)]
+#[derive(Clone, Copy)]
 pub enum Kind {
     Tones,
     Floats,

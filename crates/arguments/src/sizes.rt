@@ -5,7 +5,7 @@ use crate::words;
 use crate::words::Number;
 
 // The size of an image or a pixel of it, by two arguments.
-#[derive(Drop)]
+#[derive(Clone, Copy)]
 pub enum Two {
     Are(u32, u32),
     Not,

@@ -2,7 +2,7 @@
 use text::Parsed;
 
 // An argument that is a number.
-#[derive(Drop)]
+#[derive(Clone, Copy)]
 pub enum Number {
     Is(u32),
     Not,

@@ -1,6 +1,6 @@
 // The commands, by their words.
 
-#[derive(Drop)]
+#[derive(Clone, Copy)]
 pub enum Command {
     Read,
     Rows,

@@ -1,4 +1,6 @@
 // What the program `gauge` is asked for: the options that stand before a command, and the commands.
+#![tactic(auto)]
+
 mod commands;
 mod options;
 

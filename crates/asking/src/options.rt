@@ -4,7 +4,7 @@ ghost use Rattle.std.specs.Prelude.{◌+◌, ◌≤◌};
 use arguments::Number;
 
 // `at` is the argument of the next word, `hide` that with the numbers of the hidden traces, 0 where there is none; `profile` and `edition` are editions, that of the profile and that of a trace file, 0 where none is asked for; `good` until a word stands twice or lacks its number.
-#[derive(Drop)]
+#[derive(Clone, Copy)]
 pub struct Options {
     pub at: u8,
     pub progress: bool,

@@ -1,4 +1,6 @@
 // The numbers of a band of a table, for a desk and a width: of each 64 rows, what is shown is summed entry by entry. Each entry is looked at once: it is checked and counted in one pass.
+#![tactic(auto)]
+
 ghost use Rattle.std.specs.Prelude.{◌≡◌, cond, ◌+◌, ◌-◌, ◌*◌, ◌^◌, ◌<◌, ◌≤◌, length, get_or};
 ghost use Rattle.std.proofs.Math.Seq.{slice};
 ghost use Rattle.desks.specs.Desks.{sight_of, hiddenIn};
@@ -10,7 +12,7 @@ ghost use Rattle.band_sums.specs.Steps.{leastWith, withOne, goodOr, sumOver, sum
 use segments::{Range, Segment};
 
 // The numbers of a band: the entries shown, the least and the greatest segment number, the first column and one past the last.
-#[derive(Drop)]
+#[derive(Clone, Copy)]
 pub struct BandNumbers {
     pub entries: u32,
     pub least: u32,
@@ -20,7 +22,7 @@ pub struct BandNumbers {
 }
 
 // The numbers of what was summed, or that an entry, an owner or a start of it is bad.
-#[derive(Drop)]
+#[derive(Clone, Copy)]
 pub enum Summed {
     Good(BandNumbers),
     Bad,

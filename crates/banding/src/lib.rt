@@ -1,4 +1,6 @@
 // `gauge bands`: a summary of every 64 rows of a table for a desk, a line a band.
+#![tactic(auto)]
+
 ghost use Rattle.std.specs.Prelude.{◌+◌, ◌*◌, ◌≤◌, length};
 
 use bands::BandsAnswer;
@@ -11,7 +13,7 @@ fn wide(n: u32) -> u64 {
 }
 
 // The first and the last row of a band.
-#[derive(Drop)]
+#[derive(Clone, Copy)]
 struct Rows {
     first: u64,
     last: u64,

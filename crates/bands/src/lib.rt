@@ -1,4 +1,6 @@
 // A summary of every 64 rows of a table, for a desk and a width: made whole, or refreshed for one band.
+#![tactic(auto)]
+
 ghost use Rattle.std.specs.Prelude.{◌≡◌, true, ◌+◌, ◌*◌, ◌^◌, ◌≤◌, length};
 ghost use Rattle.std.proofs.lemmas.List.Edits.{sets};
 ghost use Rattle.desks.specs.Desks.{sight_of};
@@ -13,7 +15,7 @@ use checks::Verdict;
 use codes::Code;
 
 // How many bands the table has, or a code.
-#[derive(Drop)]
+#[derive(Clone, Copy)]
 pub enum BandsAnswer {
     Done(u32),
     Refused(Code, usize),

@@ -5,4 +5,4 @@ pub mod Refusals
 pub mod Numbers
 pub mod Fresh
 pub mod Alike
-pub mod Hides
+pub mod Hiding

@@ -1,6 +1,8 @@
 // One segment added to parts of three channels, pixel by pixel: `draw_segment_inner` of spline.rs.
 // Pixels go by blocks of 32 in four passes (squares of distances, their roots, intensities, shades). All but the roots are for the machine's vectors, which take four
 // numbers at a time: so squares and intensities are worked out for whole fours, and what is beyond the block is dropped.
+#![tactic(auto)]
+
 ghost use Rattle.std.specs.Prelude.{◌≡◌, ◌+◌, ◌≤◌, ◌<◌, ◌^◌, length, get_or, pos};
 ghost use Rattle.std.specs.Float.{nan, binary32};
 ghost use Rattle.std.specs.Float.Ieee.{of_int};

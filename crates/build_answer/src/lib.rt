@@ -1,4 +1,6 @@
 // What a build answers: a refusal, or the rows of the segments that are drawn, with zeros in every lent cell that is not used.
+#![tactic(auto)]
+
 ghost use Rattle.std.specs.Prelude.{◌≡◌, ◌*◌, ◌≤◌, ◌<◌, ◌^◌, length, take};
 ghost use Rattle.rows.specs.Rows.{in_row, listedRows};
 ghost use Rattle.build_answer.specs.Answer.{rooms_of, leaves, refusedWith, afterRows};
@@ -7,7 +9,7 @@ use codes::Code;
 use rows::Listed;
 
 // The segments, the entries, the estimate, and how many of the segments are faint; or a code and its place.
-#[derive(Drop)]
+#[derive(Clone, Copy)]
 pub enum BuildAnswer {
     Done(u32, u32, u64, u32),
     Refused(Code, usize),

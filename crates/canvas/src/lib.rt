@@ -1,4 +1,6 @@
 // A picture of a built table in an open file; and what a task is, of which a picture is one.
+#![tactic(auto)]
+
 ghost use Rattle.std.specs.Prelude.{◌≤◌, ◌<◌, length};
 
 use draw::DrawAnswer;
@@ -14,7 +16,7 @@ const BYTES: usize = 24576;
 const HEAD: usize = 64;
 
 // What is asked of a description: what it holds, its rows, its bands, its picture, the traces that have the pixel in this column and row, why the segment of this number sits where it does, its row table, whether that in the file of this argument is it, whether it meets this edition of the profile, its trace file, its list, or its line drawing.
-#[derive(Drop)]
+#[derive(Clone, Copy)]
 pub enum Asked {
     Contents,
     Rows,
@@ -31,7 +33,7 @@ pub enum Asked {
 }
 
 // What is asked, of an image of this size (no rows and columns where there is none), where a picture of either kind or a file goes, and which argument names the traces that are hidden for the desk (0: none), by which edition of the profile it is to be built (0: by none), and which edition a trace file is to hold (0: a file of version 1).
-#[derive(Drop)]
+#[derive(Clone, Copy)]
 pub struct Task {
     pub width: u32,
     pub height: u32,
@@ -74,7 +76,7 @@ pub fn say_built(segments: u32, faint: u32, entries: u32, estimate: u64) -> u8
 }
 
 // How many updates a part took; or it was not drawn, or not written.
-#[derive(Drop)]
+#[derive(Clone, Copy)]
 enum Took {
     Updates(u64),
     Failed,

@@ -1,4 +1,6 @@
 // The checks of a table and of a part of a row for a desk, before a pixel is drawn or a reach is told: the desk, the counts, the bytes, the row, the span, and the row's starts and entries.
+#![tactic(auto)]
+
 ghost use Rattle.std.specs.Prelude.{◌≡◌, ◌&&◌, ◌+◌, ◌<◌, ◌≤◌, leb, length};
 ghost use Rattle.std.proofs.Math.Seq.{slice};
 ghost use Rattle.desks.specs.Desks.{sight_of, allOwned};
@@ -8,7 +10,7 @@ ghost use Rattle.checks.specs.Checks.{countsGood, spanGood, all_below, entriesGo
 use codes::Code;
 
 // What the checks say.
-#[derive(Drop)]
+#[derive(Clone, Copy)]
 pub enum Verdict {
     Fine,
     Fault(Code),

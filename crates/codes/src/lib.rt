@@ -1,8 +1,10 @@
 // The codes of an answer, and each code's number.
+#![tactic(auto)]
+
 ghost use Rattle.std.specs.Prelude.{◌≡◌};
 ghost use Rattle.codes.specs.Codes.{number_of};
 
-#[derive(Drop)]
+#[derive(Clone, Copy)]
 pub enum Code {
     Done,
     Short,

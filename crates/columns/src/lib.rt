@@ -1,4 +1,6 @@
 // A segment added in the columns of a part of a row that it has.
+#![tactic(auto)]
+
 ghost use Rattle.std.specs.Prelude.{◌≡◌, cond, ◌+◌, ◌*◌, ◌^◌, ◌≤◌, min, max, length};
 ghost use Rattle.segments.specs.Segment.{segmentAt};
 ghost use Rattle.segments.specs.Ranges.{hasColumn};

@@ -1,4 +1,6 @@
 // What a list or a trace file holds: told of a description, or of a file that is read in rooms that fit a small stack.
+#![tactic(auto)]
+
 mod short;
 mod telling;
 
@@ -9,7 +11,7 @@ pub use telling::say;
 pub const CONFIGURED: u32 = 1048576;
 
 // What a description was read from: a list of so many values, or a trace file of so many bytes and its edition.
-#[derive(Drop)]
+#[derive(Clone, Copy)]
 pub enum Source {
     List(usize),
     File(usize, u32),

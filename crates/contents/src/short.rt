@@ -16,7 +16,7 @@ const DELTAS: usize = 32768;
 const COEFFICIENTS: usize = 65536;
 
 // The status; or the rooms are too short.
-#[derive(Drop)]
+#[derive(Clone, Copy)]
 pub enum Tried {
     Status(u8),
     Room,

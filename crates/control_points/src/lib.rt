@@ -1,4 +1,6 @@
 // The control points of a spline: a running delta and point, checked at every step.
+#![tactic(auto)]
+
 ghost use Rattle.std.specs.Prelude.{◌≡◌, true, ◌+◌, ◌*◌, ◌≤◌, nat_abs, length};
 ghost use Rattle.control_points.specs.ControlPoints.{in_range, belowDeltaLimit, validPointPos, validDoubleDelta, plusOf, manhattanOf, pair_at, roundedOf, startingPoint, movedOf, standAt, step_of, traceOf};
 ghost use Rattle.control_points.specs.Asked.{Fine, Held, Moves};
@@ -7,34 +9,34 @@ use codes::Code;
 use kinds::KindI32;
 
 // A double delta, a delta or a point, of whole numbers.
-#[derive(Drop)]
+#[derive(Clone, Copy)]
 pub struct Pair {
     pub x: i32,
     pub y: i32,
 }
 
 // A control point, and the delta that led to it.
-#[derive(Drop)]
+#[derive(Clone, Copy)]
 pub struct Stand {
     pub delta: Pair,
     pub point: Pair,
 }
 
 // A coordinate of a start, made whole.
-#[derive(Drop)]
+#[derive(Clone, Copy)]
 pub enum Coordinate {
     At(i32),
     Out,
 }
 
-#[derive(Drop)]
+#[derive(Clone, Copy)]
 pub enum Start {
     At(Pair),
     Out,
 }
 
 // A stand that every check let through, with the Manhattan sum so far, and whether two adjacent points were the same.
-#[derive(Drop)]
+#[derive(Clone, Copy)]
 pub struct Run {
     pub delta: Pair,
     pub point: Pair,
@@ -42,7 +44,7 @@ pub struct Run {
     pub coincide: bool,
 }
 
-#[derive(Drop)]
+#[derive(Clone, Copy)]
 pub enum Traced {
     On(Run),
     Stop(Code),

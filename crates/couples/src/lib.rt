@@ -1,4 +1,6 @@
 // Two segments added to a part of a row, one after the other, each in the columns that it has unless it is hidden for the desk.
+#![tactic(auto)]
+
 ghost use Rattle.std.specs.Prelude.{◌≡◌, [], ◌∷◌, ◌+◌, ◌*◌, ◌^◌, ◌<◌, ◌≤◌, length, get_or};
 ghost use Rattle.shade.specs.Edit.{edit};
 ghost use Rattle.desks.specs.Desks.{sight_of, shown};

@@ -1,4 +1,6 @@
 // The curve of a spline: points by value, windows of four points, and the path through the control points.
+#![tactic(auto)]
+
 ghost use Rattle.std.specs.Prelude.{◌≡◌, true, ◌+◌, ◌*◌, ◌/◌, ◌≤◌, ◌<◌, length, drop};
 ghost use Rattle.std.proofs.lemmas.List.Edits.{sets};
 ghost use Rattle.buffers.specs.Onto.{onto};
@@ -13,7 +15,7 @@ use control_points::{Pair, Stand};
 
 // ---- points
 
-#[derive(Drop)]
+#[derive(Clone, Copy)]
 pub struct Point {
     pub x: f32,
     pub y: f32,
@@ -76,7 +78,7 @@ impl Point {
 // ---- windows
 
 // Four points, each but the last with the root of its distance to the next.
-#[derive(Drop)]
+#[derive(Clone, Copy)]
 struct Window {
     p0: Point,
     p1: Point,
@@ -144,7 +146,7 @@ fn put_window(out: &mut [f32], k: usize, w: Window)
 // ---- turns
 
 // Three points that follow one another, with the stand of the last one and the roots of both distances.
-#[derive(Drop)]
+#[derive(Clone, Copy)]
 struct Turn {
     p: Point,
     q: Point,
@@ -260,7 +262,7 @@ fn put_path(start: Pair, deltas: &[i32], out: &mut [f32], m: usize)
 }
 
 // The path's points, or that there is no room for them.
-#[derive(Drop)]
+#[derive(Clone, Copy)]
 pub enum Curved {
     Points(usize),
     Room,

@@ -1,4 +1,6 @@
 // The columns that a segment has, cut to a part of a row, and the segment added in a range of them.
+#![tactic(auto)]
+
 ghost use Rattle.std.specs.Prelude.{◌≡◌, false, cond, ◌+◌, ◌^◌, ◌≤◌, length};
 ghost use Rattle.segments.specs.Ranges.{hasColumn};
 ghost use Rattle.shade.specs.Edit.{edit};

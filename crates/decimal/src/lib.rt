@@ -1,4 +1,6 @@
 // Whole numbers as decimal digits in a text: stored where there are cells for them, and counted all the same.
+#![tactic(auto)]
+
 ghost use Rattle.std.specs.Prelude.{◌≡◌, Bool, ◌+◌, ◌-◌, ◌≤◌, ◌<◌, length, set};
 ghost use Rattle.std.proofs.lemmas.List.Edits.{sets};
 ghost use Rattle.control_points.specs.ControlPoints.{in_range};

@@ -2,7 +2,7 @@
 ghost use Rattle.std.specs.Prelude.{◌≡◌, ◌+◌, ◌<◌, ◌≤◌, length};
 ghost use Rattle.dequantize.specs.Coefficients.{invAdjustedQuant, coefficientAt, coefficientRow, gainedOf, gainedRows};
 
-#[derive(Drop)]
+#[derive(Clone, Copy)]
 pub struct Rows {
     pub x: [f32; 32],
     pub y: [f32; 32],

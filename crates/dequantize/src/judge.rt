@@ -8,14 +8,14 @@ use crate::{Given, Spline};
 use codes::Code;
 
 // The sum with a spline's estimate, or the spline's refusal.
-#[derive(Drop)]
+#[derive(Clone, Copy)]
 pub enum Settled {
     Total(u64),
     Stop(Code),
 }
 
 // The sum of all estimates, or the first refusal and the number of its spline.
-#[derive(Drop)]
+#[derive(Clone, Copy)]
 pub enum Judged {
     Fine(u64),
     Refused(Code, usize),

@@ -1,4 +1,6 @@
 // Dequantizing: the coefficients and the estimate of a spline whose control points pass, and the judging of all splines.
+#![tactic(auto)]
+
 ghost use Rattle.std.specs.Prelude.{◌≡◌, ◌≤◌, length};
 ghost use Rattle.dequantize.specs.Dequantize.{refusedOf, finishedOf, dequantizeOf};
 
@@ -10,7 +12,7 @@ pub mod judge;
 pub mod limits;
 
 // What all splines of an image share; limit is the area limit.
-#[derive(Drop)]
+#[derive(Clone, Copy)]
 pub struct Given {
     pub adjustment: i32,
     pub y_to_x: f32,
@@ -19,7 +21,7 @@ pub struct Given {
 }
 
 // Four rows of coefficients, the estimate, and whether two adjacent control points are the same. After a refusal all but the code is zero.
-#[derive(Drop)]
+#[derive(Clone, Copy)]
 pub struct Spline {
     pub code: Code,
     pub x: [f32; 32],

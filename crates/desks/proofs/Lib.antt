@@ -1,4 +1,4 @@
 -- The laws of the crate `desks`.
 pub mod Bits
 pub mod Shown
-pub mod Hides
+pub mod Hiding

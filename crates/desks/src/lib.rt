@@ -1,11 +1,13 @@
 // Two desks, one table: whether a segment is hidden for a desk, by the byte of its spline, and a desk's bit set or cleared.
+#![tactic(auto)]
+
 ghost use Rattle.std.specs.Prelude.{◌≡◌, ◌<◌, length, get_or};
 ghost use Rattle.desks.specs.Desks.{bit_of, sight_of, hiddenIn};
 ghost use Rattle.desks.specs.Hide.{withBit, leaves, hideOf};
 
 use codes::Code;
 
-#[derive(Drop)]
+#[derive(Clone, Copy)]
 pub enum HideAnswer {
     Done,
     Refused(Code, usize),

@@ -1,5 +1,7 @@
 // Drawing a part of a row for a desk.
 // `draw` checks the desk, the counts, the bytes, the row, the span, and the row's starts and entries; only then is a pixel written.
+#![tactic(auto)]
+
 ghost use Rattle.std.specs.Prelude.{◌≡◌};
 ghost use Rattle.desks.specs.Desks.{sight_of};
 ghost use Rattle.checks.specs.Tables.{table_of};
@@ -9,7 +11,7 @@ use checks::Verdict;
 use codes::Code;
 use entries::draw_entries;
 
-#[derive(Drop)]
+#[derive(Clone, Copy)]
 pub enum DrawAnswer {
     Done(u64),
     Refused(Code, usize),

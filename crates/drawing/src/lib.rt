@@ -1,4 +1,6 @@
 // `gauge svg out`: a whole drawing in an open file, a polyline a trace.
+#![tactic(auto)]
+
 ghost use Rattle.std.specs.Prelude.{◌≡◌, ◌≤◌};
 ghost use Rattle.drawing.specs.Thickness.{meanSigma, hundredthsOf};
 

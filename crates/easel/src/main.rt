@@ -2,6 +2,8 @@
 //   easel [--status] [--high] draw VALUES WIDTH HEIGHT PICTURE
 // Of a picture it says what `gauge` says. All else, a refusal, a wrong use or a list that is too long, it leaves to `gauge`, without a word and with nothing written.
 // A program has no exit status: with `--status` it is written as a digit to descriptor 3 (0: done, 1: not written, 4: left to `gauge`).
+#![tactic(auto)]
+
 ghost use Rattle.std.specs.Prelude.{◌≤◌};
 
 use arguments::{Kind, Two};

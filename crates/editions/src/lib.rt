@@ -1,9 +1,11 @@
 // What an edition of the fineness profile allows.
+#![tactic(auto)]
+
 ghost use Rattle.std.specs.Prelude.{◌≡◌};
 ghost use Rattle.editions.specs.Editions.{limitsOf};
 
 // What an edition allows: the most double deltas, the least and the greatest adjustment, the most of the first sigma coefficient.
-#[derive(Drop)]
+#[derive(Clone, Copy)]
 pub struct Limits {
     pub deltas: u32,
     pub least: i32,
@@ -11,7 +13,7 @@ pub struct Limits {
     pub sigma: i32,
 }
 
-#[derive(Drop)]
+#[derive(Clone, Copy)]
 pub enum Edition {
     Known(Limits),
     Unknown,

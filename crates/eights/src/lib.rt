@@ -1,4 +1,6 @@
 // The cosines of the transform, eight at a time, and a running sum that is fed with them.
+#![tactic(auto)]
+
 ghost use Rattle.std.specs.Prelude.{◌≡◌, ◌⊎◌, ◌+◌, ◌-◌, ◌%◌, ◌≤◌, ◌<◌, get_or};
 ghost use Rattle.std.specs.Float.{nan};
 ghost use Rattle.numbers.specs.Arith.{◌⊗◌};

@@ -1,4 +1,6 @@
 // The ends of a segment's rows and columns as whole numbers, each by the float that it is.
+#![tactic(auto)]
+
 ghost use Rattle.std.specs.Prelude.{◌≡◌, ◌^◌, min};
 ghost use Rattle.ends.specs.Ends.{clip, clipPast, rowFirstOf, rowPastOf, columnFirstOf, columnPastOf};
 

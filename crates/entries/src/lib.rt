@@ -1,4 +1,6 @@
 // A row's entries drawn for a desk, two at a time, and what is left over one at a time.
+#![tactic(auto)]
+
 ghost use Rattle.std.specs.Prelude.{◌≡◌, true, ◌+◌, ◌*◌, ◌^◌, ◌<◌, ◌≤◌, length};
 ghost use Rattle.std.proofs.Math.Seq.{slice};
 ghost use Rattle.shade.specs.Edit.{edit, firstCells};

@@ -1,4 +1,6 @@
 // The estimate of the area that a spline reaches.
+#![tactic(auto)]
+
 ghost use Rattle.std.specs.Prelude.{◌≡◌, ◌+◌, ◌≤◌, ◌<◌, length};
 ghost use Rattle.estimate.specs.Estimate.{toU64, greater, shareAt, rowColor, tintedOf, logColor, weightLimit, weightAt, widthEstimate, estimateOf};
 

@@ -1,4 +1,6 @@
 // `gauge why`: one segment, its trace, where it sits, and by which kind each of its four ends.
+#![tactic(auto)]
+
 ghost use Rattle.std.specs.Prelude.{◌≤◌};
 
 use kinds::{KindI64, KindU64};

@@ -1,1 +1,3 @@
 // Laws on the contracts of the exported calls, and no code.
+#![tactic(auto)]
+

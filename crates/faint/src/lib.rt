@@ -1,4 +1,6 @@
 // How many segments are faint: their distance is NaN, so that they sit at row 0 and column 0.
+#![tactic(auto)]
+
 ghost use Rattle.std.specs.Prelude.{◌≡◌, cond, ◌*◌, ◌^◌, ◌≤◌, length};
 ghost use Rattle.std.specs.Float.Ieee.{is_nan};
 ghost use Rattle.faint.specs.Faint.{faintIn};

@@ -1,4 +1,6 @@
 // The bytes of a file, and the values of a text.
+#![tactic(auto)]
+
 ghost use Rattle.std.specs.Prelude.{◌≡◌, ◌≤◌, negsuc, ◌≤ℤ◌};
 ghost use Rattle.io.specs.Counts.{IsPrefixLen};
 ghost use Rattle.files.specs.Loads.{statusIn};
@@ -6,7 +8,7 @@ ghost use Rattle.files.specs.Loads.{statusIn};
 use text::Parsed;
 
 // How many bytes or values there are; or the bytes fill their room; or the status, after a line that says what is wrong.
-#[derive(Drop)]
+#[derive(Clone, Copy)]
 pub enum Loaded {
     Count(usize),
     Long,

@@ -1,4 +1,6 @@
 // What stands where in a drawing.
+#![tactic(auto)]
+
 ghost use Rattle.std.specs.Prelude.{◌≡◌, ◌+◌, ◌≤◌, ◌<◌, length};
 ghost use Rattle.finding.specs.Finding.{standsAt, FirstFrom};
 

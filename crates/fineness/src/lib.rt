@@ -1,4 +1,6 @@
 // `gauge profile`: whether a description meets an edition of the fineness profile, or the first rule that it breaks, with the number that broke it.
+#![tactic(auto)]
+
 ghost use Rattle.std.specs.Prelude.{◌≤◌, length};
 
 use profile::ProfileAnswer;

@@ -1,11 +1,13 @@
 // A segment of a flat slice with its owner as a record, by its number, and whether a number is known.
+#![tactic(auto)]
+
 ghost use Rattle.std.specs.Prelude.{◌≡◌};
 ghost use Rattle.flat_records.specs.Records.{joinedOf, zeroRecord, recordOf, isKnown};
 
 use segments::Segment;
 
 // A segment, and the number of the spline that made it.
-#[derive(Drop)]
+#[derive(Clone, Copy)]
 pub struct SegmentRecord {
     pub center_x: f32,
     pub center_y: f32,

@@ -1,4 +1,6 @@
 // The frame of a file of vectors: its words, where its cases end, its checksum.
+#![tactic(auto)]
+
 ghost use Rattle.std.specs.Prelude.{◌≡◌, ◌+◌, ◌<◌, ◌≤◌, min, length, get_or};
 ghost use Rattle.io.specs.Counts.{IsPrefixLen};
 ghost use Rattle.frame.specs.Frame.{word_at, Words, sum_of, end_of, settled_of, frameSays, IsWhole, held_of};
@@ -8,7 +10,7 @@ const MAGIC: u32 = 1448364865;
 const VERSION: u32 = 1;
 
 // What is right or wrong with a file.
-#[derive(Drop)]
+#[derive(Clone, Copy)]
 pub enum Verdict {
     Whole,
     Short,
@@ -19,7 +21,7 @@ pub enum Verdict {
 }
 
 // Where the cases end, if that is before the last word.
-#[derive(Drop)]
+#[derive(Clone, Copy)]
 enum End {
     At(usize),
     Past,

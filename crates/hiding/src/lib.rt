@@ -1,4 +1,6 @@
 // The shared bytes of a description, a byte a spline, with the splines hidden whose numbers an argument of the program holds, with white space between them.
+#![tactic(auto)]
+
 ghost use Rattle.std.specs.Prelude.{◌≤◌, length};
 
 use desks::HideAnswer;

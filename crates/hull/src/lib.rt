@@ -1,4 +1,6 @@
 // The reach of a row for a desk: the hull of the columns of an image that drawing the row would touch.
+#![tactic(auto)]
+
 ghost use Rattle.std.specs.Prelude.{◌≡◌, true, cond, [], ◌∷◌, ◌+◌, ◌*◌, ◌^◌, ◌<◌, ◌≤◌, length, get_or};
 ghost use Rattle.std.proofs.Math.Seq.{slice};
 ghost use Rattle.segments.specs.Segment.{segmentAt};
@@ -13,7 +15,7 @@ use codes::Code;
 use segments::{Range, Segment};
 
 // The first column of a row's reach and the one past the last.
-#[derive(Drop)]
+#[derive(Clone, Copy)]
 pub enum ReachAnswer {
     Done(u32, u32),
     Refused(Code, usize),

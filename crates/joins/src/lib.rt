@@ -1,4 +1,6 @@
 // Ranges of columns joined: the least range that holds what was found and a segment's columns below a width.
+#![tactic(auto)]
+
 ghost use Rattle.std.specs.Prelude.{◌≡◌, ◌<◌, min, max};
 ghost use Rattle.joins.specs.Joins.{joined, columnsBelow};
 

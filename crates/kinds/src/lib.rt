@@ -2,6 +2,8 @@
 //   by kind         cut_to_i64, _i32, _u64,
 //                   rounded_to_i64, _i32, _u64                specs/Kind: exact, not a number, below or above the range
 //   saturating      saturating_f32_to_i64, _i32, _u64         Rust's `as` (lib.Ieee: to_signed, to_unsigned)
+#![tactic(auto)]
+
 ghost use Rattle.std.specs.Prelude.{◌≡◌};
 ghost use Rattle.std.specs.Float.Ieee as Ieee;
 ghost use Rattle.std.specs.Float.{binary32};
@@ -10,7 +12,7 @@ ghost use Rattle.kinds.specs.Kind.{cutI64, cutI32, cutU64, withinI32};
 
 // ---- by kind
 
-#[derive(Drop)]
+#[derive(Clone, Copy)]
 pub enum KindI64 {
     Exact(i64),
     NotNumber,
@@ -18,7 +20,7 @@ pub enum KindI64 {
     Above,
 }
 
-#[derive(Drop)]
+#[derive(Clone, Copy)]
 pub enum KindI32 {
     Exact(i32),
     NotNumber,
@@ -26,7 +28,7 @@ pub enum KindI32 {
     Above,
 }
 
-#[derive(Drop)]
+#[derive(Clone, Copy)]
 pub enum KindU64 {
     Exact(u64),
     NotNumber,

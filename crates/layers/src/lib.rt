@@ -1,5 +1,7 @@
 // The inner layers of a build, each on numbers and slices, exported for the host's comparisons only: the third static library.
 // What a layer asks of its caller the export checks, or has in the type of an array; where it does not hold the answer is a code of the scope.
+#![tactic(auto)]
+
 ghost use Rattle.std.specs.Prelude.{true, ◌≡◌, leb, length};
 ghost use Rattle.dequantize.specs.Coefficients.{invAdjustedQuant};
 ghost use Rattle.control_points.specs.ControlPoints.{startingPoint, validPointPos};
@@ -40,7 +42,7 @@ pub extern "C" fn layers_inv_adjusted_quant(adjustment: i32) -> f32
 }
 
 // The running state after all double deltas, as numbers: the code's, the last control point, the Manhattan sum.
-#[derive(Drop)]
+#[derive(Clone, Copy)]
 struct Ran {
     number: u32,
     x: i32,
@@ -142,7 +144,7 @@ pub extern "C" fn layers_dequantize(
 }
 
 // The answer of a judging as numbers: the code's, the place and the summed estimate.
-#[derive(Drop)]
+#[derive(Clone, Copy)]
 struct JudgedTold {
     number: u32,
     place: usize,
@@ -214,7 +216,7 @@ pub extern "C" fn layers_judge(
 // ---- the curve and the walk
 
 // The answer of a layer that fills a lent buffer, as numbers: the code's, and how many records there are.
-#[derive(Drop)]
+#[derive(Clone, Copy)]
 struct Counted {
     number: u32,
     count: usize,
@@ -363,7 +365,7 @@ pub extern "C" fn layers_sums_at(
 // ---- segments
 
 // What a point makes, as eight floats; zeros where it makes nothing.
-#[derive(Drop)]
+#[derive(Clone, Copy)]
 struct Eight {
     made: bool,
     numbers: [f32; 8],

@@ -1,4 +1,6 @@
 // The inner functions of the numbers, exported for the host's comparisons only: the second static library.
+#![tactic(auto)]
+
 ghost use Rattle.std.specs.Prelude.{◌≡◌, pos};
 ghost use Rattle.std.specs.Float.Ieee as Ieee;
 ghost use Rattle.std.specs.Float.{binary32};

@@ -1,9 +1,11 @@
 // The value list: signed values, the limit, and the next value.
+#![tactic(auto)]
+
 ghost use Rattle.std.specs.Prelude.{◌≡◌};
 ghost use Rattle.list.specs.List.{unpackSigned, packSigned, limitOf};
 ghost use Rattle.list.specs.Steps.{next_of};
 
-#[derive(Drop)]
+#[derive(Clone, Copy)]
 pub enum Next {
     Value(u32),
     End,

@@ -1,4 +1,6 @@
 // `gauge table`: the row starts and the entries of a table as numbers; and `gauge check`: whether another maker's, in a text of that form, are those of this picture.
+#![tactic(auto)]
+
 ghost use Rattle.std.specs.Prelude.{◌≤◌, ◌<◌, length};
 
 use files::Loaded;

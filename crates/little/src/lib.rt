@@ -1,4 +1,6 @@
 // Numbers of four bytes, the least byte first: the number at an index of a slice of bytes, as it is or as a signed one, and a number put there.
+#![tactic(auto)]
+
 ghost use Rattle.std.specs.Prelude.{◌≡◌, ◌+◌, ◌*◌, ◌≤◌, ◌<◌, length, get_or};
 ghost use Rattle.std.proofs.lemmas.List.Edits.{sets};
 ghost use Rattle.little.specs.Little.{fourOf, numbersIn, unsignedOf, signedIn};

@@ -1,4 +1,6 @@
 // The scan of a row table that another maker offers: the first row whose starts are no good, or that lists a segment that it should not, twice or out of order.
+#![tactic(auto)]
+
 ghost use Rattle.std.specs.Prelude.{◌≡◌, ◌+◌, ◌*◌, ◌<◌, ◌≤◌, ◌^◌, length};
 ghost use Rattle.std.proofs.Math.Seq.{slice};
 ghost use Rattle.rows.specs.Rows.{in_row};
@@ -9,7 +11,7 @@ use codes::Code;
 use segments::Segment;
 
 // What the check of a table says: its entries, or a code with the row that is wrong.
-#[derive(Drop)]
+#[derive(Clone, Copy)]
 pub enum CheckAnswer {
     Done(u32),
     Refused(Code, usize),

@@ -1,5 +1,7 @@
 // The check of a row table that another maker offers. Where every row fits, a row is wrong exactly if it lists too few, and what lacks up to a row
 // never gets less with the next: the first such row is found by halving, with a sum over the segments at each step, and no working buffer is needed.
+#![tactic(auto)]
+
 ghost use Rattle.std.specs.Prelude.{◌≡◌, ◌+◌, ◌-◌, ◌*◌, ◌<◌, ◌≤◌, ◌^◌, ltb, length, get_or};
 ghost use Rattle.rows.specs.Rows.{start_of, in_row};
 ghost use Rattle.rows.specs.Steps.{first_of, past_of};

@@ -4,6 +4,8 @@
 //   u64             saturating_add, saturating_mul,
 //                   ceil_log2                                 specs/Saturating
 // specs/Arith has the operators on f32. proofs/ has the laws on floats and powers of two that several of the crates over this one cite.
+#![tactic(auto)]
+
 ghost use Rattle.std.specs.Prelude.{◌≡◌, ◌<◌};
 ghost use Rattle.numbers.specs.Magnitude.{absOf, sign_of, with_sign, top_of, minOf, max_of, isInfinite};
 ghost use Rattle.numbers.specs.Saturating.{satAdd, satMul, floorLog2, ceilLog2};

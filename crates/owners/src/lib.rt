@@ -1,4 +1,6 @@
 // The owners of the segments, each the number of the spline that made it: the room for segments that have one, and one number in adjacent cells.
+#![tactic(auto)]
+
 ghost use Rattle.std.specs.Prelude.{◌≡◌, ◌-◌, ◌≤◌, min, length, replicate};
 ghost use Rattle.std.proofs.lemmas.List.Edits.{sets};
 ghost use Rattle.owners.specs.Owners.{ownedRoom};

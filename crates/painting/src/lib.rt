@@ -1,4 +1,6 @@
 // All splines of a judged description, each drawn in turn: their segments in a lent buffer and their owners in another, or the first without room.
+#![tactic(auto)]
+
 ghost use Rattle.std.specs.Prelude.{◌≡◌, ◌≤◌, length};
 ghost use Rattle.points.specs.Points.{segmentRoom};
 ghost use Rattle.owners.specs.Owners.{ownedRoom};
@@ -12,7 +14,7 @@ use points::Filled;
 use strand_at::draw_one;
 
 // How many segments there are, or the number of the spline that has no room.
-#[derive(Drop)]
+#[derive(Clone, Copy)]
 pub enum Segmented {
     Count(usize),
     Room(usize),

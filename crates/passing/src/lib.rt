@@ -1,4 +1,6 @@
 // A description passed on in an open file: as a trace file, or as a list of decimal numbers.
+#![tactic(auto)]
+
 mod lines;
 
 ghost use Rattle.std.specs.Prelude.{◌≤◌};

@@ -1,4 +1,6 @@
 // The segments of a spline: each point of its walk gets its colours and width, and makes a segment or nothing.
+#![tactic(auto)]
+
 ghost use Rattle.std.specs.Prelude.{◌≡◌, ◌+◌, ◌*◌, ◌/◌, ◌≤◌, ◌<◌, length};
 ghost use Rattle.points.specs.Points.{curveTime, pointSegment, made_of, segmentRoom, addSegmentsFromPoints, filledOf, FilledOn};
 
@@ -6,7 +8,7 @@ use dequantize::Spline;
 use segments::Added;
 
 // How many segments there are now, or that there is no room for them.
-#[derive(Drop)]
+#[derive(Clone, Copy)]
 pub enum Filled {
     Count(usize),
     Room,

@@ -1,5 +1,7 @@
 // Judges the form of a points text: TEXT at the first byte that may not stand where it does, or at the end where more is due.
 // A bool y says that the number is the second of its pair.
+#![tactic(auto)]
+
 ghost use Rattle.std.specs.Prelude.{◌≡◌};
 ghost use Rattle.polyline.specs.declared.Stage.{Stage};
 ghost use Rattle.polyline.specs.Stages.{leadOf, beginOf, end_of, next_of, mayEnd, text_of};

@@ -1,4 +1,6 @@
 // One pair of a points text: the numbers that its bytes make, and the judgement on it behind the pairs before it.
+#![tactic(auto)]
+
 ghost use Rattle.std.specs.Prelude.{◌≡◌, Bool, ◌+◌, ◌-◌, ◌*◌, ◌≤◌, ◌<◌};
 ghost use Rattle.control_points.specs.ControlPoints.{in_range, validPointPos, samePoint};
 ghost use Rattle.polyline.specs.declared.Track.{Track};

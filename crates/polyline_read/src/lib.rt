@@ -1,5 +1,7 @@
 // Reads a points text into a lent start and lent double deltas, with zeros behind, or says what is wrong and where.
 // The form is judged first. Then the text is gone through, and its first pair is the start.
+#![tactic(auto)]
+
 ghost use Rattle.std.specs.Prelude.{◌≡◌, Bool, [], ◌∷◌, ◌≤◌, length};
 ghost use Rattle.std.proofs.lemmas.List.Edits.{sets};
 ghost use Rattle.list.specs.Steps.{f32Of};

@@ -1,4 +1,6 @@
 // Goes through a points text byte by byte; when a pair ends, it is judged and its double delta stored.
+#![tactic(auto)]
+
 ghost use Rattle.std.specs.Prelude.{◌≡◌, ◌+◌, ◌≤◌, ◌<◌, length, get_or, set};
 ghost use Rattle.std.proofs.lemmas.List.Edits.{sets};
 ghost use Rattle.polyline.specs.Spots.{cappedSpots, ended};
@@ -12,7 +14,7 @@ use polyline::{Figure, Judged, Track};
 use polyline_pairs::{double_delta, figure_at, grown, judge_pair, spot};
 
 // The pair that is being read, what the pairs before it led to, and how many cells are stored.
-#[derive(Drop)]
+#[derive(Clone, Copy)]
 pub struct Run {
     pub figure: Figure,
     pub track: Track,
@@ -20,7 +22,7 @@ pub struct Run {
 }
 
 // After a byte, or after all: on, or a refusal with its place.
-#[derive(Drop)]
+#[derive(Clone, Copy)]
 pub enum Turned {
     On(Run),
     Stop(Code, usize),

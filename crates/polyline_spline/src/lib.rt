@@ -1,4 +1,6 @@
 // Writes one spline as a points text: judged as building does, but for its length and area, then put where there is room.
+#![tactic(auto)]
+
 ghost use Rattle.std.specs.Prelude.{◌≡◌, Bool, cond, ◌∷◌, ◌+◌, ◌≤◌, ◌<◌, length};
 ghost use Rattle.std.proofs.lemmas.List.Edits.{sets};
 ghost use Rattle.control_points.specs.ControlPoints.{belowDeltaLimit, validPointPos, validDoubleDelta, startingPoint, laterPoints, controlPoints, standAt};
@@ -15,14 +17,14 @@ use polyline_pairs::{same, valid};
 use writer::WriteAnswer;
 
 // Where a spline begins, or the code that refuses it.
-#[derive(Drop)]
+#[derive(Clone, Copy)]
 pub enum Begun {
     At(Pair),
     Stop(Code),
 }
 
 // Where a text ends, or that there is no room for it.
-#[derive(Drop)]
+#[derive(Clone, Copy)]
 pub enum Put {
     Ends(usize),
     Full,

@@ -1,5 +1,7 @@
 // Writes the control points of one spline as a points text, with zeros behind, or says why they can't be written.
 // The spline is judged by itself: no other spline's points are looked at.
+#![tactic(auto)]
+
 ghost use Rattle.std.specs.Prelude.{◌≡◌, ◌+◌, ◌*◌, ◌≤◌, length, get_or, take};
 ghost use Rattle.std.specs.Float.{nan};
 ghost use Rattle.shape.specs.Shape.{points_of};

@@ -1,4 +1,6 @@
 // The fineness profile: the six rules in their order, and the check of a description. c are the coefficients of all splines, 128 a spline.
+#![tactic(auto)]
+
 ghost use Rattle.std.specs.Prelude.{◌≡◌, ◌*◌, ◌≤◌, length};
 ghost use Rattle.dequantize.specs.Judge.{descriptionOf};
 ghost use Rattle.profile.specs.Profile.{toldOf, splinesFinding, rulesFinding, answered, tells, profileOf};
@@ -8,7 +10,7 @@ use editions::{Edition, Limits, limits_of};
 use profile_rules::{Finding, counted, first_of, kept, spline_finding, within};
 
 // The description meets the profile; or the first broken rule and its spline; or a code and its place.
-#[derive(Drop)]
+#[derive(Clone, Copy)]
 pub enum ProfileAnswer {
     Meets,
     Broken(u32, usize),
@@ -16,7 +18,7 @@ pub enum ProfileAnswer {
 }
 
 // An answer in the terms of the table of codes: the code's number, the place, and the first count.
-#[derive(Drop)]
+#[derive(Clone, Copy)]
 pub struct ProfileTold {
     pub number: u32,
     pub place: usize,

@@ -1,4 +1,6 @@
 // Building by profile: SIZE, the check of the profile, then a build. A refusal leaves every lent cell zero.
+#![tactic(auto)]
+
 ghost use Rattle.std.specs.Prelude.{◌≡◌};
 ghost use Rattle.dequantize.specs.Judge.{descriptionOf};
 ghost use Rattle.table.specs.Table.{rooms_of, setting_of};

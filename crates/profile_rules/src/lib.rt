@@ -1,11 +1,13 @@
 // The rules of one spline of the fineness profile. c are the coefficients of all splines, 128 a spline.
+#![tactic(auto)]
+
 ghost use Rattle.std.specs.Prelude.{◌≡◌, ◌+◌, ◌*◌, ◌≤◌, ◌<◌, pos, length, get_or};
 ghost use Rattle.profile_rules.specs.Rules.{kept, firstFinding, counted, within, zeroFrom, deltasFinding, sigmaFinding, colourFinding, splineFinding};
 
 use editions::Limits;
 
 // Every rule kept, or the first broken rule and its spline.
-#[derive(Drop)]
+#[derive(Clone, Copy)]
 pub enum Finding {
     Kept,
     Broken(u32, usize),

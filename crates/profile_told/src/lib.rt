@@ -1,4 +1,6 @@
 // What building by profile answers and tells, and SIZE, which it tests first.
+#![tactic(auto)]
+
 ghost use Rattle.std.specs.Prelude.{◌≡◌};
 ghost use Rattle.verdict.specs.Verdict.{sized};
 ghost use Rattle.profile_told.specs.Told.{toldOf};
@@ -6,7 +8,7 @@ ghost use Rattle.profile_told.specs.Told.{toldOf};
 use codes::Code;
 
 // What a build answers; or the first broken rule and its spline.
-#[derive(Drop)]
+#[derive(Clone, Copy)]
 pub enum ProfileBuildAnswer {
     Done(u32, u32, u64, u32),
     Broken(u32, usize),
@@ -14,7 +16,7 @@ pub enum ProfileBuildAnswer {
 }
 
 // An answer in the terms of the table of codes: the code's number, the place, and the counts.
-#[derive(Drop)]
+#[derive(Clone, Copy)]
 pub struct ProfileBuildTold {
     pub number: u32,
     pub place: usize,

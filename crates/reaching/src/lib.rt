@@ -1,4 +1,6 @@
 // The rows of a built table in words.
+#![tactic(auto)]
+
 ghost use Rattle.std.specs.Prelude.{◌≤◌};
 
 use canvas::Task;

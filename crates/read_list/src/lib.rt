@@ -1,4 +1,6 @@
 // Reads the whole value list into lent buffers: each step takes the next value apart or stops with SHORT, and hands on the part of the list that begins after it.
+#![tactic(auto)]
+
 ghost use Rattle.std.specs.Prelude.{[], ◌*◌, ◌≤◌, length};
 ghost use Rattle.list.specs.List.{afterStarts, read_of};
 ghost use Rattle.read_list.specs.Rest.{rooms_of, RestLeft, ListLeft};
@@ -9,7 +11,7 @@ use read_splines::{Points, read_splines};
 use read_steps::{Step, read_starts};
 
 // splines, points and adjustment; or a code and its place
-#[derive(Drop)]
+#[derive(Clone, Copy)]
 pub enum ReadAnswer {
     Done(u32, u32, i32),
     Refused(Code, usize),

@@ -1,4 +1,6 @@
 // Reads the splines of the list: point count, double deltas and coefficients of each.
+#![tactic(auto)]
+
 ghost use Rattle.std.specs.Prelude.{◌*◌, ◌≤◌, ◌<◌, length};
 ghost use Rattle.list.specs.List.{splineIn, splinesOf};
 ghost use Rattle.read_splines.specs.Splines.{SplineLeft, SplinesLeft};
@@ -7,7 +9,7 @@ use codes::Code;
 use list::{Next, head};
 use read_steps::{Step, read_coefficients, read_deltas};
 
-#[derive(Drop)]
+#[derive(Clone, Copy)]
 pub enum Points {
     Count(u32),
     Stop(Code, usize),

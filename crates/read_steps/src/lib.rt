@@ -1,5 +1,7 @@
 // The loops that read the list: starts, double deltas and coefficients, each into a lent buffer.
 // Each takes the next value apart or stops with SHORT, and goes on with the part of the list that begins after it.
+#![tactic(auto)]
+
 ghost use Rattle.std.specs.Prelude.{◌≡◌, Bool, ◌*◌, ◌≤◌, ◌<◌, ◌^◌, leb, pos, nat_abs, ◌+ℤ◌, length};
 ghost use Rattle.std.specs.Int.Signed.{mag};
 ghost use Rattle.list.specs.List.{unpackSigned, posLimit, deltaLimit, beyond, coordinate, startsIn, deltasIn, coefficientsIn};
@@ -9,13 +11,13 @@ ghost use Rattle.read_steps.specs.Steps.{pair_of, floats, Filled};
 use codes::Code;
 use list::{Next, head, unpack_signed};
 
-#[derive(Drop)]
+#[derive(Clone, Copy)]
 pub enum Pair {
     Both(u32, u32),
     Short,
 }
 
-#[derive(Drop)]
+#[derive(Clone, Copy)]
 pub enum Step {
     Done,
     Stop(Code, usize),

@@ -1,4 +1,6 @@
 // Reads the value list into lent buffers: what it holds, with zeros behind, or a refusal that leaves them zero.
+#![tactic(auto)]
+
 ghost use Rattle.std.specs.Prelude.{◌≡◌};
 ghost use Rattle.reader.specs.Read.{leaves, rooms_of, readOutcome};
 ghost use Rattle.reader.specs.Rest.{Wiped};

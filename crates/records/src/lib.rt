@@ -1,4 +1,6 @@
 // Segments with their owners as a lent slice of records, over the flat core: filled by copying, read by number, and drawn one by one, for a desk or whatever is hidden.
+#![tactic(auto)]
+
 ghost use Rattle.std.specs.Prelude.{◌≡◌, [], ◌∷◌, length, get_or};
 ghost use Rattle.desks.specs.Desks.{sight_of};
 ghost use Rattle.draw.specs.Draw.{three, leaves};

@@ -1,4 +1,6 @@
 // Refusals in words, each with its code and place, and the status that they lead to.
+#![tactic(auto)]
+
 mod descriptions;
 mod points;
 mod traces;

@@ -1,5 +1,7 @@
 // Reads the stored answers of the oracle from the files beside it, checks each file's frame, and says how many cases of each kind it holds
 // and whether the port agrees with them.
+#![tactic(auto)]
+
 mod agree;
 mod case_names;
 mod lists;

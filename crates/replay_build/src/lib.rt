@@ -1,5 +1,7 @@
 // The build of the port against stored answers: whether what it answers to a case's input words, and leaves in the lent buffers, is the
 // case's output words.
+#![tactic(auto)]
+
 ghost use Rattle.std.specs.Prelude.{◌≡◌, true, ◌≤◌, length, get_or};
 ghost use Rattle.stored.specs.Stored.{BeginsWith};
 ghost use Rattle.dequantize.specs.Judge.{descriptionOf};

@@ -1,4 +1,6 @@
 // The layers of the port against stored answers, a function a kind: whether the answer to a case's input words is its output words.
+#![tactic(auto)]
+
 ghost use Rattle.std.specs.Prelude.{◌≡◌, true, ◌*◌, length, get_or, eqb};
 ghost use Rattle.segments.specs.Segment.{addSegment};
 ghost use Rattle.segments.specs.declared.Added.TheVariants.{Made};

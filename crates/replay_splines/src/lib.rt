@@ -1,4 +1,6 @@
 // One spline of the port against stored answers: whether the answer to a case's input words is its output words.
+#![tactic(auto)]
+
 ghost use Rattle.std.specs.Prelude.{◌≡◌, true, ◌+◌, ◌/◌, ◌≤◌, length};
 ghost use Rattle.control_points.specs.ControlPoints.{validPointPos, startingPoint};
 ghost use Rattle.dequantize.specs.Dequantize.{dequantizeOf};

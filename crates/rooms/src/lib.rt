@@ -1,4 +1,6 @@
 // A list or a trace file that is read in the fixed rooms of the program, lent buffers on the stack, and what is asked of its description.
+#![tactic(auto)]
+
 ghost use Rattle.std.specs.Prelude.{◌≤◌};
 
 use canvas::{Asked, Task};

@@ -1,6 +1,8 @@
 // Roots and lengths: the f32 nearest to each, a tie to the even one, for all input.
 //   root            root, root_by                             specs/Root, specs/RootBy
 //   length          length                                    specs/Length
+#![tactic(auto)]
+
 ghost use Rattle.std.specs.Prelude.{◌≡◌, ◌<◌, T};
 ghost use Rattle.std.specs.Float.{binary32};
 ghost use Rattle.std.specs.Float.Ieee.Positive.{positive};
@@ -82,7 +84,7 @@ fn nearest_root(n: u64) -> u64
     if n - q * q <= q { q } else { q + 1 }
 }
 
-#[derive(Drop)]
+#[derive(Clone, Copy)]
 struct Parts {
     m: u64,
     e: u32,

@@ -1,4 +1,6 @@
 // A segment of a spline: which points make one, its eight floats, and the rows and columns that it touches.
+#![tactic(auto)]
+
 ghost use Rattle.std.specs.Prelude.{◌≡◌, ◌+◌, ◌*◌, ◌≤◌, length};
 ghost use Rattle.std.proofs.lemmas.List.Edits.{sets};
 ghost use Rattle.segments.specs.Segment.{skipped, maxColor, distanceExp, maxDistance, addSegment, segmentAt, eightOf};
@@ -6,7 +8,7 @@ ghost use Rattle.segments.specs.Ranges.{rows_of, columnsOf};
 
 pub use ends::{column_first, column_past};
 
-#[derive(Drop)]
+#[derive(Clone, Copy)]
 pub struct Segment {
     pub center_x: f32,
     pub center_y: f32,
@@ -19,14 +21,14 @@ pub struct Segment {
 }
 
 // What a point of the walk makes.
-#[derive(Drop)]
+#[derive(Clone, Copy)]
 pub enum Added {
     Made(Segment),
     Nothing,
 }
 
 // Rows or columns: from the first up to, not including, the one past the last.
-#[derive(Drop)]
+#[derive(Clone, Copy)]
 pub struct Range {
     pub first: u32,
     pub past: u32,

@@ -1,4 +1,6 @@
 // What one segment adds at a distance from its centre, and three channels with it added by such intensities: `draw_segment_inner` of spline.rs.
+#![tactic(auto)]
+
 ghost use Rattle.std.specs.Prelude.{◌≡◌, cond, ◌+◌, ◌≤◌, length, get_or};
 ghost use Rattle.std.specs.Float.{nan};
 ghost use Rattle.std.specs.Float.Ieee.{neg};

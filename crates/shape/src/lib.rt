@@ -1,4 +1,6 @@
 // SHAPE: whether the lengths of a description agree.
+#![tactic(auto)]
+
 ghost use Rattle.std.specs.Prelude.{◌≡◌, eqb};
 ghost use Rattle.shape.specs.Shape.{points_of, shaped};
 

@@ -1,6 +1,8 @@
 // Which room a build was refused for. A build of no rows needs no entries, and what its area is limited to at level 10 is above every limit at
 // level 5: so it is refused for the path, the walk or the segments only. A first spline is never refused for segments: there is room for more of them
 // than for points of a walk.
+#![tactic(auto)]
+
 ghost use Rattle.std.specs.Prelude.{◌≡◌};
 
 use codes::Code;
@@ -8,7 +10,7 @@ use segments::Segment;
 use table::BuildAnswer;
 
 // How many segments are drawn, or the spline that has no room.
-#[derive(Drop)]
+#[derive(Clone, Copy)]
 enum Counted {
     Count(u32),
     Short(usize),

@@ -1,4 +1,6 @@
 // What is asked of a built table: its rows, its bands, a picture, the traces that have a pixel, why a segment sits where it does, its row starts and entries, or whether another maker's are they.
+#![tactic(auto)]
+
 ghost use Rattle.std.specs.Prelude.{◌≤◌};
 
 use canvas::{Asked, Task};

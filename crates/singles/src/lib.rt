@@ -1,4 +1,6 @@
 // One segment added to a part of a row, unless it is hidden for the desk.
+#![tactic(auto)]
+
 ghost use Rattle.std.specs.Prelude.{◌≡◌, [], ◌∷◌, ◌+◌, ◌*◌, ◌^◌, ◌<◌, ◌≤◌, length, get_or};
 ghost use Rattle.shade.specs.Edit.{edit, firstCells};
 ghost use Rattle.desks.specs.Desks.{sight_of, shown};

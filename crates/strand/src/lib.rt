@@ -1,4 +1,6 @@
 // From a spline to its segments: its path, its walk, and what each point of the walk makes, in lent buffers.
+#![tactic(auto)]
+
 ghost use Rattle.std.specs.Prelude.{◌≡◌, ◌*◌, ◌/◌, ◌≤◌, length};
 ghost use Rattle.points.specs.Points.{segmentRoom, filledOf, FilledOn};
 ghost use Rattle.control_points.specs.ControlPoints.{standAt};

@@ -1,4 +1,6 @@
 // The strand of one spline of a judged description: it is dequantized again from its number, and drawn from its start.
+#![tactic(auto)]
+
 ghost use Rattle.std.specs.Prelude.{◌≡◌, ◌+◌, ◌*◌, ◌≤◌, length, get_or, take, drop};
 ghost use Rattle.std.specs.Float.{nan};
 ghost use Rattle.points.specs.Points.{segmentRoom};

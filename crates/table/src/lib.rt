@@ -1,5 +1,7 @@
 // The build: all splines to segments, and the rows that list them, in lent buffers. All checks come before any drawing, and a refusal leaves
 // every lent cell zero.
+#![tactic(auto)]
+
 ghost use Rattle.std.specs.Prelude.{◌≡◌, ◌≤◌, ◌<◌, ◌^◌, length};
 ghost use Rattle.dequantize.specs.Judge.{Shaped, descriptionOf};
 ghost use Rattle.curve.specs.Curve.{pathRoom};

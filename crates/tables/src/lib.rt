@@ -1,4 +1,6 @@
 // The table of a description, built in fixed rooms, and what is asked of it.
+#![tactic(auto)]
+
 ghost use Rattle.std.specs.Prelude.{◌≤◌};
 ghost use Rattle.tables.specs.Builds.{builtStatus};
 
@@ -32,7 +34,7 @@ const ENTRIES: usize = 16777216;
 const ROW_STARTS: usize = 16385;
 
 // The status; or the rooms are too short for the table.
-#[derive(Drop)]
+#[derive(Clone, Copy)]
 pub enum Built {
     Status(u8),
     Room,

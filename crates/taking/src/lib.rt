@@ -1,4 +1,6 @@
 // `gauge svg in`: the start and the double deltas of each trace of a drawing.
+#![tactic(auto)]
+
 ghost use Rattle.std.specs.Prelude.{◌≤◌};
 ghost use Rattle.taking.specs.Steps.{statusIn};
 
@@ -13,14 +15,14 @@ const SHORT_DELTAS: usize = 32768;
 const DELTAS: usize = 2097152;
 
 // Which traces are asked for: all, or that of a number.
-#[derive(Drop)]
+#[derive(Clone, Copy)]
 pub enum Wanted {
     All,
     One(u32),
 }
 
 // After a polyline: whether it was told; or the status.
-#[derive(Drop)]
+#[derive(Clone, Copy)]
 enum Step {
     On(bool),
     Stop(u8),

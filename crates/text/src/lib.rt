@@ -1,16 +1,18 @@
 // Decimal numbers in a text, with white space between them.
+#![tactic(auto)]
+
 ghost use Rattle.std.specs.Prelude.{◌≡◌, ◌-◌, ◌≤◌, length, get_or};
 ghost use Rattle.text.specs.Text.{isSpace, space_of, digitOf, step_of, ended, text_of, TurnLeaves, ReadAs, feedOf, line_of, sameOf};
 
 // Where a text stands: between numbers, or inside one that is n so far.
-#[derive(Drop)]
+#[derive(Clone, Copy)]
 pub enum Scan {
     Between,
     Inside(u32),
 }
 
 // What the next byte makes of that: it goes on, a number ends, the byte is no part of a number, or the number is 2^32 or more.
-#[derive(Drop)]
+#[derive(Clone, Copy)]
 pub enum Step {
     On(Scan),
     Ends(u32),
@@ -19,7 +21,7 @@ pub enum Step {
 }
 
 // How many numbers were stored; or the place of the byte that stops the reading.
-#[derive(Drop)]
+#[derive(Clone, Copy)]
 pub enum Parsed {
     Values(usize),
     Stranger(usize),
@@ -28,7 +30,7 @@ pub enum Parsed {
 }
 
 // After one byte: on, with so many numbers stored, or the end.
-#[derive(Drop)]
+#[derive(Clone, Copy)]
 enum Turned {
     On(Scan, usize),
     Stop(Parsed),

@@ -2,6 +2,8 @@
 //   whole numbers   nearest_u32_to_f32, _i32, _u64, _i64      Rust's `as` (lib.Ieee: of_int)
 //   f64             nearest_f64_to_f32                        specs/Narrow
 // specs/Digits has a float as digits and their place. scale and magnitude are for `roots` too.
+#![tactic(auto)]
+
 ghost use Rattle.std.specs.Prelude.{◌≡◌, false, ◌≤◌, ◌<◌, ◌^◌, T, pos, nat_abs};
 ghost use Rattle.std.specs.Float.Ieee as Ieee;
 ghost use Rattle.std.specs.Float.{binary32, binary64};
@@ -90,7 +92,7 @@ pub fn nearest_i32_to_f32(z: i32) -> f32
 
 // ---- f64
 
-#[derive(Drop)]
+#[derive(Clone, Copy)]
 struct WideParts {
     m: u64,
     e: u64,

@@ -1,4 +1,6 @@
 // What a call tells C: the code's number, which it returns, and five numbers: the place, then the counts, then zeros.
+#![tactic(auto)]
+
 ghost use Rattle.std.specs.Prelude.{◌≡◌};
 ghost use Rattle.told.specs.Told.{signed_of, toldRefusal, toldHide, toldProfile, toldProfileBuild, toldBands, toldIn};
 
@@ -20,7 +22,7 @@ pub fn signed(n: usize) -> i64
 }
 
 // A call's answer for C: the code's number, and what the five numbers tell.
-#[derive(Drop)]
+#[derive(Clone, Copy)]
 pub struct Told {
     pub number: u32,
     pub place: i64,

@@ -1,4 +1,6 @@
 // What reading and writing a list, and reading a trace file, tell C.
+#![tactic(auto)]
+
 ghost use Rattle.std.specs.Prelude.{◌≡◌};
 ghost use Rattle.told.specs.Told.{toldRead, toldWrite, toldFile};
 

@@ -1,4 +1,6 @@
 // What building a table, checking one, drawing from it and asking its reach tell C.
+#![tactic(auto)]
+
 ghost use Rattle.std.specs.Prelude.{◌≡◌};
 ghost use Rattle.told.specs.Told.{toldBuild, toldDraw, toldReach, toldCheck};
 

@@ -1,4 +1,6 @@
 // `gauge touch`: the traces that have a pixel, the nearest first.
+#![tactic(auto)]
+
 ghost use Rattle.std.specs.Prelude.{◌≤◌};
 
 // As many traces as a list that is read has at most.

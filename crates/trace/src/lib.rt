@@ -1,1 +1,3 @@
 // The trace file: what it holds, and what reading and writing one find. Definitions and their laws only.
+#![tactic(auto)]
+

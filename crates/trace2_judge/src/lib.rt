@@ -1,5 +1,7 @@
 // Judges the bytes of a trace file of version 2: the first fault, in the order of the checks, with its place.
 // The header has nine numbers, the ninth of which is the edition; what lies behind it `trace_judge` judges as in version 1.
+#![tactic(auto)]
+
 ghost use Rattle.std.specs.Prelude.{◌≡◌, [], ◌∷◌, ◌++◌, ◌≤◌, length, get_or};
 ghost use Rattle.codes.specs.declared.Code.{Code};
 ghost use Rattle.writer.specs.Write.{check, firstFault};

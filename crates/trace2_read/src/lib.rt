@@ -1,5 +1,7 @@
 // Reads a trace file of either version into lent buffers: what it holds and its edition, with zeros behind, or a refusal that leaves them zero.
 // A file that does not say version 2 is left to `trace_read`; the steps here are those of a header of nine numbers, the ninth of which is the edition.
+#![tactic(auto)]
+
 ghost use Rattle.std.specs.Prelude.{◌≡◌, [], length, get_or};
 ghost use Rattle.list.specs.List.{Got};
 ghost use Rattle.reader.specs.Read.{leaves, outcome, rooms_of};

@@ -1,5 +1,7 @@
 // Writes the trace file of a description in either version into lent bytes, with zeros behind, or says what can't be written and where.
 // Version 1 with edition 1 is left to `trace_write`; the steps here are those of a header of nine numbers, the ninth of which is the edition.
+#![tactic(auto)]
+
 ghost use Rattle.std.specs.Prelude.{◌≡◌, Bool, [], ◌∷◌, ◌+◌, ◌*◌, ◌≤◌, ◌<◌, ◌^◌, length};
 ghost use Rattle.std.proofs.lemmas.List.Edits.{sets};
 ghost use Rattle.writer.specs.Write.{firstFault, leaves};

@@ -1,5 +1,7 @@
 // Judges a description that is to be written as a trace file: the first fault, in the order of the checks, with the byte at which the number would stand.
 // s and p are the splines and the points, h is how many numbers the header has, and `from` is the number at which a part begins.
+#![tactic(auto)]
+
 ghost use Rattle.std.specs.Prelude.{◌≡◌, ◌+◌, ◌*◌, ◌≤◌, ◌<◌, ◌^◌, length};
 ghost use Rattle.codes.specs.declared.Code.{Code};
 ghost use Rattle.writer.specs.Write.{firstFault};

@@ -1,5 +1,7 @@
 // Judges the bytes of a trace file: the first fault, in the order of the checks, with its place.
 // Sizes and offsets are told in 64 bits from counts of 32, so that nothing wraps; s and p are the splines and the points of the header, h is how many numbers it has.
+#![tactic(auto)]
+
 ghost use Rattle.std.specs.Prelude.{◌≡◌, not, ◌+◌, ◌*◌, ◌≤◌, eqb, length, get_or};
 ghost use Rattle.writer.specs.Write.{firstFault};
 ghost use Rattle.little.specs.Little.{numbersIn};

@@ -1,4 +1,6 @@
 // Laws on the contracts of `trace_read` and `trace_write`, and functions that do nothing: what their contracts say of a lent slice holds of every one.
+#![tactic(auto)]
+
 ghost use Rattle.std.specs.Prelude.{◌<◌, ◌^◌};
 ghost use Rattle.std.specs.Int.Signed.{mag};
 ghost use Rattle.little.specs.Little.{Bytes, Numbers, Signeds};

@@ -1,4 +1,6 @@
 // A trace file in which no fault was found, loaded into the fronts of lent buffers: its four parts, and what the header says of them. No number is tested here.
+#![tactic(auto)]
+
 ghost use Rattle.std.specs.Prelude.{◌≡◌, Bool, [], map, ◌+◌, ◌*◌, ◌≤◌, length};
 ghost use Rattle.codes.specs.declared.Code.{Code};
 ghost use Rattle.list.specs.List.{Got};

@@ -1,5 +1,7 @@
 // Judges the parts of a trace file that lie behind its header: the counts, the starts and the double deltas.
 // s and p are the splines and the points of the header, h is how many numbers it has.
+#![tactic(auto)]
+
 ghost use Rattle.std.specs.Prelude.{◌≡◌, ◌+◌, ◌*◌, ◌≤◌, eqb, length};
 ghost use Rattle.codes.specs.declared.Code.{Code};
 ghost use Rattle.shape.specs.Shape.{points_of};

@@ -1,5 +1,7 @@
 // The numbers of a trace file, put into lent bytes: a part of it, the header of version 1, and what follows it. What was judged before is asked for: no number is tested here.
 // `from` is the number of the file at which a part begins.
+#![tactic(auto)]
+
 ghost use Rattle.std.specs.Prelude.{◌≡◌, Bool, [], map, ◌+◌, ◌*◌, ◌≤◌, ◌<◌, ◌^◌, length};
 ghost use Rattle.std.proofs.lemmas.List.Edits.{sets};
 ghost use Rattle.codes.specs.declared.Code.{Code};

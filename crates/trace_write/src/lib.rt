@@ -1,4 +1,6 @@
 // Writes the trace file of a description into lent bytes, with zeros behind, or says what can't be written and where.
+#![tactic(auto)]
+
 ghost use Rattle.std.specs.Prelude.{◌≡◌, length};
 ghost use Rattle.writer.specs.Write.{leaves};
 ghost use Rattle.trace.specs.Write.{writeTraceOf};

@@ -1,4 +1,6 @@
 // The transform: the colours and the width of a spline at a place of its path, from the four rows of coefficients.
+#![tactic(auto)]
+
 ghost use Rattle.std.specs.Prelude.{◌≡◌, ◌⊎◌, ◌+◌, ◌-◌, ◌%◌, ◌<◌, get_or};
 ghost use Rattle.std.specs.Float.{nan};
 ghost use Rattle.numbers.specs.Arith.{◌⊗◌};
@@ -10,7 +12,7 @@ use dequantize::Spline;
 use eights::{cosines, fed};
 
 // The colours and the width of a spline at a place.
-#[derive(Drop)]
+#[derive(Clone, Copy)]
 pub struct Sums {
     pub x: f32,
     pub y: f32,

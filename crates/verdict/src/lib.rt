@@ -1,4 +1,6 @@
 // The verdict on a build: all checks before any drawing, in their order.
+#![tactic(auto)]
+
 ghost use Rattle.std.specs.Prelude.{◌≡◌};
 ghost use Rattle.dequantize.specs.Judge.{descriptionOf};
 ghost use Rattle.verdict.specs.Verdict.{sized, verdictOf};

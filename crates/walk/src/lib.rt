@@ -1,18 +1,20 @@
 // The walk along a path: a point at each unit of length.
+#![tactic(auto)]
+
 ghost use Rattle.std.specs.Prelude.{◌≡◌, ◌+◌, ◌*◌, ◌≤◌, length};
 ghost use Rattle.walk.specs.Walk.{distance_of, pointAt, stretchOf, walkIn, walkRoom, walkedOf, WalkedOn, walkLength};
 
 use curve::Point;
 
 // Where a unit of length leads: to the path's end with what was walked until there, or to a point before the path's point at the index.
-#[derive(Drop)]
+#[derive(Clone, Copy)]
 enum Stretch {
     Ends(Point, f32),
     Emits(Point, usize),
 }
 
 // The points of a walk, three numbers each, or that there is no room for them.
-#[derive(Drop)]
+#[derive(Clone, Copy)]
 pub enum Walked {
     Points(usize),
     Room,

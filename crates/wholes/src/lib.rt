@@ -1,6 +1,8 @@
 // A float made whole, for all input, NaN, infinities and subnormals included.
 //   whole parts     floor, ceil, round                        specs/Whole
 // specs/Small says what the steps take, a number above 0 and below 2^23, and what they make; half_of is for `kinds` too.
+#![tactic(auto)]
+
 ghost use Rattle.std.specs.Prelude.{◌≡◌, cond, pos};
 ghost use Rattle.std.specs.Float.Ieee as Ieee;
 ghost use Rattle.std.specs.Float.{binary32};

@@ -1,4 +1,6 @@
 // Sentences: a text in which each `#` stands for the next of some numbers, and each `~` for the next one with its sign.
+#![tactic(auto)]
+
 ghost use Rattle.std.specs.Prelude.{◌≡◌, ◌≤◌, length};
 ghost use Rattle.io.specs.Counts.{IsPrefixLen};
 

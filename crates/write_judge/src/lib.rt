@@ -1,4 +1,6 @@
 // What refuses a description that is to be written: the checks in their order, but for the room.
+#![tactic(auto)]
+
 ghost use Rattle.std.specs.Prelude.{◌≡◌, ◌+◌, ◌*◌, ◌%◌, ◌^◌, ◌<◌, Bool, length, pos, nat_le, slice_index_or, unsigned_abs};
 ghost use Rattle.shape.specs.Shape.{points_of};
 ghost use Rattle.list.specs.List.{deltaLimit};
@@ -8,7 +10,7 @@ use codes::Code;
 use shape::shape_good;
 
 // What the checks say.
-#[derive(Drop)]
+#[derive(Clone, Copy)]
 pub enum Verdict {
     Fine,
     Fault(Code, usize),

@@ -1,4 +1,6 @@
 // Laws on the contract of `write`, and one function that does nothing: what its contract says of a lent slice holds of every one.
+#![tactic(auto)]
+
 ghost use Rattle.write_laws.specs.Floats.{Floats};
 
 fn nothing() {}

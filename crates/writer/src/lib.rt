@@ -1,4 +1,6 @@
 // The writer: a description as a list of values.
+#![tactic(auto)]
+
 ghost use Rattle.std.specs.Prelude.{◌≡◌, length};
 ghost use Rattle.writer.specs.Write.{leaves, writeOf};
 
@@ -8,7 +10,7 @@ use list::limit;
 use write_judge::{Verdict, judge};
 use write_steps::put_list;
 
-#[derive(Drop)]
+#[derive(Clone, Copy)]
 pub enum WriteAnswer {
     Done(usize),
     Refused(Code, usize),

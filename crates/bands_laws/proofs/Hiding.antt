@@ -12,7 +12,7 @@ use borrow.Author.Tests.{eqb-true, eqb-false}
 use Rattle.shade.proofs.Edits.{lt-or-ge}
 use Rattle.desks.specs.Desks.{Sight, sight_of, ownerIn, hiddenIn, shown}
 use Rattle.desks.specs.Hide.{hideOf}
-use Rattle.desks.proofs.Hides.{hide-length, hide-keeps}
+use Rattle.desks.proofs.Hiding.{hide-length, hide-keeps}
 use Rattle.checks.specs.Tables.{Table, row_of, shownOf}
 use Rattle.checks.specs.Refusals.{RowBadFor}
 use Rattle.checks.specs.Refusals as codes
