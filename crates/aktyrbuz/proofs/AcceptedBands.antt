@@ -4,41 +4,41 @@ use mathlib.Core.List.{List}
 use Prim.Native.Nat.{ℕ, ◌*◌, ◌<◌}
 use native.Mathlib.Omega.{arith}
 use lib.ListN.{take}
-use Rattle.segments.specs.Segment.{segmentAt}
+use Rattle.segments.specs.Segment.{segment_at}
 use Rattle.desks.specs.Desks.{Sight}
 use Rattle.checks.specs.Tables.{Table, table_of}
 use Rattle.checks.specs.Refusals.{CountsFit}
 use Rattle.checks.specs.Alike.{Kept}
-use Rattle.checks.proofs.Alike.{kept-segment}
-use Rattle.bands.specs.Calls.{bandsOf, bandOf}
+use Rattle.checks.proofs.Alike.{kept_segment}
+use Rattle.bands.specs.Calls.{bands_of, band_of}
 use Rattle.makers_laws.proofs.Tables.{Right}
-use Rattle.makers_laws.proofs.Alike.{right-alike}
+use Rattle.makers_laws.proofs.Alike.{right_alike}
 use Rattle.bands_laws.specs.Summaries.{AlikeWhole}
-use Rattle.bands_laws.proofs.Alike.{bands-alike, refreshed-alike}
+use Rattle.bands_laws.proofs.Alike.{bands_alike, refreshed_alike}
 
-module _ {t u : Table} (count : t.segmentCount ≡ u.segmentCount) (height : t.height ≡ u.height) (floats : take (8 * t.segmentCount) t.segments ≡ take (8 * t.segmentCount) u.segments)
+module _ {t u : Table} (count : t.segment_count ≡ u.segment_count) (height : t.height ≡ u.height) (floats : take (8 * t.segment_count) t.segments ≡ take (8 * t.segment_count) u.segments)
     (r : Right t) (q : Right u) (f : CountsFit t) (g : CountsFit u) (s : Sight) where
   -- the segments in use are the same where their floats are
-  beside : Kept t (table_of u.segments t.segmentCount t.entries t.entryCount t.rowStarts t.height)
-  beside = record { segment-count = refl; entry-count = refl; height = refl; segments = floats; entries = refl; starts = refl }
+  beside : Kept t (table_of u.segments t.segment_count t.entries t.entry_count t.row_starts t.height)
+  beside = record { segment_count_lem = refl; entry_count_lem = refl; height = refl; segments = floats; entries = refl; starts = refl }
 
   alike : AlikeWhole t s u s
   alike = record {
-    fit = (λ h. record { table = g; owners-fit = omega (arith, h.owners-fit, count) }, λ h. record { table = f; owners-fit = omega (arith, h.owners-fit, count) });
+    fit = (λ h. record { table = g; owners_fit = omega (arith, h.owners_fit, count) }, λ h. record { table = f; owners_fit = omega (arith, h.owners_fit, count) });
     height = height;
     sights = record { desk = refl; splines = refl; lent = (λ h. h, λ h. h); own_bits = record { own_bits = λ j h. refl } };
     rows = λ y h. record {
-      tables = right-alike count height (kept-segment beside) r q f g y h;
+      tables = right_alike count height (kept_segment beside) r q f g y h;
       sights = record { desk = refl; splines = refl; lent = (λ h. h, λ h. h); own_bits = record { own_bits = λ j h. refl } };
-      owners-fit = (λ h. omega (arith, h, count), λ h. omega (arith, h, count));
+      owners_fit = (λ h. omega (arith, h, count), λ h. omega (arith, h, count));
       owners = λ j h m. refl;
     };
   }
 
-  pub bands-same : (W room : ℕ) → bandsOf t s W room ≡ bandsOf u s W room
-  bands-same = bands-alike alike
+  pub bands_same : (W room : ℕ) → bands_of t s W room ≡ bands_of u s W room
+  bands_same = bands_alike alike
 
-  pub band-same : (W b : ℕ) (cells : List ℕ) → bandOf t s W b cells ≡ bandOf u s W b cells
-  band-same = refreshed-alike alike
+  pub band_same : (W b : ℕ) (cells : List ℕ) → band_of t s W b cells ≡ band_of u s W b cells
+  band_same = refreshed_alike alike
 
 -- Assumes nothing.

@@ -10,7 +10,7 @@ use Rattle.reader.proofs.Promises as reading
 use Rattle.writer.specs.Write.{WriteOutcome}
 use Rattle.write_laws.proofs.Words as writing
 use Rattle.aktyrbuz.specs.ListCodes.{ReadDone, ReadCodes, WriteCodes, WrittenSize}
-use Rattle.aktyrbuz.proofs.Calls.{read-equation, write-equation}
+use Rattle.aktyrbuz.proofs.Calls.{read_equation, write_equation}
 
 answered : (o : ReadOutcome) → ((c : Code) (p : ℕ) → o.answer ≡ Refused c p → ⊥) → ReadDone o
 answered o none = go o.answer refl
@@ -19,35 +19,35 @@ answered o none = go o.answer refl
     go (Done s p a) e = record { splines = s; points = p; adjustment = a; is = e }
     go (Refused c p) e = absurd (none c p e)
 
-pub read-codes : ReadCodes
-read-codes = record {
+pub read_codes : ReadCodes
+read_codes = record {
   exactly = λ l configured pixels rooms o r c p.
-      let is = read-equation l configured pixels rooms o r in (
-        λ e. reading.refused-exactly configured pixels rooms l o is c p e,
-        λ g. (reading.given-exactly configured pixels rooms l o is c p g).answer,
+      let is = read_equation l configured pixels rooms o r in (
+        λ e. reading.refused_exactly configured pixels rooms l o is c p e,
+        λ g. (reading.given_exactly configured pixels rooms l o is c p g).answer,
       );
-  told = λ l configured pixels rooms o r c p g. reading.given-exactly configured pixels rooms l o (read-equation l configured pixels rooms o r) c p g;
-  else-done = λ l configured pixels rooms o r none.
-      answered o (λ c p e. none c p (reading.refused-exactly configured pixels rooms l o (read-equation l configured pixels rooms o r) c p e));
+  told = λ l configured pixels rooms o r c p g. reading.given_exactly configured pixels rooms l o (read_equation l configured pixels rooms o r) c p g;
+  else_done = λ l configured pixels rooms o r none.
+      answered o (λ c p e. none c p (reading.refused_exactly configured pixels rooms l o (read_equation l configured pixels rooms o r) c p e));
 }
 
-pub write-codes : WriteCodes
-write-codes = record {
+pub write_codes : WriteCodes
+write_codes = record {
   exactly = λ ns ss ds cs a configured pixels room o w c p.
-      let is = ap (λ (u : WriteOutcome). u.answer) (write-equation ns ss ds cs a configured pixels room o w) in
-      let t = writing.refused-exactly-when ns ss ds cs a configured pixels room c p in
+      let is = ap (λ (u : WriteOutcome). u.answer) (write_equation ns ss ds cs a configured pixels room o w) in
+      let t = writing.refused_exactly_when ns ss ds cs a configured pixels room c p in
       (λ e. t.0 (sym is ∙ e), λ g. is ∙ t.1 g);
   told = λ ns ss ds cs a configured pixels room o w c p g.
-      let eq = write-equation ns ss ds cs a configured pixels room o w in
+      let eq = write_equation ns ss ds cs a configured pixels room o w in
       let is = ap (λ (u : WriteOutcome). u.answer) eq in
-      writing.refused-outcome ns ss ds cs a configured pixels room c p o eq (is ∙ (writing.refused-exactly-when ns ss ds cs a configured pixels room c p).1 g);
+      writing.refused_outcome ns ss ds cs a configured pixels room c p o eq (is ∙ (writing.refused_exactly_when ns ss ds cs a configured pixels room c p).1 g);
   done = λ ns ss ds cs a configured pixels room o w n.
-      let is = ap (λ (u : WriteOutcome). u.answer) (write-equation ns ss ds cs a configured pixels room o w) in
-      let t = writing.done-exactly-when ns ss ds cs a configured pixels room n in
+      let is = ap (λ (u : WriteOutcome). u.answer) (write_equation ns ss ds cs a configured pixels room o w) in
+      let t = writing.done_exactly_when ns ss ds cs a configured pixels room n in
       (λ e. t.0 (sym is ∙ e), λ g. is ∙ t.1 g);
 }
 
-pub written-size : WrittenSize
-written-size ns ss ds cs a configured pixels room o w n e = ((write-codes.done ns ss ds cs a configured pixels room o w n).0 e).all
+pub written_size : WrittenSize
+written_size ns ss ds cs a configured pixels room o w n e = ((write_codes.done ns ss ds cs a configured pixels room o w n).0 e).all
 
 -- Assumes nothing.

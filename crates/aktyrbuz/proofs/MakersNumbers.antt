@@ -5,18 +5,18 @@ use Prim.Native.Nat.{ℕ}
 use lib.IntN.{ℤ}
 use Rattle.checks.specs.Tables.{Table}
 use Rattle.makers.specs.declared.CheckAnswer.{CheckAnswer}
-use Rattle.makers.specs.Check.{checkOf}
+use Rattle.makers.specs.Check.{check_of}
 use Rattle.told.specs.declared.Told.{Told}
-use Rattle.told.specs.Told.{toldCheck, toldIn}
-use Rattle.aktyrbuz.specs.MakersExported.{checkLeaves, checkExport}
+use Rattle.told.specs.Told.{told_check, told_in}
+use Rattle.aktyrbuz.specs.MakersExported.{check_leaves, check_export}
 use Rattle.aktyrbuz.specs.MakersCalls.{CheckCall, checks}
 
-pub check-exported : {o : CheckAnswer} (r : CheckAnswer) (t : Told) (five : List ℤ)
-    → r ≡ o → t ≡ toldCheck r → five ≡ toldIn t
-    → checkLeaves t.number five ≡ checkExport o
-check-exported r t five p q s = rw (← p, s, q)
+pub check_exported : {o : CheckAnswer} (r : CheckAnswer) (t : Told) (five : List ℤ)
+    → r ≡ o → t ≡ told_check r → five ≡ told_in t
+    → check_leaves t.number five ≡ check_export o
+check_exported r t five p q s = rw (← p, s, q)
 
-pub check-equation : (t : Table) (o : CheckAnswer) → CheckCall t o → o ≡ checkOf t.segments t.segmentCount t.height t.rowStarts t.entries t.entryCount
-check-equation t o (checks κs _ _ _ _ _ _ _ _ _ _ _ _ _ p) = p
+pub check_equation : (t : Table) (o : CheckAnswer) → CheckCall t o → o ≡ check_of t.segments t.segment_count t.height t.row_starts t.entries t.entry_count
+check_equation t o (checks κs _ _ _ _ _ _ _ _ _ _ _ _ _ p) = p
 
 -- Assumes nothing.

@@ -10,7 +10,7 @@ use Rattle.reader.proofs.read.Reads as read
 use Rattle.writer.specs.Write as writing
 use Rattle.writer.proofs.write.Reads as write
 use Rattle.write_laws.specs.Floats.{Floats}
-use Rattle.dequantize.specs.Judge.{Description, descriptionOf}
+use Rattle.dequantize.specs.Judge.{Description, description_of}
 use Rattle.table.specs.Table.{Setting, setting_of}
 use Rattle.table.specs.Table as building
 use Rattle.build_answer.specs.declared.BuildAnswer.{BuildAnswer}
@@ -25,7 +25,7 @@ use Rattle.segments.specs.declared.Segment.{Segment}
 use Rattle.table.specs.Segments.{Makes}
 use Rattle.picture.specs.Picture.{built}
 use Rattle.checks.specs.Alike.{Kept}
-use Rattle.draw.specs.Parts.{Part, cuts, total, cells_of, placedIn, Wide}
+use Rattle.draw.specs.Parts.{Part, cuts, total, cells_of, placed_in, Wide}
 use Rattle.draw.specs.Image.{Job, job, jobs, Each, with_row}
 use Rattle.draw.specs.Image as drawing
 use Rattle.hull.specs.Reach.{ReachOutcome, tells}
@@ -53,30 +53,30 @@ pub data WriteCall : List ℕ → List Float → List ℤ → List ℤ → ℤ �
 
 -- of a description, for an image, with so many cells lent
 pub data BuildCall : Description → Setting → building.BuildRooms → building.BuildOutcome → Type 0 where
-  builds : (κs : Lfts 10) (counts : _) (starts : _) (deltas : _) (coefficients : _) (adjustment : _) (width : _) (height : _) (ytox : _) (ytob : _) (high : _) (level10 : _) (path : _) (walk : _) (segments : _) (owners : _) (rowStarts : _) (entries : _) (r : _)
+  builds : (κs : Lfts 10) (counts : _) (starts : _) (deltas : _) (coefficients : _) (adjustment : _) (width : _) (height : _) (ytox : _) (ytob : _) (high : _) (level10 : _) (path : _) (walk : _) (segments : _) (owners : _) (row_starts : _) (entries : _) (r : _)
       (counts' : _) (starts' : _) (deltas' : _) (coefficients' : _) (adjustment' : _) (width' : _) (height' : _) (ytox' : _) (ytob' : _) (high' : _) (level10' : _) (path' : _) (walk' : _) (segments' : _) (owners' : _) (rowStarts' : _) (entries' : _)
-      → build.Post κs (counts, (starts, (deltas, (coefficients, (adjustment, (width, (height, (ytox, (ytob, (high, (level10, (path, (walk, (segments, (owners, (rowStarts, (entries, tt))))))))))))))))) r
+      → build.Post κs (counts, (starts, (deltas, (coefficients, (adjustment, (width, (height, (ytox, (ytob, (high, (level10, (path, (walk, (segments, (owners, (row_starts, (entries, tt))))))))))))))))) r
       (counts', (starts', (deltas', (coefficients', (adjustment', (width', (height', (ytox', (ytob', (high', (level10', (path', (walk', (segments', (owners', (rowStarts', (entries', tt)))))))))))))))))
-      → BuildCall (descriptionOf counts.now starts.now deltas.now coefficients.now) (setting_of adjustment width height ytox ytob high level10)
-      (building.rooms_of path.now walk.now segments.now owners.now rowStarts.now entries.now)
+      → BuildCall (description_of counts.now starts.now deltas.now coefficients.now) (setting_of adjustment width height ytox ytob high level10)
+      (building.rooms_of path.now walk.now segments.now owners.now row_starts.now entries.now)
       (building.leaves r path'.now walk'.now segments'.now owners'.now rowStarts'.now entries'.now)
 
 -- of row y of a table for a desk, n pixels from column x0 on, with channels lent that begin there
 pub data DrawCall : Table → Sight → ℕ → ℕ → ℕ → Channels → DrawOutcome → Type 0 where
-  draws : (κs : Lfts 8) (segments : _) (owners : _) (segmentCount : _) (entries : _) (entryCount : _) (rowStarts : _) (height : _) (splines : _) (bits : _) (desk : _) (y : _) (x0 : _) (n : _) (r0 : _) (r1 : _) (r2 : _) (r : _)
+  draws : (κs : Lfts 8) (segments : _) (owners : _) (segment_count : _) (entries : _) (entry_count : _) (row_starts : _) (height : _) (splines : _) (bits : _) (desk : _) (y : _) (x0 : _) (n : _) (r0 : _) (r1 : _) (r2 : _) (r : _)
       (segments' : _) (owners' : _) (segmentCount' : _) (entries' : _) (entryCount' : _) (rowStarts' : _) (height' : _) (splines' : _) (bits' : _) (desk' : _) (y' : _) (x0' : _) (n' : _) (r0' : _) (r1' : _) (r2' : _)
-      → draw.Post κs (segments, (owners, (segmentCount, (entries, (entryCount, (rowStarts, (height, (splines, (bits, (desk, (y, (x0, (n, (r0, (r1, (r2, tt)))))))))))))))) r
+      → draw.Post κs (segments, (owners, (segment_count, (entries, (entry_count, (row_starts, (height, (splines, (bits, (desk, (y, (x0, (n, (r0, (r1, (r2, tt)))))))))))))))) r
       (segments', (owners', (segmentCount', (entries', (entryCount', (rowStarts', (height', (splines', (bits', (desk', (y', (x0', (n', (r0', (r1', (r2', tt))))))))))))))))
-      → DrawCall (table_of segments.now segmentCount entries.now entryCount rowStarts.now height) (sight_of owners.now splines bits.now desk)
+      → DrawCall (table_of segments.now segment_count entries.now entry_count row_starts.now height) (sight_of owners.now splines bits.now desk)
       y x0 n (three r0.now r1.now r2.now) (leaves r (three r0'.now r1'.now r2'.now))
 
 -- of row y of a table for a desk, for a width
 pub data ReachCall : Table → Sight → ℕ → ℕ → ReachOutcome → Type 0 where
-  reaches : (κs : Lfts 5) (segments : _) (owners : _) (segmentCount : _) (entries : _) (entryCount : _) (rowStarts : _) (height : _) (splines : _) (bits : _) (desk : _) (y : _) (width : _) (r : _)
+  reaches : (κs : Lfts 5) (segments : _) (owners : _) (segment_count : _) (entries : _) (entry_count : _) (row_starts : _) (height : _) (splines : _) (bits : _) (desk : _) (y : _) (width : _) (r : _)
       (segments' : _) (owners' : _) (segmentCount' : _) (entries' : _) (entryCount' : _) (rowStarts' : _) (height' : _) (splines' : _) (bits' : _) (desk' : _) (y' : _) (width' : _)
-      → reach.Post κs (segments, (owners, (segmentCount, (entries, (entryCount, (rowStarts, (height, (splines, (bits, (desk, (y, (width, tt)))))))))))) r
+      → reach.Post κs (segments, (owners, (segment_count, (entries, (entry_count, (row_starts, (height, (splines, (bits, (desk, (y, (width, tt)))))))))))) r
       (segments', (owners', (segmentCount', (entries', (entryCount', (rowStarts', (height', (splines', (bits', (desk', (y', (width', tt))))))))))))
-      → ReachCall (table_of segments.now segmentCount entries.now entryCount rowStarts.now height) (sight_of owners.now splines bits.now desk) y width (tells r)
+      → ReachCall (table_of segments.now segment_count entries.now entry_count row_starts.now height) (sight_of owners.now splines bits.now desk) y width (tells r)
 
 -- of the shared bytes, for a desk, a spline, and whether it is to be hidden
 pub data HideCall : List ℕ → ℕ → ℕ → Bool → HideOutcome → Type 0 where
@@ -118,12 +118,12 @@ pub record PartCall (t : Table) (s : Sight) (y : ℕ) (p : Part) (a : Channels) 
   pub lent : Channels
   pub bits : List ℕ
   pub outcome : DrawOutcome
-  pub in-row : p.at + p.wide ≤ length a.r0
+  pub in_row_lem : p.at + p.wide ≤ length a.r0
   pub begins : cells_of 0 p.wide lent ≡ cells_of p.at p.wide a
   pub own_bits : Agree s (with_bits s bits)
   pub called : DrawCall t (with_bits s bits) y p.at p.wide lent outcome
   pub counted : count ≡ outcome.told.updates
-  pub comes_back : b ≡ placedIn p.at p.wide a (cells_of 0 p.wide outcome.channels)
+  pub comes_back : b ≡ placed_in p.at p.wide a (cells_of 0 p.wide outcome.channels)
 
 -- one part after another, the updates summed
 pub data RowCalls (t : Table) (s : Sight) (y : ℕ) : List Part → Channels → ℕ → Channels → Type 0 where

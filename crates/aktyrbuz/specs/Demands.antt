@@ -8,49 +8,49 @@ use Rattle.std.specs.Float.Ieee.{of_int}
 use Rattle.buffers.specs.Padded.{padded}
 use Rattle.codes.specs.Codes.{number_of}
 use Rattle.codes.specs.declared.Code.{Code}
-use Rattle.wholes.specs.Whole.{roundOf}
+use Rattle.wholes.specs.Whole.{round_of}
 use Rattle.roots.specs.Length.{length_of}
-use Rattle.approximations.specs.Ln.{lnOf}
+use Rattle.approximations.specs.Ln.{ln_of}
 use Rattle.ieee754.specs.Ieee754.{Ieee754}
 use Rattle.shape.specs.Shape.{points_of}
-use Rattle.list.specs.List.{ListRooms, unpackSigned}
-use Rattle.list.specs.Steps.{zeroF32}
-use Rattle.reader.specs.Read.{ReadOutcome, readOutcome}
+use Rattle.list.specs.List.{ListRooms, unpack_signed}
+use Rattle.list.specs.Steps.{zero_f32}
+use Rattle.reader.specs.Read.{ReadOutcome, read_outcome}
 use Rattle.reader.specs.Read as reading
 use Rattle.read_list.specs.declared.ReadAnswer.{ReadAnswer}
-use Rattle.writer.specs.Write.{WriteOutcome, writeOf}
+use Rattle.writer.specs.Write.{WriteOutcome, write_of}
 use Rattle.writer.specs.Write as writing
 use Rattle.writer.specs.declared.WriteAnswer.{WriteAnswer}
 use Rattle.roundtrip.specs.Enough.{Enough}
-use Rattle.dequantize.specs.Limits.{splineAreaLimit}
-use Rattle.dequantize.specs.Coefficients.{invAdjustedQuant}
+use Rattle.dequantize.specs.Limits.{spline_area_limit}
+use Rattle.dequantize.specs.Coefficients.{inv_adjusted_quant}
 use Rattle.dequantize.specs.Judge.{Description}
 use Rattle.segments.specs.declared.Segment.{Segment}
-use Rattle.segments.specs.Segment.{segmentAt}
+use Rattle.segments.specs.Segment.{segment_at}
 use Rattle.kinds.specs.declared.KindI64.TheVariants as I64
-use Rattle.segments.specs.Ranges.{rowEnd, has_row, hasColumn}
+use Rattle.segments.specs.Ranges.{row_end, has_row, has_column}
 use Rattle.segments.specs.Spot.{spot}
 use Rattle.segments.specs.Expressions.{AsSplineRs}
-use Rattle.table.specs.Table.{Setting, buildOf, zeros}
+use Rattle.table.specs.Table.{Setting, build_of, zeros}
 use Rattle.table.specs.Table as building
-use Rattle.table.specs.Segments.{Makes, BuildMakes, NeedsMet, doneWith, NoLess, SameTable}
+use Rattle.table.specs.Segments.{Makes, BuildMakes, NeedsMet, done_with, NoLess, SameTable}
 use Rattle.table.specs.Refusals.{BuildRefusal}
 use Rattle.build_answer.specs.declared.BuildAnswer.{BuildAnswer}
-use Rattle.picture.specs.Picture.{BuiltTable, Lists, rowPairs, imagePairs, RowPicture}
-use Rattle.picture.specs.Sights.{notHidden, KeptSight}
+use Rattle.picture.specs.Picture.{BuiltTable, Lists, row_pairs, image_pairs, RowPicture}
+use Rattle.picture.specs.Sights.{not_hidden, KeptSight}
 use Rattle.desks.specs.Desks.{Sight}
 use Rattle.desks.specs.Agree.{Agree}
-use Rattle.draw.specs.Draw.{Table, row_of, shownOf, Channels, DrawOutcome, drawOf}
+use Rattle.draw.specs.Draw.{Table, row_of, shown_of, Channels, DrawOutcome, draw_of}
 use Rattle.checks.specs.Refusals.{SpanFits}
 use Rattle.checks.specs.Alike.{AlikeFor}
 use Rattle.draw.specs.Refusals.{DrawRefusal}
 use Rattle.draw.specs.Keeps.{Updates, SameCell, SameLengths}
-use Rattle.draw.specs.Image.{mostPairs}
+use Rattle.draw.specs.Image.{most_pairs}
 use Rattle.draw.specs.Image as drawing
 use Rattle.draw.specs.declared.DrawAnswer.{DrawAnswer}
 use Rattle.hull.specs.declared.ReachAnswer.{ReachAnswer}
 use Rattle.hull.specs.Refusals.{ReachRefusal}
-use Rattle.hull.specs.Reach.{ReachOutcome, reachOf}
+use Rattle.hull.specs.Reach.{ReachOutcome, reach_of}
 use Rattle.aktyrbuz.specs.ListCodes.{ReadCodes, WriteCodes}
 use Rattle.aktyrbuz.specs.Calls.{ReadCall, WriteCall, BuildCall, DrawCall, ReachCall, LnCall, BuildDone, KeptTable, RowRun, ImageRun}
 
@@ -58,13 +58,13 @@ use Rattle.aktyrbuz.specs.Calls.{ReadCall, WriteCall, BuildCall, DrawCall, Reach
 
 -- `read` answers and leaves what `Splines::read` makes of the list, with the checks in their order
 abbrev pub ReadsAsSplineRs : Type 0
-ReadsAsSplineRs = (l : List ℕ) (configured pixels : ℕ) (rooms : ListRooms) (o : ReadOutcome) → ReadCall l configured pixels rooms o → o ≡ readOutcome configured pixels rooms l
+ReadsAsSplineRs = (l : List ℕ) (configured pixels : ℕ) (rooms : ListRooms) (o : ReadOutcome) → ReadCall l configured pixels rooms o → o ≡ read_outcome configured pixels rooms l
 
 -- `write` answers and leaves the list of a description, with the checks in their order
 abbrev pub WritesTheList : Type 0
 WritesTheList =
     (ns : List ℕ) (ss : List Float) (ds cs : List ℤ) (a : ℤ) (configured pixels room : ℕ) (o : WriteOutcome) → WriteCall ns ss ds cs a configured pixels room o
-    → o ≡ writeOf ns ss ds cs a configured pixels room
+    → o ≡ write_of ns ss ds cs a configured pixels room
 
 -- what `write` accepts, `read` gives back under the same limits: the description, every number
 abbrev pub WrittenIsRead : Type 0
@@ -72,7 +72,7 @@ WrittenIsRead =
     (ns : List ℕ) (ss : List Float) (ds cs : List ℤ) (a : ℤ) (configured pixels room : ℕ) (o : WriteOutcome) (n : ℕ)
     → WriteCall ns ss ds cs a configured pixels room o → o.answer ≡ WriteAnswer.Done n
     → (rooms : ListRooms) → Enough rooms ns ss ds cs → (q : ReadOutcome) → ReadCall (take n o.list) configured pixels rooms q
-    → q ≡ reading.leaves (ReadAnswer.Done (length ns) (points_of ns) a) (padded rooms.counts 0 ns) (padded rooms.starts zeroF32 ss)
+    → q ≡ reading.leaves (ReadAnswer.Done (length ns) (points_of ns) a) (padded rooms.counts 0 ns) (padded rooms.starts zero_f32 ss)
     (padded rooms.deltas (pos 0) ds) (padded rooms.coefficients (pos 0) cs)
 
 -- what `read` accepts, `write` writes back under the same limits: the list, every value
@@ -85,7 +85,7 @@ ReadIsWritten =
 
 -- `build` answers and leaves what `initialize_draw_cache` makes of a description for an image, with the checks in their order
 abbrev pub BuildsAsSplineRs : Type 0
-BuildsAsSplineRs = (d : Description) (i : Setting) (r : building.BuildRooms) (o : building.BuildOutcome) → BuildCall d i r o → o ≡ buildOf d i r
+BuildsAsSplineRs = (d : Description) (i : Setting) (r : building.BuildRooms) (o : building.BuildOutcome) → BuildCall d i r o → o ≡ build_of d i r
 
 -- where it is done, the description makes a list of segments, which is the only one whatever was lent; the cells hold them, and each row lists those that have it, once each, ascending
 pub record BuildsTheTable : Type 0 where
@@ -97,21 +97,21 @@ pub record BuildsTheTable : Type 0 where
 -- a build whose needs are met is done, and with at least as much room as one that is done it is done too, with the same counts and the same table
 pub record EnoughRoomIsDone : Type 0 where
   pub enough : (d : Description) (i : Setting) (r : building.BuildRooms) (segments : List Segment) (owners : List ℕ) (o : building.BuildOutcome) → NeedsMet d i r segments owners → BuildCall d i r o
-      → o ≡ doneWith d i r segments owners
+      → o ≡ done_with d i r segments owners
   pub more : (d : Description) (i : Setting) (r r' : building.BuildRooms) (o o' : building.BuildOutcome) (s e estimate : ℕ) → NoLess r r' → BuildDone d i r o s e estimate
       → BuildCall d i r' o' → SameTable i.height s e o o'
 
 -- `draw` answers and leaves what `draw_segments` makes of the channels and of those of the row's segments that are not hidden for the desk, with the checks in their order
 abbrev pub DrawsAsSplineRs : Type 0
-DrawsAsSplineRs = (t : Table) (s : Sight) (y x0 n : ℕ) (a : Channels) (o : DrawOutcome) → DrawCall t s y x0 n a o → o ≡ drawOf t s y x0 n a
+DrawsAsSplineRs = (t : Table) (s : Sight) (y x0 n : ℕ) (a : Channels) (o : DrawOutcome) → DrawCall t s y x0 n a o → o ≡ draw_of t s y x0 n a
 
 -- `reach` answers the hull of the columns that drawing the row for the desk would touch, with the checks in their order
 abbrev pub ReachesByTheRule : Type 0
-ReachesByTheRule = (t : Table) (s : Sight) (y W : ℕ) (o : ReachOutcome) → ReachCall t s y W o → o ≡ reachOf t s y W
+ReachesByTheRule = (t : Table) (s : Sight) (y W : ℕ) (o : ReachOutcome) → ReachCall t s y W o → o ≡ reach_of t s y W
 
 -- `ln` is the scope's fixed sequence of steps
 abbrev pub LogsByItsSteps : Type 0
-LogsByItsSteps = (x r : Float) → LnCall x r → r ≡ lnOf x
+LogsByItsSteps = (x r : Float) → LnCall x r → r ≡ ln_of x
 
 -- the root, the length, floor, ceil, R and the conversions are what IEEE 754 says; the R of starts and that of rows and columns are one, and rows and columns are spline.rs's expressions
 pub record NumbersByIeee754 : Type 0 where
@@ -123,7 +123,7 @@ pub record NumbersByIeee754 : Type 0 where
 -- every cell that reading lends is zero
 pub record ReadZeros (rooms : ListRooms) (o : ReadOutcome) : Type 0 where
   pub counts : o.counts ≡ replicate rooms.counts 0
-  pub starts : o.starts ≡ replicate rooms.starts zeroF32
+  pub starts : o.starts ≡ replicate rooms.starts zero_f32
   pub deltas : o.deltas ≡ replicate rooms.deltas (pos 0)
   pub coefficients : o.coefficients ≡ replicate rooms.coefficients (pos 0)
 
@@ -192,7 +192,7 @@ pub record BuiltIsDrawn : Type 0 where
 abbrev pub OnceAscending : Type 0
 OnceAscending =
     (d : Description) (i : Setting) (segments : List Segment) (t : Table) → KeptTable d i segments t → (y : ℕ) → y < i.height
-    → Lists (λ k. has_row (segmentAt t.segments k) y) t.segmentCount (row_of t y)
+    → Lists (λ k. has_row (segment_at t.segments k) y) t.segment_count (row_of t y)
 
 -- other rows are not looked at, nor what stands behind the counts and the splines' bytes, nor a bit that is not the desk's: two tables that are alike in row y for the desk
 -- have one outcome of drawing it, and one reach
@@ -202,20 +202,20 @@ pub record OtherRowsDontMatter : Type 0 where
 
 -- ---- pixels
 
--- The segments not hidden for the desk are `notHidden s owners segments`: a segment is left out where the desk's bit is set in the byte of its spline, told by its ninth field, the owner.
+-- The segments not hidden for the desk are `not_hidden s owners segments`: a segment is left out where the desk's bit is set in the byte of its spline, told by its ninth field, the owner.
 
 -- after all parts of a row of a kept table, in any order, each pixel is its starting value with exactly the segments added, ascending, that are not hidden for the desk and whose rows
 -- and columns have it
 abbrev pub RowInParts : Type 0
 RowInParts =
     (d : Description) (i : Setting) (segments : List Segment) (owners : List ℕ) (t : Table) (s : Sight) → KeptTable d i segments t → KeptSight d i segments owners s
-    → (y W : ℕ) (a w : Channels) (sum : ℕ) → RowRun t s y W a w sum → RowPicture (notHidden s owners segments) y a w
+    → (y W : ℕ) (a w : Channels) (sum : ℕ) → RowRun t s y W a w sum → RowPicture (not_hidden s owners segments) y a w
 
 -- the same of every row of an image
 abbrev pub ImageInParts : Type 0
 ImageInParts =
     (d : Description) (i : Setting) (segments : List Segment) (owners : List ℕ) (t : Table) (s : Sight) → KeptTable d i segments t → KeptSight d i segments owners s
-    → (W : ℕ) (a w : drawing.Image) (sum : ℕ) → ImageRun t s W a w sum → (y : ℕ) → y < i.height → RowPicture (notHidden s owners segments) y (a y) (w y)
+    → (W : ℕ) (a w : drawing.Image) (sum : ℕ) → ImageRun t s W a w sum → (y : ℕ) → y < i.height → RowPicture (not_hidden s owners segments) y (a y) (w y)
 
 -- a call keeps every lent cell that it does not update, those behind the part too, and the lengths
 pub record KeepsOtherCells : Type 0 where
@@ -226,14 +226,14 @@ pub record KeepsOtherCells : Type 0 where
 abbrev pub RowUpdates : Type 0
 RowUpdates =
     (d : Description) (i : Setting) (segments : List Segment) (owners : List ℕ) (t : Table) (s : Sight) → KeptTable d i segments t → KeptSight d i segments owners s
-    → (y W : ℕ) (a w : Channels) (sum : ℕ) → RowRun t s y W a w sum → (sum ≡ rowPairs (notHidden s owners segments) W y) × (sum ≤ W * length (shownOf t s y))
+    → (y W : ℕ) (a w : Channels) (sum : ℕ) → RowRun t s y W a w sum → (sum ≡ row_pairs (not_hidden s owners segments) W y) × (sum ≤ W * length (shown_of t s y))
 
 -- those of an image to the pairs of all its rows, at most the sum over the rows of the width times the row's entries that the desk is shown
 abbrev pub ImageUpdates : Type 0
 ImageUpdates =
     (d : Description) (i : Setting) (segments : List Segment) (owners : List ℕ) (t : Table) (s : Sight) → KeptTable d i segments t → KeptSight d i segments owners s
     → (W : ℕ) (a w : drawing.Image) (sum : ℕ) → ImageRun t s W a w sum
-    → (sum ≡ imagePairs (notHidden s owners segments) W 0 i.height) × (sum ≤ mostPairs t s W 0 i.height)
+    → (sum ≡ image_pairs (not_hidden s owners segments) W 0 i.height) × (sum ≤ most_pairs t s W 0 i.height)
 
 -- both
 pub record UpdatesSum : Type 0 where
@@ -271,26 +271,26 @@ abbrev pub NoRows : Segment → Type 0
 NoRows s = (y : ℕ) → has_row s y ≡ false
 
 abbrev pub Columns : Segment → ℕ → ℕ → Type 0
-Columns s first last = (x : ℕ) → hasColumn s x ≡ (leb first x && leb x last)
+Columns s first last = (x : ℕ) → has_column s x ≡ (leb first x && leb x last)
 
 -- one table: fin s m e is m times 2^e, negative where s is true; negsuc n is -(n + 1); spot x y d is a segment at x and y with the distance d
 pub record Readings : Type 0 where
-  pub unpack-3 : unpackSigned 3 ≡ negsuc 1
-  pub unpack-4294967295 : unpackSigned 4294967295 ≡ negsuc 2147483647
-  pub level5-area-0 : splineAreaLimit false 0 ≡ 33554432
-  pub level5-area-130023423 : splineAreaLimit false 130023423 ≡ 1073741816
-  pub level5-area-130023424 : splineAreaLimit false 130023424 ≡ 1073741824
-  pub adjustment-8 : invAdjustedQuant (pos 8) ≡ fin false 1 (negsuc 0)
-  pub adjustment-minus-8 : invAdjustedQuant (negsuc 7) ≡ fin false 1 (pos 1)
-  pub round-2½ : rowEnd (fin false 5 (negsuc 0)) ≡ I64.Exact (pos 3)
-  pub round-minus-½ : rowEnd (fin true 1 (negsuc 0)) ≡ I64.Exact (negsuc 0)
-  pub round-2½-f32 : roundOf binary32 (fin false 5 (negsuc 0)) ≡ fin false 3 (pos 0)
-  pub round-minus-½-f32 : roundOf binary32 (fin true 1 (negsuc 0)) ≡ fin true 1 (pos 0)
-  pub f32-16777217 : of_int binary32 (pos 16777217) ≡ fin false 1 (pos 24)
-  pub f32-16777219 : of_int binary32 (pos 16777219) ≡ fin false 4194305 (pos 2)
-  pub length-of-3-4 : length_of (pos 3) (pos 4) ≡ fin false 5 (pos 0)
-  pub rows-3-to-8 : (x : Float) → Rows (spot x (fin false 5 (pos 0)) (fin false 5 (negsuc 0))) 3 8
+  pub unpack_3 : unpack_signed 3 ≡ negsuc 1
+  pub unpack_4294967295 : unpack_signed 4294967295 ≡ negsuc 2147483647
+  pub level5_area_0 : spline_area_limit false 0 ≡ 33554432
+  pub level5_area_130023423 : spline_area_limit false 130023423 ≡ 1073741816
+  pub level5_area_130023424 : spline_area_limit false 130023424 ≡ 1073741824
+  pub adjustment_8 : inv_adjusted_quant (pos 8) ≡ fin false 1 (negsuc 0)
+  pub adjustment_minus_8 : inv_adjusted_quant (negsuc 7) ≡ fin false 1 (pos 1)
+  pub round-2½ : row_end (fin false 5 (negsuc 0)) ≡ I64.Exact (pos 3)
+  pub round-minus-½ : row_end (fin true 1 (negsuc 0)) ≡ I64.Exact (negsuc 0)
+  pub round-2½-f32 : round_of binary32 (fin false 5 (negsuc 0)) ≡ fin false 3 (pos 0)
+  pub round-minus-½-f32 : round_of binary32 (fin true 1 (negsuc 0)) ≡ fin true 1 (pos 0)
+  pub f32_16777217 : of_int binary32 (pos 16777217) ≡ fin false 1 (pos 24)
+  pub f32_16777219 : of_int binary32 (pos 16777219) ≡ fin false 4194305 (pos 2)
+  pub length_of_3_4 : length_of (pos 3) (pos 4) ≡ fin false 5 (pos 0)
+  pub rows_3_to_8 : (x : Float) → Rows (spot x (fin false 5 (pos 0)) (fin false 5 (negsuc 0))) 3 8
   pub rows_none : (x : Float) → NoRows (spot x (fin true 5 (pos 0)) (fin false 1 (pos 1)))
-  pub column-0 : (y : Float) → Columns (spot (fin true 5 (pos 0)) y (fin false 1 (pos 1))) 0 0
-  pub nan-row-0 : (x y : Float) → Rows (spot x y nan) 0 0
-  pub nan-column-0 : (x y : Float) → Columns (spot x y nan) 0 0
+  pub column_0 : (y : Float) → Columns (spot (fin true 5 (pos 0)) y (fin false 1 (pos 1))) 0 0
+  pub nan_row_0 : (x y : Float) → Rows (spot x y nan) 0 0
+  pub nan_column_0 : (x y : Float) → Columns (spot x y nan) 0 0

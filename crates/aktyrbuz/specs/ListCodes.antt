@@ -2,13 +2,13 @@
 use Rattle.std.specs.Prelude.{◌≡◌, List, ◌↔◌, ℕ, ℤ, Float, length}
 use Rattle.codes.specs.declared.Code.{Code}
 use Rattle.shape.specs.Shape.{points_of}
-use Rattle.list.specs.List.{ListRooms, limitOf}
+use Rattle.list.specs.List.{ListRooms, limit_of}
 use Rattle.reader.specs.Read.{ReadOutcome}
 use Rattle.reader.specs.Refusals.{ReadRefusal, ReadRefused}
 use Rattle.read_list.specs.declared.ReadAnswer.{ReadAnswer}
 use Rattle.writer.specs.Write.{WriteOutcome}
 use Rattle.writer.specs.declared.WriteAnswer.{WriteAnswer}
-use Rattle.write_laws.specs.Refusals.{WriteRefusal, WriteRefused, WriteAccepted, listSize}
+use Rattle.write_laws.specs.Refusals.{WriteRefusal, WriteRefused, WriteAccepted, list_size}
 use Rattle.aktyrbuz.specs.Calls.{ReadCall, WriteCall}
 
 -- an answer of success, with its counts
@@ -22,23 +22,23 @@ pub record ReadDone (o : ReadOutcome) : Type 0 where
 -- where the table gives nothing, reading is done
 pub record ReadCodes : Type 0 where
   pub exactly : (l : List ℕ) (configured pixels : ℕ) (rooms : ListRooms) (o : ReadOutcome) → ReadCall l configured pixels rooms o
-      → (c : Code) (p : ℕ) → o.answer ≡ ReadAnswer.Refused c p ↔ ReadRefusal (limitOf configured pixels) rooms l c p
+      → (c : Code) (p : ℕ) → o.answer ≡ ReadAnswer.Refused c p ↔ ReadRefusal (limit_of configured pixels) rooms l c p
   pub told : (l : List ℕ) (configured pixels : ℕ) (rooms : ListRooms) (o : ReadOutcome) → ReadCall l configured pixels rooms o
-      → (c : Code) (p : ℕ) → ReadRefusal (limitOf configured pixels) rooms l c p → ReadRefused rooms c p o
-  pub else-done : (l : List ℕ) (configured pixels : ℕ) (rooms : ListRooms) (o : ReadOutcome) → ReadCall l configured pixels rooms o
-      → ((c : Code) (p : ℕ) → ReadRefusal (limitOf configured pixels) rooms l c p → ⊥) → ReadDone o
+      → (c : Code) (p : ℕ) → ReadRefusal (limit_of configured pixels) rooms l c p → ReadRefused rooms c p o
+  pub else_done : (l : List ℕ) (configured pixels : ℕ) (rooms : ListRooms) (o : ReadOutcome) → ReadCall l configured pixels rooms o
+      → ((c : Code) (p : ℕ) → ReadRefusal (limit_of configured pixels) rooms l c p → ⊥) → ReadDone o
 
 -- writing likewise, by the table of writing; and it is done exactly when nothing is given
 pub record WriteCodes : Type 0 where
   pub exactly : (ns : List ℕ) (ss : List Float) (ds cs : List ℤ) (a : ℤ) (configured pixels room : ℕ) (o : WriteOutcome) → WriteCall ns ss ds cs a configured pixels room o
-      → (c : Code) (p : ℕ) → o.answer ≡ WriteAnswer.Refused c p ↔ WriteRefusal ns ss ds cs (limitOf configured pixels) room c p
+      → (c : Code) (p : ℕ) → o.answer ≡ WriteAnswer.Refused c p ↔ WriteRefusal ns ss ds cs (limit_of configured pixels) room c p
   pub told : (ns : List ℕ) (ss : List Float) (ds cs : List ℤ) (a : ℤ) (configured pixels room : ℕ) (o : WriteOutcome) → WriteCall ns ss ds cs a configured pixels room o
-      → (c : Code) (p : ℕ) → WriteRefusal ns ss ds cs (limitOf configured pixels) room c p → WriteRefused room c p o
+      → (c : Code) (p : ℕ) → WriteRefusal ns ss ds cs (limit_of configured pixels) room c p → WriteRefused room c p o
   pub done : (ns : List ℕ) (ss : List Float) (ds cs : List ℤ) (a : ℤ) (configured pixels room : ℕ) (o : WriteOutcome) → WriteCall ns ss ds cs a configured pixels room o
-      → (n : ℕ) → o.answer ≡ WriteAnswer.Done n ↔ WriteAccepted ns ss ds cs (limitOf configured pixels) room n
+      → (n : ℕ) → o.answer ≡ WriteAnswer.Done n ↔ WriteAccepted ns ss ds cs (limit_of configured pixels) room n
 
 -- 2 + 131 S + 2 P values are written of S splines and P points
 abbrev pub WrittenSize : Type 0
 WrittenSize =
     (ns : List ℕ) (ss : List Float) (ds cs : List ℤ) (a : ℤ) (configured pixels room : ℕ) (o : WriteOutcome) → WriteCall ns ss ds cs a configured pixels room o
-    → (n : ℕ) → o.answer ≡ WriteAnswer.Done n → n ≡ listSize (length ns) (points_of ns)
+    → (n : ℕ) → o.answer ≡ WriteAnswer.Done n → n ≡ list_size (length ns) (points_of ns)

@@ -1,7 +1,7 @@
 -- What the export for reading a points text leaves, in C's terms. Definitions only.
 use Rattle.std.specs.Prelude.{List, ℕ, ℤ, Float}
 use Rattle.polyline.specs.Read.{PointsOutcome}
-use Rattle.told.specs.Told.{toldWrite, toldIn}
+use Rattle.told.specs.Told.{told_write, told_in}
 
 pub record PointsExport : Type 0 where
   pub number : ℕ
@@ -9,8 +9,8 @@ pub record PointsExport : Type 0 where
   pub start : List Float
   pub deltas : List ℤ
 
-abbrev pub pointsLeaves : ℕ → List ℤ → List Float → List ℤ → PointsExport
-pointsLeaves r five s d = record { number = r; answer = five; start = s; deltas = d }
+abbrev pub points_leaves : ℕ → List ℤ → List Float → List ℤ → PointsExport
+points_leaves r five s d = record { number = r; answer = five; start = s; deltas = d }
 
-abbrev pub pointsExport : PointsOutcome → PointsExport
-pointsExport o = pointsLeaves (toldWrite o.answer).number (toldIn (toldWrite o.answer)) o.start o.deltas
+abbrev pub points_export : PointsOutcome → PointsExport
+points_export o = points_leaves (told_write o.answer).number (told_in (told_write o.answer)) o.start o.deltas

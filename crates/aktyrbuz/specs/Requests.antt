@@ -5,37 +5,37 @@ use Rattle.std.specs.Float.Ieee.{is_nan}
 use Rattle.buffers.specs.Padded.{padded}
 use Rattle.dequantize.specs.Judge.{Description, Shaped}
 use Rattle.segments.specs.declared.Segment.{Segment}
-use Rattle.segments.specs.Segment.{segmentAt}
-use Rattle.segments.specs.Ranges.{has_row, hasColumn, rowEnd, columnEnd}
+use Rattle.segments.specs.Segment.{segment_at}
+use Rattle.segments.specs.Ranges.{has_row, has_column, row_end, column_end}
 use Rattle.segments.specs.Spot.{spot}
 use Rattle.table.specs.Table.{Setting, BuildRooms, BuildOutcome, given_of}
-use Rattle.desks.specs.Desks.{Sight, sight_of, bit_of, hiddenIn}
+use Rattle.desks.specs.Desks.{Sight, sight_of, bit_of, hidden_in}
 use Rattle.desks.specs.Agree.{OwnBitsAlike, Agree, NothingHidden}
 use Rattle.desks.specs.Hide.{HideOutcome, HideRefusal}
 use Rattle.desks.specs.declared.HideAnswer.{HideAnswer}
-use Rattle.checks.specs.Tables.{Table, row_of, shownOf}
-use Rattle.draw.specs.Draw.{Channels, DrawOutcome, unhidden, judgeDraw}
+use Rattle.checks.specs.Tables.{Table, row_of, shown_of}
+use Rattle.draw.specs.Draw.{Channels, DrawOutcome, unhidden, judge_draw}
 use Rattle.draw.specs.Keeps.{Updates, SameCell}
 use Rattle.draw.specs.declared.DrawAnswer.{DrawAnswer}
-use Rattle.hull.specs.Reach.{ReachOutcome, reachOver, judgeReachOf, reachAnswer, tells}
+use Rattle.hull.specs.Reach.{ReachOutcome, reach_over, judge_reach_of, reach_answer, tells}
 use Rattle.hull.specs.declared.ReachAnswer.{ReachAnswer}
 use Rattle.aktyrbuz.specs.Calls.{DrawCall, ReachCall, HideCall, HideCalls, with_bits, KeptTable, RowRun, ImageRun, BuildDone, BuildCall}
 use Rattle.near.specs.Near.{Edge, apart, Tight, RowsBy, ColumnsBy, RowsNear, ColumnsNear, EveryFinite}
-use Rattle.picture.specs.Picture.{Found, RowPicture, rowPairs, imagePairs, built}
-use Rattle.picture.specs.Sights.{hides, notHidden, KeptSight}
+use Rattle.picture.specs.Picture.{Found, RowPicture, row_pairs, image_pairs, built}
+use Rattle.picture.specs.Sights.{hides, not_hidden, KeptSight}
 use Rattle.painting.specs.Segments.{SplineMakes}
 use Rattle.table.specs.Segments.{MakesOwned}
-use Rattle.picture.specs.Owners.{segmentsIn, owned_by, Ascending, Skipped}
+use Rattle.picture.specs.Owners.{segments_in, owned_by, Ascending, Skipped}
 use Rattle.numbers.specs.Arith.{◌⊕◌, ◌⊖◌}
 use Rattle.control_points.specs.ByKind.{StartByKind}
 use Rattle.estimate.specs.ByKind.{EstimateByKind}
 use Rattle.segments.specs.Bounds.{RowsByKind, ColumnsByKind}
-use Rattle.faint.specs.Faint.{faintIn}
+use Rattle.faint.specs.Faint.{faint_in}
 use Rattle.codes.specs.Codes.{number_of}
 use Rattle.codes.specs.declared.Code.{Code}
 use Rattle.shape.specs.Shape.{points_of}
 use Rattle.list.specs.List.{ListRooms}
-use Rattle.list.specs.Steps.{zeroF32}
+use Rattle.list.specs.Steps.{zero_f32}
 use Rattle.reader.specs.Read.{ReadOutcome}
 use Rattle.reader.specs.Refusals.{ReadRefused}
 use Rattle.read_list.specs.declared.ReadAnswer.{ReadAnswer}
@@ -44,45 +44,45 @@ use Rattle.writer.specs.declared.WriteAnswer.{WriteAnswer}
 use Rattle.write_laws.specs.Refusals.{WriteRefused}
 use Rattle.roundtrip.specs.Enough.{Enough}
 use Rattle.trace_laws.specs.Refusals.{TraceReadRefusal, TraceWriteRefusal, TraceAccepted}
-use Rattle.trace_laws.specs.Small.{smallFile, smallRooms}
+use Rattle.trace_laws.specs.Small.{small_file, small_rooms}
 use Rattle.aktyrbuz.specs.ListCodes.{ReadDone}
 use Rattle.aktyrbuz.specs.TraceCalls.{TraceReadCall, TraceWriteCall}
 use Rattle.profile.specs.Profile.{ProfileOutcome}
 use Rattle.profile.specs.declared.ProfileAnswer.{ProfileAnswer}
-use Rattle.profile_build.specs.Building.{ProfileBuildOutcome, stoppedWith, asBuilt}
+use Rattle.profile_build.specs.Building.{ProfileBuildOutcome, stopped_with, as_built}
 use Rattle.profile_told.specs.declared.ProfileBuildAnswer.{ProfileBuildAnswer}
 use Rattle.profile_laws.specs.Rules.{Meeting, Breaking, NoEdition, ProfileRefusal}
 use Rattle.profile_laws.specs.Refusals.{Plain, DoneByBuild, BreaksRule, UnknownEdition, ProfileBuildRefusal}
 use Rattle.aktyrbuz.specs.ProfileCalls.{ProfileCall, ProfileBuildCall}
-use Rattle.little.specs.Little.{numbersIn}
+use Rattle.little.specs.Little.{numbers_in}
 use Rattle.trace_laws.specs.Behind.{number}
-use Rattle.trace2.specs.Editions.{editionIn}
-use Rattle.trace2.specs.Read.{FileOutcome, withEdition}
+use Rattle.trace2.specs.Editions.{edition_in}
+use Rattle.trace2.specs.Read.{FileOutcome, with_edition}
 use Rattle.trace2_laws.specs.Refusals.{FileReadRefusal, FileWriteRefusal, FileAccepted}
 use Rattle.aktyrbuz.specs.Trace2Calls.{FileReadCall, FileWriteCall}
 use Rattle.makers.specs.declared.CheckAnswer.{CheckAnswer}
-use Rattle.makers.specs.Check.{toldOf}
+use Rattle.makers.specs.Check.{told_of}
 use Rattle.makers.specs.Refusals.{Fits, FirstWrong, CheckAccepted, CheckRefusal}
-use Rattle.makers_laws.specs.Cut.{cutToCounts}
+use Rattle.makers_laws.specs.Cut.{cut_to_counts}
 use Rattle.aktyrbuz.specs.MakersCalls.{CheckCall}
 use Rattle.bands.specs.declared.BandsAnswer.{BandsAnswer}
-use Rattle.bands.specs.Bands.{bandsIn}
+use Rattle.bands.specs.Bands.{bands_in}
 use Rattle.bands.specs.Calls.{BandsOutcome}
 use Rattle.bands.specs.Refusals.{BandsRefusal, BandRefusal}
 use Rattle.bands_laws.specs.Done.{BandsDone, BandDone}
 use Rattle.bands_laws.specs.Summaries.{InBand, BandRows, OtherCell, ListsSpline, SegmentNumbers, HullOf}
 use Rattle.aktyrbuz.specs.BandsCalls.{BandsCall, BandCall, BandCalls}
-use Rattle.list.specs.Steps.{f32Of}
-use Rattle.control_points.specs.ControlPoints.{startingPoint}
-use Rattle.dequantize.specs.Judge.{descriptionOf, startX, startY, deltasOf}
+use Rattle.list.specs.Steps.{f32_of}
+use Rattle.control_points.specs.ControlPoints.{starting_point}
+use Rattle.dequantize.specs.Judge.{description_of, start_x, start_y, deltas_of}
 use Rattle.dequantize.specs.Refusals.{SplinePasses, SplineRefusal}
 use Rattle.dequantize.specs.declared.Given.{Given}
 use Rattle.control_points.specs.declared.Pair.{Pair}
-use Rattle.control_points.specs.declared.Start.TheVariants as start-at
+use Rattle.control_points.specs.declared.Start.TheVariants as start_at_lem
 use Rattle.polyline.specs.Form.{PointsForm}
-use Rattle.polyline.specs.Read.{PointsOutcome, readPointsOf}
+use Rattle.polyline.specs.Read.{PointsOutcome, read_points_of}
 use Rattle.polyline.specs.Read as drawn
-use Rattle.polyline.specs.Write.{writePointsOf}
+use Rattle.polyline.specs.Write.{write_points_of}
 use Rattle.polyline_laws.specs.Begins.{FirstBad}
 use Rattle.polyline_laws.specs.Says.{FormSays, OneSaying}
 use Rattle.polyline_laws.specs.Refusals.{PointsReadRefusal, PointsAccepted, There, PointsWriteRefusal, PointsWritten}
@@ -102,7 +102,7 @@ abbrev pub FileReadBack : Type 0
 FileReadBack =
     (ns : List ℕ) (ss : List Float) (ds cs : List ℤ) (a : ℤ) (room : ℕ) (o : WriteOutcome) (n : ℕ) → TraceWriteCall ns ss ds cs a room o → o.answer ≡ WriteAnswer.Done n
     → (rooms : ListRooms) → Enough rooms ns ss ds cs → (q : ReadOutcome) → TraceReadCall (take n o.list) rooms q
-    → q ≡ reading.leaves (ReadAnswer.Done (length ns) (points_of ns) a) (padded rooms.counts 0 ns) (padded rooms.starts zeroF32 ss)
+    → q ≡ reading.leaves (ReadAnswer.Done (length ns) (points_of ns) a) (padded rooms.counts 0 ns) (padded rooms.starts zero_f32 ss)
     (padded rooms.deltas (pos 0) ds) (padded rooms.coefficients (pos 0) cs)
 
 -- what is read is written as the same bytes, with zeros behind
@@ -126,7 +126,7 @@ pub record TraceReadCodes : Type 0 where
       → (c : Code) (p : ℕ) → o.answer ≡ ReadAnswer.Refused c p ↔ TraceReadRefusal rooms bytes c p
   pub told : (bytes : List ℕ) (rooms : ListRooms) (o : ReadOutcome) → TraceReadCall bytes rooms o
       → (c : Code) (p : ℕ) → TraceReadRefusal rooms bytes c p → ReadRefused rooms c p o
-  pub else-done : (bytes : List ℕ) (rooms : ListRooms) (o : ReadOutcome) → TraceReadCall bytes rooms o
+  pub else_done : (bytes : List ℕ) (rooms : ListRooms) (o : ReadOutcome) → TraceReadCall bytes rooms o
       → ((c : Code) (p : ℕ) → TraceReadRefusal rooms bytes c p → ⊥) → ReadDone o
 
 -- writing likewise, by the table of writing; and it is done exactly when nothing is given, with so many bytes
@@ -147,7 +147,7 @@ pub record TraceOneOutcome : Type 0 where
 -- a negative first start is read, and so is -8388608: a small file of one spline with the start -3 and -8388608 and the adjustment -8
 abbrev pub NegativeFirstStart : Type 0
 NegativeFirstStart =
-    (o : ReadOutcome) → TraceReadCall smallFile smallRooms o
+    (o : ReadOutcome) → TraceReadCall small_file small_rooms o
     → o ≡ reading.leaves (ReadAnswer.Done 1 0 (negsuc 7)) (0 ∷ []) (fin true 3 (pos 0) ∷ fin true 1 (pos 23) ∷ []) [] (replicate 128 (pos 0))
 
 -- ---- (iii) the reach of a row
@@ -171,8 +171,8 @@ pub record HasSegment (segments : List Segment) (owners : List ℕ) (s : Sight) 
   pub number : ℕ
   pub listed : number < length segments
   pub seen : hides s (get_or owners number 0) ≡ false
-  pub row : has_row (get_or segments number (segmentAt [] 0)) y ≡ true
-  pub column : hasColumn (get_or segments number (segmentAt [] 0)) x ≡ true
+  pub row : has_row (get_or segments number (segment_at [] 0)) y ≡ true
+  pub column : has_column (get_or segments number (segment_at [] 0)) x ≡ true
 
 -- when the whole row is drawn for the desk, with any cut and in any order, a column outside its reach is in the columns of no segment of the row that is not hidden, and its three cells come back as they were
 pub record OutsideReachUntouched : Type 0 where
@@ -207,15 +207,15 @@ pub record ReachEmptyExactly : Type 0 where
 -- a strand wholly left of the picture changes column 0, and reach says so: a segment that the desk is shown at -5 with the distance 2, wherever it lies and whatever else the row lists
 abbrev pub LeftEdgeReached : Type 0
 LeftEdgeReached =
-    (t : Table) (s : Sight) (y W first past : ℕ) → Reaches t s y W first past → 0 < W → (j : ℕ) → j < length (shownOf t s y) → (cy : Float)
-    → segmentAt t.segments (get_or (shownOf t s y) j 0) ≡ spot (fin true 5 (pos 0)) cy (fin false 1 (pos 1)) → InReach first past 0
+    (t : Table) (s : Sight) (y W first past : ℕ) → Reaches t s y W first past → 0 < W → (j : ℕ) → j < length (shown_of t s y) → (cy : Float)
+    → segment_at t.segments (get_or (shown_of t s y) j 0) ≡ spot (fin true 5 (pos 0)) cy (fin false 1 (pos 1)) → InReach first past 0
 
 -- ---- (iv) line drawings
 
 -- the two calls answer and leave what their definitions say
 pub record PointsAsDefined : Type 0 where
-  pub read : (text : List ℕ) (start deltas : ℕ) (o : PointsOutcome) → PointsReadCall text start deltas o → o ≡ readPointsOf start deltas text
-  pub write : (ns : List ℕ) (ss : List Float) (ds cs : List ℤ) (k room : ℕ) (o : WriteOutcome) → PointsWriteCall ns ss ds cs k room o → o ≡ writePointsOf ns ss ds cs k room
+  pub read : (text : List ℕ) (start deltas : ℕ) (o : PointsOutcome) → PointsReadCall text start deltas o → o ≡ read_points_of start deltas text
+  pub write : (ns : List ℕ) (ss : List Float) (ds cs : List ℤ) (k room : ℕ) (o : WriteOutcome) → PointsWriteCall ns ss ds cs k room o → o ≡ write_points_of ns ss ds cs k room
 
 -- TEXT points to the first byte that no text of the form could have there, or to the end of a text that stops early, and to nothing else; it is given exactly when the text has not the form
 pub record FirstBadByteTold : Type 0 where
@@ -227,8 +227,8 @@ pub record FirstBadByteTold : Type 0 where
 -- a refusal tells its code's number and its place, and leaves nothing but zeros in every lent cell
 pub record PointsRefused (start deltas : ℕ) (c : Code) (p : ℕ) (o : PointsOutcome) : Type 0 where
   pub told : ◌≡◌ {A = WriteTold} o.told (record { number = number_of c; place = p; values = 0 })
-  pub start-zero : o.start ≡ replicate start zeroF32
-  pub deltas-zero : o.deltas ≡ replicate deltas (pos 0)
+  pub start_zero : o.start ≡ replicate start zero_f32
+  pub deltas_zero : o.deltas ≡ replicate deltas (pos 0)
 
 pub record PointsRefusalsZero : Type 0 where
   pub read : (text : List ℕ) (start deltas : ℕ) (o : PointsOutcome) → PointsReadCall text start deltas o
@@ -238,10 +238,10 @@ pub record PointsRefusalsZero : Type 0 where
 
 -- the start, as two floats, and the double deltas, each with zeros behind
 abbrev pub start_at : Pair → ℕ → List Float
-start_at p room = (f32Of p.x ∷ f32Of p.y ∷ []) ++ replicate (room - 2) zeroF32
+start_at p room = (f32_of p.x ∷ f32_of p.y ∷ []) ++ replicate (room - 2) zero_f32
 
-abbrev pub deltasBehind : List ℤ → ℕ → ℕ → List ℤ
-deltasBehind ds n room = ds ++ replicate (room - 2 * n) (pos 0)
+abbrev pub deltas_behind : List ℤ → ℕ → ℕ → List ℤ
+deltas_behind ds n room = ds ++ replicate (room - 2 * n) (pos 0)
 
 -- a text is accepted exactly if it has the form, building would find its points legal apart from distance and area, and there is room: 2 cells of start, and 2 a double delta;
 -- its start and its double deltas are then left
@@ -249,7 +249,7 @@ pub record TextAcceptedExactly : Type 0 where
   pub exactly : (text : List ℕ) (start deltas : ℕ) (o : PointsOutcome) → PointsReadCall text start deltas o
       → (n : ℕ) → o.answer ≡ WriteAnswer.Done n ↔ PointsAccepted text start deltas n
   pub left : (text : List ℕ) (start deltas : ℕ) (o : PointsOutcome) → PointsReadCall text start deltas o
-      → (n : ℕ) (a : PointsAccepted text start deltas n) → o ≡ drawn.leaves (WriteAnswer.Done n) (start_at a.first start) (deltasBehind a.ds n deltas)
+      → (n : ℕ) (a : PointsAccepted text start deltas n) → o ≡ drawn.leaves (WriteAnswer.Done n) (start_at a.first start) (deltas_behind a.ds n deltas)
 
 -- an answer of success, with its double deltas
 pub record PointsDone (o : PointsOutcome) : Type 0 where
@@ -263,10 +263,10 @@ pub record PointsReadCodes : Type 0 where
       → (c : Code) (p : ℕ) → o.answer ≡ WriteAnswer.Refused c p ↔ PointsReadRefusal text start deltas c p
   pub told : (text : List ℕ) (start deltas : ℕ) (o : PointsOutcome) → PointsReadCall text start deltas o
       → (c : Code) (p : ℕ) → PointsReadRefusal text start deltas c p → PointsRefused start deltas c p o
-  pub else-done : (text : List ℕ) (start deltas : ℕ) (o : PointsOutcome) → PointsReadCall text start deltas o
+  pub else_done : (text : List ℕ) (start deltas : ℕ) (o : PointsOutcome) → PointsReadCall text start deltas o
       → ((c : Code) (p : ℕ) → PointsReadRefusal text start deltas c p → ⊥) → PointsDone o
   pub says : FormSays
-  pub one-saying : OneSaying
+  pub one_saying : OneSaying
 
 -- writing likewise, by the table of writing; and it is done exactly when nothing is given, with so many bytes
 pub record PointsWriteCodes : Type 0 where
@@ -280,19 +280,19 @@ pub record PointsWriteCodes : Type 0 where
 -- the spline k of a description has the start and the n double deltas that reading left
 pub record HasRead (o : PointsOutcome) (n : ℕ) (ns : List ℕ) (ss : List Float) (ds cs : List ℤ) (k : ℕ) : Type 0 where
   pub there : There ns ss ds cs k
-  pub x : startX (descriptionOf ns ss ds cs) k ≡ get_or o.start 0 nan
-  pub y : startY (descriptionOf ns ss ds cs) k ≡ get_or o.start 1 nan
-  pub deltas : deltasOf (descriptionOf ns ss ds cs) k ≡ take (2 * n) o.deltas
+  pub x : start_x (description_of ns ss ds cs) k ≡ get_or o.start 0 nan
+  pub y : start_y (description_of ns ss ds cs) k ≡ get_or o.start 1 nan
+  pub deltas : deltas_of (description_of ns ss ds cs) k ≡ take (2 * n) o.deltas
 
 -- by building's own table of codes: under any setting it refuses a spline that was read, or written, by DISTANCE or AREA and nothing else, and a spline that it passes is refused by ROOM and nothing else
 pub record PointsAsBuilt : Type 0 where
   pub read : (text : List ℕ) (start deltas : ℕ) (o : PointsOutcome) (n : ℕ) → PointsReadCall text start deltas o → o.answer ≡ WriteAnswer.Done n
       → (ns : List ℕ) (ss : List Float) (ds cs : List ℤ) (k : ℕ) → HasRead o n ns ss ds cs k
-      → (g : Given) (c : Code) → SplineRefusal (descriptionOf ns ss ds cs) g k c → (c ≡ Code.Distance) ⊎ (c ≡ Code.Area)
+      → (g : Given) (c : Code) → SplineRefusal (description_of ns ss ds cs) g k c → (c ≡ Code.Distance) ⊎ (c ≡ Code.Area)
   pub written : (ns : List ℕ) (ss : List Float) (ds cs : List ℤ) (k room : ℕ) (o : WriteOutcome) (n : ℕ) → PointsWriteCall ns ss ds cs k room o → o.answer ≡ WriteAnswer.Done n
-      → (g : Given) (c : Code) → SplineRefusal (descriptionOf ns ss ds cs) g k c → (c ≡ Code.Distance) ⊎ (c ≡ Code.Area)
+      → (g : Given) (c : Code) → SplineRefusal (description_of ns ss ds cs) g k c → (c ≡ Code.Distance) ⊎ (c ≡ Code.Area)
   pub passed : (ns : List ℕ) (ss : List Float) (ds cs : List ℤ) (k room : ℕ) (o : WriteOutcome) → PointsWriteCall ns ss ds cs k room o → There ns ss ds cs k
-      → (g : Given) → SplinePasses (descriptionOf ns ss ds cs) g k → (c : Code) (p : ℕ) → o.answer ≡ WriteAnswer.Refused c p → c ≡ Code.Room
+      → (g : Given) → SplinePasses (description_of ns ss ds cs) g k → (c : Code) (p : ℕ) → o.answer ≡ WriteAnswer.Refused c p → c ≡ Code.Room
 
 -- import, then export, returns the same text, with zeros behind: of any description that has what was read as a spline, so of one that is this spline alone
 pub record TextWrittenBack : Type 0 where
@@ -307,8 +307,8 @@ pub record TextWrittenBack : Type 0 where
 -- export, then import, gives the start as building rounds it and the same double deltas, with zeros behind, in rooms exact or larger
 pub record ReadBack (ns : List ℕ) (ss : List Float) (ds cs : List ℤ) (k start deltas : ℕ) (q : PointsOutcome) : Type 0 where
   pub first : Pair
-  pub rounded : startingPoint (startX (descriptionOf ns ss ds cs) k) (startY (descriptionOf ns ss ds cs) k) ≡ start-at.At first
-  pub is : q ≡ drawn.leaves (WriteAnswer.Done (get_or ns k 0)) (start_at first start) (deltasBehind (deltasOf (descriptionOf ns ss ds cs) k) (get_or ns k 0) deltas)
+  pub rounded : starting_point (start_x (description_of ns ss ds cs) k) (start_y (description_of ns ss ds cs) k) ≡ start_at_lem.At first
+  pub is : q ≡ drawn.leaves (WriteAnswer.Done (get_or ns k 0)) (start_at first start) (deltas_behind (deltas_of (description_of ns ss ds cs) k) (get_or ns k 0) deltas)
 
 abbrev pub TextReadBack : Type 0
 TextReadBack =
@@ -343,7 +343,7 @@ pub record SplineOwns (d : Description) (i : Setting) (o : BuildOutcome) (s k : 
   pub own : List Segment
   pub makes : SplineMakes d (given_of i) i.high k own
   pub only : (others : List Segment) → SplineMakes d (given_of i) i.high k others → others ≡ own
-  pub are : owned_by k (take s o.owners) (segmentsIn o.segments 0 s) ≡ own
+  pub are : owned_by k (take s o.owners) (segments_in o.segments 0 s) ≡ own
 
 abbrev pub OwnerIsSpline : Type 0
 OwnerIsSpline =
@@ -357,7 +357,7 @@ NoOwner k s o = (j : ℕ) → j < s → get_or o.owners j 0 ≡ k → ⊥
 pub record SkippedHasNone : Type 0 where
   pub skipped : (d : Description) (i : Setting) (r : BuildRooms) (o : BuildOutcome) (s e estimate : ℕ) → BuildDone d i r o s e estimate
       → (k : ℕ) → Skipped d k → NoOwner k s o
-  pub no-deltas : (d : Description) (i : Setting) (r : BuildRooms) (o : BuildOutcome) (s e estimate : ℕ) → BuildDone d i r o s e estimate
+  pub no_deltas : (d : Description) (i : Setting) (r : BuildRooms) (o : BuildOutcome) (s e estimate : ℕ) → BuildDone d i r o s e estimate
       → (k : ℕ) → k < length d.counts → get_or d.counts k 0 ≡ 0 → Skipped d k
 
 -- ---- (vi) two desks, one table
@@ -417,14 +417,14 @@ BuiltIsLent =
 -- with no bit of the desk set over the splines all is as it was without desks: a drawing is the fold over the row's entries themselves, and so is a reach; no segment is left out of demand 3
 pub record AsWithoutDesks : Type 0 where
   pub draw : (t : Table) (s : Sight) (y x0 n : ℕ) (a : Channels) (o : DrawOutcome) → NothingHidden s → DrawCall t s y x0 n a o
-      → o ≡ unhidden (judgeDraw t s y x0 n (length a.r0) (length a.r1) (length a.r2)) t y x0 n a
+      → o ≡ unhidden (judge_draw t s y x0 n (length a.r0) (length a.r1) (length a.r2)) t y x0 n a
   pub reach : (t : Table) (s : Sight) (y W : ℕ) (o : ReachOutcome) → NothingHidden s → ReachCall t s y W o
-      → o ≡ tells (reachAnswer (judgeReachOf t s y W) (reachOver t.segments W (row_of t y)))
-  pub segments : (d : Description) (i : Setting) (segments : List Segment) (owners : List ℕ) (s : Sight) → KeptSight d i segments owners s → NothingHidden s → notHidden s owners segments ≡ segments
+      → o ≡ tells (reach_answer (judge_reach_of t s y W) (reach_over t.segments W (row_of t y)))
+  pub segments : (d : Description) (i : Setting) (segments : List Segment) (owners : List ℕ) (s : Sight) → KeptSight d i segments owners s → NothingHidden s → not_hidden s owners segments ≡ segments
   pub row : (d : Description) (i : Setting) (segments : List Segment) (owners : List ℕ) (t : Table) (s : Sight) → KeptTable d i segments t → KeptSight d i segments owners s → NothingHidden s
-      → (y W : ℕ) (a w : Channels) (sum : ℕ) → RowRun t s y W a w sum → RowPicture segments y a w × (sum ≡ rowPairs segments W y) × (sum ≤ W * length (row_of t y))
+      → (y W : ℕ) (a w : Channels) (sum : ℕ) → RowRun t s y W a w sum → RowPicture segments y a w × (sum ≡ row_pairs segments W y) × (sum ≤ W * length (row_of t y))
   pub image : (d : Description) (i : Setting) (segments : List Segment) (owners : List ℕ) (t : Table) (s : Sight) → KeptTable d i segments t → KeptSight d i segments owners s → NothingHidden s
-      → (W : ℕ) (a w : drawing.Image) (sum : ℕ) → ImageRun t s W a w sum → ((y : ℕ) → y < i.height → RowPicture segments y (a y) (w y)) × (sum ≡ imagePairs segments W 0 i.height)
+      → (W : ℕ) (a w : drawing.Image) (sum : ℕ) → ImageRun t s W a w sum → ((y : ℕ) → y < i.height → RowPicture segments y (a y) (w y)) × (sum ≡ image_pairs segments W 0 i.height)
 
 -- ---- (vii) why a segment sits at the corner
 
@@ -438,14 +438,14 @@ pub record NumbersByKind : Type 0 where
 -- the fourth count of a build that is done is the number of the segments left whose third float, the distance, is NaN
 abbrev pub FaintCounted : Type 0
 FaintCounted =
-    (d : Description) (i : Setting) (r : building.BuildRooms) (o : building.BuildOutcome) (s e estimate : ℕ) (b : BuildDone d i r o s e estimate) → b.faint ≡ faintIn o.segments s
+    (d : Description) (i : Setting) (r : building.BuildRooms) (o : building.BuildOutcome) (s e estimate : ℕ) (b : BuildDone d i r o s e estimate) → b.faint ≡ faint_in o.segments s
 
 -- the four ends of such a segment are no numbers
 pub record FaintEnds (s : Segment) : Type 0 where
-  pub first-row : rowEnd (s.center_y ⊖ s.maximum_distance) ≡ I64.NotNumber
-  pub last_row : rowEnd (s.center_y ⊕ s.maximum_distance) ≡ I64.NotNumber
-  pub first-column : columnEnd (s.center_x ⊖ s.maximum_distance) ≡ U64.NotNumber
-  pub last-column : columnEnd (s.center_x ⊕ s.maximum_distance) ≡ U64.NotNumber
+  pub first_row : row_end (s.center_y ⊖ s.maximum_distance) ≡ I64.NotNumber
+  pub last_row : row_end (s.center_y ⊕ s.maximum_distance) ≡ I64.NotNumber
+  pub first_column : column_end (s.center_x ⊖ s.maximum_distance) ≡ U64.NotNumber
+  pub last_column : column_end (s.center_x ⊕ s.maximum_distance) ≡ U64.NotNumber
 
 abbrev pub FaintByKind : Type 0
 FaintByKind = (s : Segment) → is_nan s.maximum_distance ≡ true → FaintEnds s
@@ -472,11 +472,11 @@ pub record ProfileCodes : Type 0 where
 -- one that is refused otherwise than by PROFILE or EDITION is refused as a build is
 pub record ProfileBuildIsBuild : Type 0 where
   pub accepted : (d : Description) (i : Setting) (e : ℕ) (r : BuildRooms) (o : ProfileBuildOutcome) → ProfileBuildCall d i e r o → (s n t f : ℕ) → o.answer ≡ ProfileBuildAnswer.Done s n t f
-      → Plain d i e r × ((b : BuildOutcome) → BuildCall d i r b → o ≡ asBuilt b)
+      → Plain d i e r × ((b : BuildOutcome) → BuildCall d i r b → o ≡ as_built b)
   pub plain : (d : Description) (i : Setting) (e : ℕ) (r : BuildRooms) (o : ProfileBuildOutcome) → ProfileBuildCall d i e r o → Plain d i e r
-      → (b : BuildOutcome) → BuildCall d i r b → o ≡ asBuilt b
+      → (b : BuildOutcome) → BuildCall d i r b → o ≡ as_built b
   pub otherwise : (d : Description) (i : Setting) (e : ℕ) (r : BuildRooms) (o : ProfileBuildOutcome) → ProfileBuildCall d i e r o → (c : Code) (p : ℕ) → o.answer ≡ ProfileBuildAnswer.Refused c p
-      → (c ≡ Code.Edition → ⊥) → (b : BuildOutcome) → BuildCall d i r b → o ≡ asBuilt b
+      → (c ≡ Code.Edition → ⊥) → (b : BuildOutcome) → BuildCall d i r b → o ≡ as_built b
 
 -- each answer exactly when; after a refusal, PROFILE too, every lent cell is zero; PROFILE is 21 at the spline, with the rule as first count
 pub record ProfileBuildCodes : Type 0 where
@@ -486,11 +486,11 @@ pub record ProfileBuildCodes : Type 0 where
       → (rule k : ℕ) → o.answer ≡ ProfileBuildAnswer.Broken rule k ↔ BreaksRule d i e r rule k
   pub refused : (d : Description) (i : Setting) (e : ℕ) (r : BuildRooms) (o : ProfileBuildOutcome) → ProfileBuildCall d i e r o
       → (c : Code) (p : ℕ) → o.answer ≡ ProfileBuildAnswer.Refused c p ↔ ProfileBuildRefusal d i e r c p
-  pub broken-zero : (d : Description) (i : Setting) (e : ℕ) (r : BuildRooms) (o : ProfileBuildOutcome) → ProfileBuildCall d i e r o
-      → (rule k : ℕ) → BreaksRule d i e r rule k → (o ≡ stoppedWith r (ProfileBuildAnswer.Broken rule k))
+  pub broken_zero : (d : Description) (i : Setting) (e : ℕ) (r : BuildRooms) (o : ProfileBuildOutcome) → ProfileBuildCall d i e r o
+      → (rule k : ℕ) → BreaksRule d i e r rule k → (o ≡ stopped_with r (ProfileBuildAnswer.Broken rule k))
       × (o.told ≡ record { number = 21; place = k; first = rule; second = 0; third = 0; fourth = 0 })
-  pub refused-zero : (d : Description) (i : Setting) (e : ℕ) (r : BuildRooms) (o : ProfileBuildOutcome) → ProfileBuildCall d i e r o
-      → (c : Code) (p : ℕ) → ProfileBuildRefusal d i e r c p → (o ≡ stoppedWith r (ProfileBuildAnswer.Refused c p))
+  pub refused_zero : (d : Description) (i : Setting) (e : ℕ) (r : BuildRooms) (o : ProfileBuildOutcome) → ProfileBuildCall d i e r o
+      → (c : Code) (p : ℕ) → ProfileBuildRefusal d i e r c p → (o ≡ stopped_with r (ProfileBuildAnswer.Refused c p))
       × (o.told ≡ record { number = number_of c; place = p; first = 0; second = 0; third = 0; fourth = 0 })
 
 -- any two outcomes that a contract allows are equal
@@ -527,7 +527,7 @@ pub record OneFilePerVersion : Type 0 where
   pub read_back : (ns : List ℕ) (ss : List Float) (ds cs : List ℤ) (a : ℤ) (v e room : ℕ) (o : WriteOutcome) (n : ℕ) → FileWriteCall ns ss ds cs a v e room o → o.answer ≡ WriteAnswer.Done n
       → (rooms : ListRooms) → Enough rooms ns ss ds cs → (q : FileOutcome) → FileReadCall (take n o.list) rooms q
       → q ≡ record {
-        read = reading.leaves (ReadAnswer.Done (length ns) (points_of ns) a) (padded rooms.counts 0 ns) (padded rooms.starts zeroF32 ss)
+        read = reading.leaves (ReadAnswer.Done (length ns) (points_of ns) a) (padded rooms.counts 0 ns) (padded rooms.starts zero_f32 ss)
             (padded rooms.deltas (pos 0) ds) (padded rooms.coefficients (pos 0) cs);
         edition = e;
       }
@@ -540,7 +540,7 @@ pub record OneFilePerVersion : Type 0 where
 
 -- version 1 is as before, every cell: a file of version 1 is read as `trace_read` reads it, with edition 1, and version 1 with edition 1 is written as `trace_write` writes it
 pub record VersionOneAsBefore : Type 0 where
-  pub read : (bytes : List ℕ) (rooms : ListRooms) (o : FileOutcome) (q : ReadOutcome) → number bytes 0 ≡ 1 → FileReadCall bytes rooms o → TraceReadCall bytes rooms q → o ≡ withEdition 1 q
+  pub read : (bytes : List ℕ) (rooms : ListRooms) (o : FileOutcome) (q : ReadOutcome) → number bytes 0 ≡ 1 → FileReadCall bytes rooms o → TraceReadCall bytes rooms q → o ≡ with_edition 1 q
   pub write : (ns : List ℕ) (ss : List Float) (ds cs : List ℤ) (a : ℤ) (room : ℕ) (o q : WriteOutcome) → FileWriteCall ns ss ds cs a 1 1 room o → TraceWriteCall ns ss ds cs a room q → o ≡ q
 
 -- reading refuses with a code at a place exactly when the table of reading gives it; the number, the place and the counts of 0 are then told, and every lent cell is zero
@@ -550,8 +550,8 @@ pub record FileReadCodes : Type 0 where
       → (c : Code) (p : ℕ) → o.read.answer ≡ ReadAnswer.Refused c p ↔ FileReadRefusal rooms bytes c p
   pub told : (bytes : List ℕ) (rooms : ListRooms) (o : FileOutcome) → FileReadCall bytes rooms o
       → (c : Code) (p : ℕ) → FileReadRefusal rooms bytes c p → ReadRefused rooms c p o.read × (o.edition ≡ 0)
-  pub else-done : (bytes : List ℕ) (rooms : ListRooms) (o : FileOutcome) → FileReadCall bytes rooms o
-      → ((c : Code) (p : ℕ) → FileReadRefusal rooms bytes c p → ⊥) → ReadDone o.read × (o.edition ≡ editionIn (numbersIn bytes))
+  pub else_done : (bytes : List ℕ) (rooms : ListRooms) (o : FileOutcome) → FileReadCall bytes rooms o
+      → ((c : Code) (p : ℕ) → FileReadRefusal rooms bytes c p → ⊥) → ReadDone o.read × (o.edition ≡ edition_in (numbers_in bytes))
 
 -- writing likewise, by the table of writing; and it is done exactly when nothing is given, with so many bytes
 pub record FileWriteCodes : Type 0 where
@@ -579,10 +579,10 @@ pub record BandsCodes : Type 0 where
       → (c : Code) (p : ℕ) → BandsRefusal t s W room c p → (o.told ≡ record { number = number_of c; place = 0; bands = 0 }) × (o.cells ≡ replicate room 0)
   pub done : (t : Table) (s : Sight) (W room : ℕ) (o : BandsOutcome) → BandsCall t s W room o
       → (n : ℕ) → o.answer ≡ BandsAnswer.Done n ↔ BandsDone t s W room n
-  pub done-told : (t : Table) (s : Sight) (W room : ℕ) (o : BandsOutcome) → BandsCall t s W room o
-      → (n : ℕ) → BandsDone t s W room n → (o.told ≡ record { number = 0; place = 0; bands = bandsIn t.height }) × (length o.cells ≡ room)
-  pub else-done : (t : Table) (s : Sight) (W room : ℕ) (o : BandsOutcome) → BandsCall t s W room o
-      → ((c : Code) (p : ℕ) → BandsRefusal t s W room c p → ⊥) → o.answer ≡ BandsAnswer.Done (bandsIn t.height)
+  pub done_told : (t : Table) (s : Sight) (W room : ℕ) (o : BandsOutcome) → BandsCall t s W room o
+      → (n : ℕ) → BandsDone t s W room n → (o.told ≡ record { number = 0; place = 0; bands = bands_in t.height }) × (length o.cells ≡ room)
+  pub else_done : (t : Table) (s : Sight) (W room : ℕ) (o : BandsOutcome) → BandsCall t s W room o
+      → ((c : Code) (p : ℕ) → BandsRefusal t s W room c p → ⊥) → o.answer ≡ BandsAnswer.Done (bands_in t.height)
 
 -- refreshing band b likewise; a refused refresh changes nothing
 pub record BandCodes : Type 0 where
@@ -592,10 +592,10 @@ pub record BandCodes : Type 0 where
       → (c : Code) (p : ℕ) → BandRefusal t s W (length cells) b c p → (o.told ≡ record { number = number_of c; place = 0; bands = 0 }) × (o.cells ≡ cells)
   pub done : (t : Table) (s : Sight) (W b : ℕ) (cells : List ℕ) (o : BandsOutcome) → BandCall t s W b cells o
       → (n : ℕ) → o.answer ≡ BandsAnswer.Done n ↔ BandDone t s W (length cells) b n
-  pub done-told : (t : Table) (s : Sight) (W b : ℕ) (cells : List ℕ) (o : BandsOutcome) → BandCall t s W b cells o
-      → (n : ℕ) → BandDone t s W (length cells) b n → o.told ≡ record { number = 0; place = 0; bands = bandsIn t.height }
-  pub else-done : (t : Table) (s : Sight) (W b : ℕ) (cells : List ℕ) (o : BandsOutcome) → BandCall t s W b cells o
-      → ((c : Code) (p : ℕ) → BandRefusal t s W (length cells) b c p → ⊥) → o.answer ≡ BandsAnswer.Done (bandsIn t.height)
+  pub done_told : (t : Table) (s : Sight) (W b : ℕ) (cells : List ℕ) (o : BandsOutcome) → BandCall t s W b cells o
+      → (n : ℕ) → BandDone t s W (length cells) b n → o.told ≡ record { number = 0; place = 0; bands = bands_in t.height }
+  pub else_done : (t : Table) (s : Sight) (W b : ℕ) (cells : List ℕ) (o : BandsOutcome) → BandCall t s W b cells o
+      → ((c : Code) (p : ℕ) → BandRefusal t s W (length cells) b c p → ⊥) → o.answer ≡ BandsAnswer.Done (bands_in t.height)
 
 -- any two outcomes that a contract allows are equal
 pub record BandsOneOutcome : Type 0 where
@@ -643,9 +643,9 @@ OtherBandsStay =
 -- a band of whose rows the desk is shown no entry holds zeros, and so do the cells behind the last band
 pub record NoEntryZeros : Type 0 where
   pub made : (t : Table) (s : Sight) (W room : ℕ) (o : BandsOutcome) (n : ℕ) → BandsCall t s W room o → o.answer ≡ BandsAnswer.Done n
-      → (b : ℕ) → b < n → ((y : ℕ) → InBand t.height b y → shownOf t s y ≡ []) → (j : ℕ) → j < 5 → get_or o.cells (5 * b + j) 0 ≡ 0
+      → (b : ℕ) → b < n → ((y : ℕ) → InBand t.height b y → shown_of t s y ≡ []) → (j : ℕ) → j < 5 → get_or o.cells (5 * b + j) 0 ≡ 0
   pub refreshed : (t : Table) (s : Sight) (W b : ℕ) (cells : List ℕ) (o : BandsOutcome) (n : ℕ) → BandCall t s W b cells o → o.answer ≡ BandsAnswer.Done n
-      → ((y : ℕ) → InBand t.height b y → shownOf t s y ≡ []) → (j : ℕ) → j < 5 → get_or o.cells (5 * b + j) 0 ≡ 0
+      → ((y : ℕ) → InBand t.height b y → shown_of t s y ≡ []) → (j : ℕ) → j < 5 → get_or o.cells (5 * b + j) 0 ≡ 0
   pub behind : (t : Table) (s : Sight) (W room : ℕ) (o : BandsOutcome) (n : ℕ) → BandsCall t s W room o → o.answer ≡ BandsAnswer.Done n
       → (k : ℕ) → 5 * n ≤ k → get_or o.cells k 0 ≡ 0
 
@@ -653,7 +653,7 @@ pub record NoEntryZeros : Type 0 where
 pub record RefreshesDone : Type 0 where
   pub fresh : (t : Table) (s : Sight) (W : ℕ) (cells : List ℕ) (o : BandsOutcome) (n : ℕ) → BandsCall t s W (length cells) o → o.answer ≡ BandsAnswer.Done n
       → (b : ℕ) → b < n → (q : BandsOutcome) → BandCall t s W b cells q → q.answer ≡ BandsAnswer.Done n
-  pub after-hide : (t : Table) (s : Sight) (W : ℕ) (cells : List ℕ) (o : BandsOutcome) (n : ℕ) → BandsCall t s W (length cells) o → o.answer ≡ BandsAnswer.Done n
+  pub after_hide : (t : Table) (s : Sight) (W : ℕ) (cells : List ℕ) (o : BandsOutcome) (n : ℕ) → BandsCall t s W (length cells) o → o.answer ≡ BandsAnswer.Done n
       → (k : ℕ) (hidden : Bool) (h : HideOutcome) → HideCall s.bits s.desk k hidden h
       → (b : ℕ) → b < n → (q : BandsOutcome) → BandCall t (with_bits s h.bits) W b cells q → q.answer ≡ BandsAnswer.Done n
 
@@ -673,25 +673,25 @@ pub record BandsOfDesksApart : Type 0 where
       → BandsCall t s W room o → BandsCall t (with_bits s bits) W room q → o ≡ q
   pub refresh : (t : Table) (s : Sight) (bits : List ℕ) → Agree s (with_bits s bits) → (W b : ℕ) (cells : List ℕ) (o q : BandsOutcome)
       → BandCall t s W b cells o → BandCall t (with_bits s bits) W b cells q → o ≡ q
-  pub make-unseen : (t : Table) (s : Sight) (other : ℕ) → (other ≡ s.desk → ⊥) → (bits : List ℕ) → HideCalls other s.bits bits → (W room : ℕ) (o q : BandsOutcome)
+  pub make_unseen : (t : Table) (s : Sight) (other : ℕ) → (other ≡ s.desk → ⊥) → (bits : List ℕ) → HideCalls other s.bits bits → (W room : ℕ) (o q : BandsOutcome)
       → BandsCall t s W room o → BandsCall t (with_bits s bits) W room q → o ≡ q
-  pub refresh-unseen : (t : Table) (s : Sight) (other : ℕ) → (other ≡ s.desk → ⊥) → (bits : List ℕ) → HideCalls other s.bits bits → (W b : ℕ) (cells : List ℕ) (o q : BandsOutcome)
+  pub refresh_unseen : (t : Table) (s : Sight) (other : ℕ) → (other ≡ s.desk → ⊥) → (bits : List ℕ) → HideCalls other s.bits bits → (W b : ℕ) (cells : List ℕ) (o q : BandsOutcome)
       → BandCall t s W b cells o → BandCall t (with_bits s bits) W b cells q → o ≡ q
 
 -- ---- (xii) row tables from the other maker
 
 -- the words of the check, of a table as drawing takes it: accepted with m entries, of the right size, wrong first at row w, and refused with a code at a place
 abbrev pub AcceptedTable : Table → ℕ → Type 0
-AcceptedTable t m = CheckAccepted t.segments t.segmentCount t.height t.rowStarts t.entries t.entryCount m
+AcceptedTable t m = CheckAccepted t.segments t.segment_count t.height t.row_starts t.entries t.entry_count m
 
 abbrev pub FitsTable : Table → Type 0
-FitsTable t = Fits t.segments t.segmentCount t.height t.rowStarts t.entries t.entryCount
+FitsTable t = Fits t.segments t.segment_count t.height t.row_starts t.entries t.entry_count
 
 abbrev pub FirstWrongIn : Table → ℕ → Type 0
-FirstWrongIn t w = FirstWrong t.segments t.segmentCount t.height t.rowStarts t.entries t.entryCount w
+FirstWrongIn t w = FirstWrong t.segments t.segment_count t.height t.row_starts t.entries t.entry_count w
 
 abbrev pub TableRefusal : Table → Code → ℕ → Type 0
-TableRefusal t c p = CheckRefusal t.segments t.segmentCount t.height t.rowStarts t.entries t.entryCount c p
+TableRefusal t c p = CheckRefusal t.segments t.segment_count t.height t.row_starts t.entries t.entry_count c p
 
 -- a table is accepted exactly if each row of the image lists precisely the segments whose row range has that row, once each, ascending, with starts and entry count fitting
 abbrev pub TableAcceptedExactly : Type 0
@@ -705,9 +705,9 @@ pub record FirstWrongRow : Type 0 where
 -- the check refuses with a code at a place exactly when the table of refusals gives it, and tells its number, the place and no entries; else it is done and tells the entry count
 pub record CheckCodes : Type 0 where
   pub exactly : (t : Table) (o : CheckAnswer) → CheckCall t o → (c : Code) (p : ℕ) → o ≡ CheckAnswer.Refused c p ↔ TableRefusal t c p
-  pub told : (t : Table) (o : CheckAnswer) → CheckCall t o → (c : Code) (p : ℕ) → TableRefusal t c p → toldOf o ≡ record { number = number_of c; place = p; entries = 0 }
-  pub done : (t : Table) (o : CheckAnswer) → CheckCall t o → (m : ℕ) → AcceptedTable t m → toldOf o ≡ record { number = 0; place = 0; entries = t.entryCount }
-  pub else-done : (t : Table) (o : CheckAnswer) → CheckCall t o → ((c : Code) (p : ℕ) → TableRefusal t c p → ⊥) → o ≡ CheckAnswer.Done t.entryCount
+  pub told : (t : Table) (o : CheckAnswer) → CheckCall t o → (c : Code) (p : ℕ) → TableRefusal t c p → told_of o ≡ record { number = number_of c; place = p; entries = 0 }
+  pub done : (t : Table) (o : CheckAnswer) → CheckCall t o → (m : ℕ) → AcceptedTable t m → told_of o ≡ record { number = 0; place = 0; entries = t.entry_count }
+  pub else_done : (t : Table) (o : CheckAnswer) → CheckCall t o → ((c : Code) (p : ℕ) → TableRefusal t c p → ⊥) → o ≡ CheckAnswer.Done t.entry_count
 
 -- any two answers that the contract allows are equal
 abbrev pub CheckOneOutcome : Type 0
@@ -716,14 +716,14 @@ CheckOneOutcome = (t : Table) (o q : CheckAnswer) → CheckCall t o → CheckCal
 -- every table that a build leaves is accepted with its entries, cut to its counts or wherever it is kept with one more row start than rows
 pub record BuiltIsAccepted : Type 0 where
   pub cut : (d : Description) (i : Setting) (r : BuildRooms) (o : BuildOutcome) (s e estimate : ℕ) → BuildDone d i r o s e estimate
-      → (q : CheckAnswer) → CheckCall (cutToCounts (built i o s e)) q → q ≡ CheckAnswer.Done e
-  pub kept : (d : Description) (i : Setting) (segments : List Segment) (t : Table) → KeptTable d i segments t → length t.rowStarts ≡ suc t.height
-      → (q : CheckAnswer) → CheckCall t q → q ≡ CheckAnswer.Done t.entryCount
+      → (q : CheckAnswer) → CheckCall (cut_to_counts (built i o s e)) q → q ≡ CheckAnswer.Done e
+  pub kept : (d : Description) (i : Setting) (segments : List Segment) (t : Table) → KeptTable d i segments t → length t.row_starts ≡ suc t.height
+      → (q : CheckAnswer) → CheckCall t q → q ≡ CheckAnswer.Done t.entry_count
 
 -- the segments in use are the same, and so is the height
 pub record SameSegments (t u : Table) : Type 0 where
-  pub count : t.segmentCount ≡ u.segmentCount
-  pub floats : take (8 * t.segmentCount) t.segments ≡ take (8 * t.segmentCount) u.segments
+  pub count : t.segment_count ≡ u.segment_count
+  pub floats : take (8 * t.segment_count) t.segments ≡ take (8 * t.segment_count) u.segments
   pub height : t.height ≡ u.height
 
 -- beside a table that a build left, kept anywhere, a table of the same segments that the check accepts gives every desk the same outcomes of draw and reach, in any row
@@ -750,8 +750,8 @@ pub record BandsOfAccepted : Type 0 where
 pub record SegmentsNear : Type 0 where
   pub rows : RowsNear
   pub columns : ColumnsNear
-  pub rows-tight : RowsBy Tight
-  pub columns-tight : ColumnsBy Tight
+  pub rows_tight : RowsBy Tight
+  pub columns_tight : ColumnsBy Tight
   pub finite : EveryFinite
 
 -- as a certificate quotes it, of segment j of a kept table: every image row no farther than d - 1 from its centre lists it, and no row that lists it is farther than d + 1
@@ -762,7 +762,7 @@ pub record ListedNear (t : Table) (height j k : ℕ) (c : ℤ) (d : ℕ) : Type 
 abbrev pub TablesNear : Type 0
 TablesNear =
     (d : Description) (i : Setting) (segments : List Segment) (t : Table) → KeptTable d i segments t
-    → (j : ℕ) → j < t.segmentCount → (k : ℕ) (c : ℤ) (far : ℕ) → Edge (segmentAt t.segments j).center_y (segmentAt t.segments j).maximum_distance k c far
+    → (j : ℕ) → j < t.segment_count → (k : ℕ) (c : ℤ) (far : ℕ) → Edge (segment_at t.segments j).center_y (segment_at t.segments j).maximum_distance k c far
     → ListedNear t i.height j k c far
 
 -- how far a is from d, where 1 is `one`: no farther than d - 1, and farther than d + 1
@@ -792,20 +792,20 @@ pub record ColumnIs (So : ℕ → ℕ → ℕ → Type 0) (s : Segment) (x : ℕ
 -- a desk's drawing of n pixels of row y from column x0 on updates cell x by segment j
 pub record UpdatesBy (t : Table) (s : Sight) (y x0 n x j : ℕ) : Type 0 where
   pub updates : Updates t s y x0 n x
-  pub by : get_or (shownOf t s y) updates.entry 0 ≡ j
+  pub by : get_or (shown_of t s y) updates.entry 0 ≡ j
 
 -- a pixel in row y is farther than d + 1 from segment j of a table, by its row or by its column x
 abbrev pub Clear : Table → ℕ → ℕ → ℕ → Type 0
-Clear t y x j = RowIs BeyondByOne (segmentAt t.segments j) y ⊎ ColumnIs BeyondByOne (segmentAt t.segments j) x
+Clear t y x j = RowIs BeyondByOne (segment_at t.segments j) y ⊎ ColumnIs BeyondByOne (segment_at t.segments j) x
 
 -- what a drawing of a row of a kept table updates: a segment that is not hidden for the desk updates the pixels of the part that are no farther than d - 1 from its centre by row and by column,
 -- and none that is farther than d + 1 by either; so a pixel that is so far from every segment that is not hidden comes back as it was
 pub record DrawingsNear : Type 0 where
   pub inside : (d : Description) (i : Setting) (segments : List Segment) (owners : List ℕ) (t : Table) (s : Sight) → KeptTable d i segments t → KeptSight d i segments owners s
-      → (y x0 n x j : ℕ) → y < i.height → x < n → j < t.segmentCount → hiddenIn s j ≡ false
-      → RowIs InsideByOne (segmentAt t.segments j) y → ColumnIs InsideByOne (segmentAt t.segments j) (x0 + x) → UpdatesBy t s y x0 n x j
+      → (y x0 n x j : ℕ) → y < i.height → x < n → j < t.segment_count → hidden_in s j ≡ false
+      → RowIs InsideByOne (segment_at t.segments j) y → ColumnIs InsideByOne (segment_at t.segments j) (x0 + x) → UpdatesBy t s y x0 n x j
   pub outside : (d : Description) (i : Setting) (segments : List Segment) (owners : List ℕ) (t : Table) (s : Sight) → KeptTable d i segments t → KeptSight d i segments owners s
       → (y x0 n x j : ℕ) → y < i.height → Clear t y (x0 + x) j → UpdatesBy t s y x0 n x j → ⊥
   pub kept : (d : Description) (i : Setting) (segments : List Segment) (owners : List ℕ) (t : Table) (s : Sight) → KeptTable d i segments t → KeptSight d i segments owners s
       → (y x0 n : ℕ) (a : Channels) (o : DrawOutcome) → y < i.height → DrawCall t s y x0 n a o
-      → (x : ℕ) → ((j : ℕ) → j < t.segmentCount → hiddenIn s j ≡ false → Clear t y (x0 + x) j) → SameCell x a o.channels
+      → (x : ℕ) → ((j : ℕ) → j < t.segment_count → hidden_in s j ≡ false → Clear t y (x0 + x) j) → SameCell x a o.channels

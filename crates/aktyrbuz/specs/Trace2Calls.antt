@@ -8,7 +8,7 @@ use Rattle.reader.specs.Read as reading
 use Rattle.writer.specs.Write as writing
 use Rattle.write_laws.specs.Floats.{Floats}
 use Rattle.little.specs.Little.{Bytes, Numbers, Signeds}
-use Rattle.trace2.specs.Read.{FileOutcome, fileLeaves}
+use Rattle.trace2.specs.Read.{FileOutcome, file_leaves}
 use Rattle.trace2_read.proofs.trace_read2.Reads as trace-read2
 use Rattle.trace2_write.proofs.trace_write2.Reads as trace-write2
 
@@ -19,7 +19,7 @@ pub data FileReadCall : List ℕ → ListRooms → FileOutcome → Type 0 where
       → Bytes bytes.now → trace-read2.Post κs (bytes, (counts, (starts, (deltas, (coefficients, tt))))) r
       (bytes', (counts', (starts', (deltas', (coefficients', tt)))))
       → FileReadCall bytes.now (reading.rooms_of counts.now starts.now deltas.now coefficients.now)
-      (fileLeaves r counts'.now starts'.now deltas'.now coefficients'.now)
+      (file_leaves r counts'.now starts'.now deltas'.now coefficients'.now)
 
 -- of a description, a version and an edition, with so many bytes lent; its numbers are of their types, as all are that can be lent
 -- (the contracts of `lend_numbers`, `lend_signed` and `take_signed` of `trace_laws`, and of `write_laws::lend`)

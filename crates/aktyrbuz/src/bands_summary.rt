@@ -2,8 +2,8 @@
 ghost use Rattle.std.specs.Prelude.{◌≡◌, length};
 ghost use Rattle.desks.specs.Desks.{sight_of};
 ghost use Rattle.checks.specs.Tables.{table_of};
-ghost use Rattle.bands.specs.Calls.{bandsOf, bandOf};
-ghost use Rattle.aktyrbuz.specs.BandsExported.{bandsLeaves, bandsExport};
+ghost use Rattle.bands.specs.Calls.{bands_of, band_of};
+ghost use Rattle.aktyrbuz.specs.BandsExported.{bands_leaves, bands_export};
 
 use told::{tell, told_bands};
 
@@ -23,8 +23,8 @@ pub extern "C" fn aktyrbuz_bands(
     bands: &mut [u32],
     answer: &mut [i64; 5],
 ) -> u32
-    ensures { bandsLeaves result answer.new bands.new
-        ≡ bandsExport (bandsOf (table_of segments.now segment_count entries.now entry_count row_starts.now height) (sight_of owners.now splines bits.now desk) width (length bands.old)) }
+    ensures { bands_leaves result answer.new bands.new
+        ≡ bands_export (bands_of (table_of segments.now segment_count entries.now entry_count row_starts.now height) (sight_of owners.now splines bits.now desk) width (length bands.old)) }
 {
     let told = told_bands(bands::make(
         segments,
@@ -61,8 +61,8 @@ pub extern "C" fn aktyrbuz_band(
     band: u32,
     answer: &mut [i64; 5],
 ) -> u32
-    ensures { bandsLeaves result answer.new bands.new
-        ≡ bandsExport (bandOf (table_of segments.now segment_count entries.now entry_count row_starts.now height) (sight_of owners.now splines bits.now desk) width band bands.old) }
+    ensures { bands_leaves result answer.new bands.new
+        ≡ bands_export (band_of (table_of segments.now segment_count entries.now entry_count row_starts.now height) (sight_of owners.now splines bits.now desk) width band bands.old) }
 {
     let told = told_bands(bands::refresh(
         segments,

@@ -1,7 +1,7 @@
 // The export for the shared bytes of two desks.
 ghost use Rattle.std.specs.Prelude.{◌≡◌};
-ghost use Rattle.desks.specs.Hide.{hideOf};
-ghost use Rattle.aktyrbuz.specs.Exported.{hideLeaves, hideExport};
+ghost use Rattle.desks.specs.Hide.{hide_of};
+ghost use Rattle.aktyrbuz.specs.Exported.{hide_leaves, hide_export};
 
 use told::{tell, told_hide};
 
@@ -13,7 +13,7 @@ pub extern "C" fn aktyrbuz_hide(
     hidden: bool,
     answer: &mut [i64; 5],
 ) -> u32
-    ensures { hideLeaves result answer.new bits.new ≡ hideExport (hideOf bits.old desk spline hidden) }
+    ensures { hide_leaves result answer.new bits.new ≡ hide_export (hide_of bits.old desk spline hidden) }
 {
     let told = told_hide(desks::hide(bits, desk, spline, hidden));
     tell(answer, told);

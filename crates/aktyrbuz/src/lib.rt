@@ -3,16 +3,16 @@
 #![tactic(auto)]
 
 ghost use Rattle.std.specs.Prelude.{◌≡◌, length};
-ghost use Rattle.approximations.specs.Ln.{lnOf};
-ghost use Rattle.reader.specs.Read.{readOutcome, rooms_of};
-ghost use Rattle.writer.specs.Write.{writeOf};
-ghost use Rattle.dequantize.specs.Judge.{descriptionOf};
-ghost use Rattle.table.specs.Table.{setting_of, buildOf};
+ghost use Rattle.approximations.specs.Ln.{ln_of};
+ghost use Rattle.reader.specs.Read.{read_outcome, rooms_of};
+ghost use Rattle.writer.specs.Write.{write_of};
+ghost use Rattle.dequantize.specs.Judge.{description_of};
+ghost use Rattle.table.specs.Table.{setting_of, build_of};
 ghost use Rattle.table.specs.Table as build;
 ghost use Rattle.desks.specs.Desks.{sight_of};
-ghost use Rattle.draw.specs.Draw.{table_of, three, drawOf};
-ghost use Rattle.hull.specs.Reach.{reachOf};
-ghost use Rattle.aktyrbuz.specs.Exported.{readLeaves, readExport, writeLeaves, writeExport, buildLeaves, buildExport, drawLeaves, drawExport, reachLeaves, reachExport};
+ghost use Rattle.draw.specs.Draw.{table_of, three, draw_of};
+ghost use Rattle.hull.specs.Reach.{reach_of};
+ghost use Rattle.aktyrbuz.specs.Exported.{read_leaves, read_export, write_leaves, write_export, build_leaves, build_export, draw_leaves, draw_export, reach_leaves, reach_export};
 
 pub mod bands_summary;
 pub mod hiding;
@@ -29,7 +29,7 @@ use told_tables::{told_build, told_draw, told_reach};
 // The natural logarithm of an f32.
 #[unsafe(no_mangle)]
 pub extern "C" fn aktyrbuz_ln(x: f32) -> f32
-    ensures { result ≡ lnOf x }
+    ensures { result ≡ ln_of x }
 {
     approximations::ln(x)
 }
@@ -45,8 +45,8 @@ pub extern "C" fn aktyrbuz_read(
     coefficients: &mut [i32],
     answer: &mut [i64; 5],
 ) -> u32
-    ensures { readLeaves result answer.new counts.new starts.new deltas.new coefficients.new
-        ≡ readExport (readOutcome configured pixels (rooms_of counts.old starts.old deltas.old coefficients.old) list.now) }
+    ensures { read_leaves result answer.new counts.new starts.new deltas.new coefficients.new
+        ≡ read_export (read_outcome configured pixels (rooms_of counts.old starts.old deltas.old coefficients.old) list.now) }
 {
     let told = told_read(reader::read(
         list,
@@ -73,8 +73,8 @@ pub extern "C" fn aktyrbuz_write(
     list: &mut [u32],
     answer: &mut [i64; 5],
 ) -> u32
-    ensures { writeLeaves result answer.new list.new
-        ≡ writeExport (writeOf counts.now starts.now deltas.now coefficients.now adjustment configured pixels (length list.old)) }
+    ensures { write_leaves result answer.new list.new
+        ≡ write_export (write_of counts.now starts.now deltas.now coefficients.now adjustment configured pixels (length list.old)) }
 {
     let told = told_write(writer::write(
         counts,
@@ -111,8 +111,8 @@ pub extern "C" fn aktyrbuz_build(
     entries: &mut [u32],
     answer: &mut [i64; 5],
 ) -> u32
-    ensures { buildLeaves result answer.new path.new walk.new segments.new owners.new row_starts.new entries.new
-        ≡ buildExport (buildOf (descriptionOf counts.now starts.now deltas.now coefficients.now) (setting_of adjustment width height y_to_x y_to_b high_precision level10) (build.rooms_of path.old walk.old segments.old owners.old row_starts.old entries.old)) }
+    ensures { build_leaves result answer.new path.new walk.new segments.new owners.new row_starts.new entries.new
+        ≡ build_export (build_of (description_of counts.now starts.now deltas.now coefficients.now) (setting_of adjustment width height y_to_x y_to_b high_precision level10) (build.rooms_of path.old walk.old segments.old owners.old row_starts.old entries.old)) }
 {
     let told = told_build(table::build(
         counts,
@@ -157,8 +157,8 @@ pub extern "C" fn aktyrbuz_draw(
     r2: &mut [f32],
     answer: &mut [i64; 5],
 ) -> u32
-    ensures { drawLeaves result answer.new (three r0.new r1.new r2.new)
-        ≡ drawExport (drawOf (table_of segments.now segment_count entries.now entry_count row_starts.now height) (sight_of owners.now splines bits.now desk) y x0 n (three r0.old r1.old r2.old)) }
+    ensures { draw_leaves result answer.new (three r0.new r1.new r2.new)
+        ≡ draw_export (draw_of (table_of segments.now segment_count entries.now entry_count row_starts.now height) (sight_of owners.now splines bits.now desk) y x0 n (three r0.old r1.old r2.old)) }
 {
     let told = told_draw(draw::draw(
         segments,
@@ -198,8 +198,8 @@ pub extern "C" fn aktyrbuz_reach(
     width: u32,
     answer: &mut [i64; 5],
 ) -> u32
-    ensures { reachLeaves result answer.new
-        ≡ reachExport (reachOf (table_of segments.now segment_count entries.now entry_count row_starts.now height) (sight_of owners.now splines bits.now desk) y width) }
+    ensures { reach_leaves result answer.new
+        ≡ reach_export (reach_of (table_of segments.now segment_count entries.now entry_count row_starts.now height) (sight_of owners.now splines bits.now desk) y width) }
 {
     let told = told_reach(hull::reach(
         segments,

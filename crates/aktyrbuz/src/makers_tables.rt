@@ -1,7 +1,7 @@
 // The export for a row table that another maker offers: its check.
 ghost use Rattle.std.specs.Prelude.{◌≡◌};
-ghost use Rattle.makers.specs.Check.{checkOf};
-ghost use Rattle.aktyrbuz.specs.MakersExported.{checkLeaves, checkExport};
+ghost use Rattle.makers.specs.Check.{check_of};
+ghost use Rattle.aktyrbuz.specs.MakersExported.{check_leaves, check_export};
 
 use told::tell;
 use told_tables::told_check;
@@ -16,8 +16,8 @@ pub extern "C" fn aktyrbuz_check(
     entry_count: u32,
     answer: &mut [i64; 5],
 ) -> u32
-    ensures { checkLeaves result answer.new
-        ≡ checkExport (checkOf segments.now segment_count height row_starts.now entries.now entry_count) }
+    ensures { check_leaves result answer.new
+        ≡ check_export (check_of segments.now segment_count height row_starts.now entries.now entry_count) }
 {
     let told = told_check(makers_search::check(
         segments,

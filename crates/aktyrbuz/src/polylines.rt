@@ -1,9 +1,9 @@
 // The exports for line drawings: the control points of one spline as a points text, and back.
 ghost use Rattle.std.specs.Prelude.{◌≡◌, length};
-ghost use Rattle.polyline.specs.Read.{readPointsOf};
-ghost use Rattle.polyline.specs.Write.{writePointsOf};
-ghost use Rattle.aktyrbuz.specs.Exported.{writeLeaves, writeExport};
-ghost use Rattle.aktyrbuz.specs.Polylines.{pointsLeaves, pointsExport};
+ghost use Rattle.polyline.specs.Read.{read_points_of};
+ghost use Rattle.polyline.specs.Write.{write_points_of};
+ghost use Rattle.aktyrbuz.specs.Exported.{write_leaves, write_export};
+ghost use Rattle.aktyrbuz.specs.Polylines.{points_leaves, points_export};
 
 use told::tell;
 use told_lists::told_write;
@@ -15,8 +15,8 @@ pub extern "C" fn aktyrbuz_points_read(
     deltas: &mut [i32],
     answer: &mut [i64; 5],
 ) -> u32
-    ensures { pointsLeaves result answer.new start.new deltas.new
-        ≡ pointsExport (readPointsOf (length start.old) (length deltas.old) text.now) }
+    ensures { points_leaves result answer.new start.new deltas.new
+        ≡ points_export (read_points_of (length start.old) (length deltas.old) text.now) }
 {
     let told = told_write(polyline_read::points_read(text, start, deltas));
     tell(answer, told);
@@ -33,8 +33,8 @@ pub extern "C" fn aktyrbuz_points_write(
     text: &mut [u8],
     answer: &mut [i64; 5],
 ) -> u32
-    ensures { writeLeaves result answer.new text.new
-        ≡ writeExport (writePointsOf counts.now starts.now deltas.now coefficients.now spline (length text.old)) }
+    ensures { write_leaves result answer.new text.new
+        ≡ write_export (write_points_of counts.now starts.now deltas.now coefficients.now spline (length text.old)) }
 {
     let told = told_write(polyline_write::points_write(
         counts,

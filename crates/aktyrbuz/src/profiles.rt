@@ -1,11 +1,11 @@
 // The exports for the fineness profile: the check of a description, and building by profile.
 ghost use Rattle.std.specs.Prelude.{◌≡◌};
-ghost use Rattle.dequantize.specs.Judge.{descriptionOf};
+ghost use Rattle.dequantize.specs.Judge.{description_of};
 ghost use Rattle.table.specs.Table.{setting_of, rooms_of};
-ghost use Rattle.profile.specs.Profile.{profileOf};
-ghost use Rattle.profile_build.specs.Building.{buildProfileOf};
-ghost use Rattle.aktyrbuz.specs.Exported.{buildLeaves};
-ghost use Rattle.aktyrbuz.specs.ProfileExported.{profileLeaves, profileExport, profileBuildExport};
+ghost use Rattle.profile.specs.Profile.{profile_of};
+ghost use Rattle.profile_build.specs.Building.{build_profile_of};
+ghost use Rattle.aktyrbuz.specs.Exported.{build_leaves};
+ghost use Rattle.aktyrbuz.specs.ProfileExported.{profile_leaves, profile_export, profile_build_export};
 
 use told::{tell, told_profile, told_profile_build};
 
@@ -19,8 +19,8 @@ pub extern "C" fn aktyrbuz_profile(
     edition: u32,
     answer: &mut [i64; 5],
 ) -> u32
-    ensures { profileLeaves result answer.new
-        ≡ profileExport (profileOf (descriptionOf counts.now starts.now deltas.now coefficients.now) adjustment edition) }
+    ensures { profile_leaves result answer.new
+        ≡ profile_export (profile_of (description_of counts.now starts.now deltas.now coefficients.now) adjustment edition) }
 {
     let told = told_profile(profile::profile(
         counts,
@@ -56,8 +56,8 @@ pub extern "C" fn aktyrbuz_build_profile(
     entries: &mut [u32],
     answer: &mut [i64; 5],
 ) -> u32
-    ensures { buildLeaves result answer.new path.new walk.new segments.new owners.new row_starts.new entries.new
-        ≡ profileBuildExport (buildProfileOf (descriptionOf counts.now starts.now deltas.now coefficients.now) (setting_of adjustment width height y_to_x y_to_b high_precision level10) edition (rooms_of path.old walk.old segments.old owners.old row_starts.old entries.old)) }
+    ensures { build_leaves result answer.new path.new walk.new segments.new owners.new row_starts.new entries.new
+        ≡ profile_build_export (build_profile_of (description_of counts.now starts.now deltas.now coefficients.now) (setting_of adjustment width height y_to_x y_to_b high_precision level10) edition (rooms_of path.old walk.old segments.old owners.old row_starts.old entries.old)) }
 {
     let told = told_profile_build(profile_build::build_profile(
         counts,

@@ -1,9 +1,9 @@
 // The exports for trace files: the list's two calls, over bytes.
 ghost use Rattle.std.specs.Prelude.{◌≡◌, length};
 ghost use Rattle.reader.specs.Read.{rooms_of};
-ghost use Rattle.trace.specs.Read.{readTraceOf};
-ghost use Rattle.trace.specs.Write.{writeTraceOf};
-ghost use Rattle.aktyrbuz.specs.Exported.{readLeaves, readExport, writeLeaves, writeExport};
+ghost use Rattle.trace.specs.Read.{read_trace_of};
+ghost use Rattle.trace.specs.Write.{write_trace_of};
+ghost use Rattle.aktyrbuz.specs.Exported.{read_leaves, read_export, write_leaves, write_export};
 
 use told::tell;
 use told_lists::{told_read, told_write};
@@ -17,8 +17,8 @@ pub extern "C" fn aktyrbuz_trace_read(
     coefficients: &mut [i32],
     answer: &mut [i64; 5],
 ) -> u32
-    ensures { readLeaves result answer.new counts.new starts.new deltas.new coefficients.new
-        ≡ readExport (readTraceOf (rooms_of counts.old starts.old deltas.old coefficients.old) bytes.now) }
+    ensures { read_leaves result answer.new counts.new starts.new deltas.new coefficients.new
+        ≡ read_export (read_trace_of (rooms_of counts.old starts.old deltas.old coefficients.old) bytes.now) }
 {
     let told = told_read(trace_read::trace_read(bytes, counts, starts, deltas, coefficients));
     tell(answer, told);
@@ -35,8 +35,8 @@ pub extern "C" fn aktyrbuz_trace_write(
     bytes: &mut [u8],
     answer: &mut [i64; 5],
 ) -> u32
-    ensures { writeLeaves result answer.new bytes.new
-        ≡ writeExport (writeTraceOf counts.now starts.now deltas.now coefficients.now adjustment (length bytes.old)) }
+    ensures { write_leaves result answer.new bytes.new
+        ≡ write_export (write_trace_of counts.now starts.now deltas.now coefficients.now adjustment (length bytes.old)) }
 {
     let told = told_write(trace_write::trace_write(
         counts,

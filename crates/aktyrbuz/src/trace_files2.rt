@@ -1,10 +1,10 @@
 // The exports for trace files of either version, told with their edition.
 ghost use Rattle.std.specs.Prelude.{◌≡◌, length};
 ghost use Rattle.reader.specs.Read.{rooms_of};
-ghost use Rattle.trace2.specs.Read.{readFileOf};
-ghost use Rattle.trace2.specs.Write.{writeFileOf};
-ghost use Rattle.aktyrbuz.specs.Exported.{readLeaves, writeLeaves, writeExport};
-ghost use Rattle.aktyrbuz.specs.Trace2Exported.{fileExport};
+ghost use Rattle.trace2.specs.Read.{read_file_of};
+ghost use Rattle.trace2.specs.Write.{write_file_of};
+ghost use Rattle.aktyrbuz.specs.Exported.{read_leaves, write_leaves, write_export};
+ghost use Rattle.aktyrbuz.specs.Trace2Exported.{file_export};
 
 use told::tell;
 use told_lists::{told_file, told_write};
@@ -18,8 +18,8 @@ pub extern "C" fn aktyrbuz_trace_read2(
     coefficients: &mut [i32],
     answer: &mut [i64; 5],
 ) -> u32
-    ensures { readLeaves result answer.new counts.new starts.new deltas.new coefficients.new
-        ≡ fileExport (readFileOf (rooms_of counts.old starts.old deltas.old coefficients.old) bytes.now) }
+    ensures { read_leaves result answer.new counts.new starts.new deltas.new coefficients.new
+        ≡ file_export (read_file_of (rooms_of counts.old starts.old deltas.old coefficients.old) bytes.now) }
 {
     let told = told_file(trace2_read::trace_read2(bytes, counts, starts, deltas, coefficients));
     tell(answer, told);
@@ -38,8 +38,8 @@ pub extern "C" fn aktyrbuz_trace_write2(
     bytes: &mut [u8],
     answer: &mut [i64; 5],
 ) -> u32
-    ensures { writeLeaves result answer.new bytes.new
-        ≡ writeExport (writeFileOf counts.now starts.now deltas.now coefficients.now adjustment version edition (length bytes.old)) }
+    ensures { write_leaves result answer.new bytes.new
+        ≡ write_export (write_file_of counts.now starts.now deltas.now coefficients.now adjustment version edition (length bytes.old)) }
 {
     let told = told_write(trace2_write::trace_write2(
         counts,

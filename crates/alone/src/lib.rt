@@ -3,7 +3,7 @@
 
 ghost use Rattle.std.specs.Prelude.{◌≡◌};
 ghost use Rattle.draw.specs.Draw.{three, leaves};
-ghost use Rattle.alone.specs.Alone.{withoutOwner, drawAlone};
+ghost use Rattle.alone.specs.Alone.{without_owner, draw_alone};
 
 use codes::Code;
 use draw::DrawAnswer;
@@ -12,7 +12,7 @@ use segments::Segment;
 
 // The segment of a record.
 fn segment_of(whole: SegmentRecord) -> Segment
-    ensures { result ≡ withoutOwner whole }
+    ensures { result ≡ without_owner whole }
 {
     Segment {
         center_x: whole.center_x,
@@ -38,7 +38,7 @@ pub fn draw_alone(
     r2: &mut [f32],
 ) -> DrawAnswer
     ensures { leaves result (three r0.new r1.new r2.new)
-        ≡ drawAlone known (withoutOwner whole) y x0 n (three r0.old r1.old r2.old) }
+        ≡ draw_alone known (without_owner whole) y x0 n (three r0.old r1.old r2.old) }
 {
     if !known {
         return DrawAnswer::Refused(Code::Table, 0);

@@ -14,10 +14,10 @@ use lib.Ieee.Bits.{nan_bits_above, to_bits-lt}
 use lib.Ieee.Positive.{positive}
 use Rattle.numbers.proofs.Units.{castable}
 use Rattle.to_f32.specs.Narrow.{narrow}
-use Rattle.approximations.specs.Ln.{d, ◌⊕◌, ◌⊖◌, ◌⊗◌, lnAt, lnAbove, lnOf}
+use Rattle.approximations.specs.Ln.{d, ◌⊕◌, ◌⊖◌, ◌⊗◌, ln_at, ln_above, ln_of}
 
-pub of_positive : (x : Float) → T (positive x) → narrow binary32 (lnAbove (to_bits binary64 x)) ≡ lnOf x
-unfolding lnOf
+pub of_positive : (x : Float) → T (positive x) → narrow binary32 (ln_above (to_bits binary64 x)) ≡ ln_of x
+unfolding ln_of
 of_positive nan p = absurd p
 of_positive (inf s) p = absurd p
 of_positive (fin true m e) p = absurd p
@@ -31,15 +31,15 @@ abbrev k : ℕ → Float
 k b = of_int binary64 (pos (b / 2 ^ 52)) ⊖ d 0x408ff80000000000
 
 abbrev A : ℕ → ℕ → Float
-A b m = lnAt (z m ⊗ d 0x3fe0000000000000) (k b ⊕ d 0x3ff0000000000000)
+A b m = ln_at (z m ⊗ d 0x3fe0000000000000) (k b ⊕ d 0x3ff0000000000000)
 
-pub high : (b : ℕ) → lt (d 0x3ff6a09e667f3bcd) (z (bit_and b (2 ^ 52 - 1))) ≡ true → A b (bit_and b (2 ^ 52 - 1)) ≡ lnAbove b
-unfolding lnAbove
-high b q = subst (λ (m : ℕ). lt (d 0x3ff6a09e667f3bcd) (z m) ≡ true → A b m ≡ lnAbove b) (sym (and_mask b 52)) (λ h. sym (ap (λ (t : Bool). cond t (A b (b % 2 ^ 52)) (lnAt (z (b % 2 ^ 52)) (k b))) h)) q
+pub high : (b : ℕ) → lt (d 0x3ff6a09e667f3bcd) (z (bit_and b (2 ^ 52 - 1))) ≡ true → A b (bit_and b (2 ^ 52 - 1)) ≡ ln_above b
+unfolding ln_above
+high b q = subst (λ (m : ℕ). lt (d 0x3ff6a09e667f3bcd) (z m) ≡ true → A b m ≡ ln_above b) (sym (and_mask b 52)) (λ h. sym (ap (λ (t : Bool). cond t (A b (b % 2 ^ 52)) (ln_at (z (b % 2 ^ 52)) (k b))) h)) q
 
-pub low : (b : ℕ) → lt (d 0x3ff6a09e667f3bcd) (z (bit_and b (2 ^ 52 - 1))) ≡ false → lnAt (z (bit_and b (2 ^ 52 - 1))) (k b) ≡ lnAbove b
-unfolding lnAbove
-low b q = subst (λ (m : ℕ). lt (d 0x3ff6a09e667f3bcd) (z m) ≡ false → lnAt (z m) (k b) ≡ lnAbove b) (sym (and_mask b 52)) (λ h. sym (ap (λ (t : Bool). cond t (A b (b % 2 ^ 52)) (lnAt (z (b % 2 ^ 52)) (k b))) h)) q
+pub low : (b : ℕ) → lt (d 0x3ff6a09e667f3bcd) (z (bit_and b (2 ^ 52 - 1))) ≡ false → ln_at (z (bit_and b (2 ^ 52 - 1))) (k b) ≡ ln_above b
+unfolding ln_above
+low b q = subst (λ (m : ℕ). lt (d 0x3ff6a09e667f3bcd) (z m) ≡ false → ln_at (z m) (k b) ≡ ln_above b) (sym (and_mask b 52)) (λ h. sym (ap (λ (t : Bool). cond t (A b (b % 2 ^ 52)) (ln_at (z (b % 2 ^ 52)) (k b))) h)) q
 
 -- a pattern with the exponent of 1 is no NaN's
 pub pattern : (m : ℕ) → m < 2 ^ 52 → T (not (nan_bits binary64 (m + 4607182418800017408)))
@@ -51,8 +51,8 @@ pattern m h = subst (λ (t : Bool). T (not t)) (sym (nan_bits_above binary64 (m 
     go2 : (m : ℕ) → m < 4503599627370496 → m + 4607182418800017408 ≤ 9218868437227405312
     go2 m h = omega arith
 
-pub castable-place : (x : Float) → T (fits binary64 x) → T (in_float binary64 (pos (to_bits binary64 x / 2 ^ 52)))
-castable-place x F = castable binary64 (to_bits binary64 x / 2 ^ 52) (go (to_bits binary64 x / 2 ^ 52) (shr_lt 12 52 (to_bits-lt binary64 x F)))
+pub castable_place : (x : Float) → T (fits binary64 x) → T (in_float binary64 (pos (to_bits binary64 x / 2 ^ 52)))
+castable_place x F = castable binary64 (to_bits binary64 x / 2 ^ 52) (go (to_bits binary64 x / 2 ^ 52) (shr_lt 12 52 (to_bits-lt binary64 x F)))
   where
     go : (e : ℕ) → e < 4096 → e ≤ 9007199254740992
     go e h = omega arith

@@ -71,8 +71,8 @@ abbrev 1023·0 : Float
 1023·0 = d 0x408ff80000000000
 
 -- ln (z * 2 ^ k) by the series of the inverse hyperbolic tangent
-unfoldable pub lnAt : Float → Float → Float
-lnAt z k =
+unfoldable pub ln_at : Float → Float → Float
+ln_at z k =
     let s = (z ⊖ 1·0) ⊘ (z ⊕ 1·0) in
     let w = s ⊗ s in
     let p10 = 0·047619047619047616 in
@@ -89,16 +89,16 @@ lnAt z k =
     k ⊗ 0·6931471805599453 ⊕ (t ⊕ t ⊗ (p1 ⊗ w))
 
 -- the pattern b of a positive f64: its digits as a number from 1 to 2, halved past the root of 2, and its exponent
-unfoldable pub lnAbove : ℕ → Float
-lnAbove b =
+unfoldable pub ln_above : ℕ → Float
+ln_above b =
     let z = of_bits binary64 (b % 2 ^ 52 + 0x3ff0000000000000) in
     let k = of_int binary64 (pos (b / 2 ^ 52)) ⊖ 1023·0 in
-    cond (lt 1·4142135623730951 z) (lnAt (z ⊗ 0·5) (k ⊕ 1·0)) (lnAt z k)
+    cond (lt 1·4142135623730951 z) (ln_at (z ⊗ 0·5) (k ⊕ 1·0)) (ln_at z k)
 
-unfoldable pub lnOf : Float → Float
-lnOf nan = nan
-lnOf (inf true) = nan
-lnOf (inf false) = inf false
-lnOf (fin s zero e) = inf true
-lnOf (fin true (suc m) e) = nan
-lnOf (fin false (suc m) e) = narrow binary32 (lnAbove (to_bits binary64 (fin false (suc m) e)))
+unfoldable pub ln_of : Float → Float
+ln_of nan = nan
+ln_of (inf true) = nan
+ln_of (inf false) = inf false
+ln_of (fin s zero e) = inf true
+ln_of (fin true (suc m) e) = nan
+ln_of (fin false (suc m) e) = narrow binary32 (ln_above (to_bits binary64 (fin false (suc m) e)))

@@ -5,9 +5,9 @@
 
 ghost use Rattle.std.specs.Prelude.{◌≡◌, T};
 ghost use Rattle.std.specs.Float.Ieee.Positive.{positive};
-ghost use Rattle.approximations.specs.Cos.{cosCore, fastCos};
-ghost use Rattle.approximations.specs.Erf.{erfCore, fastErff};
-ghost use Rattle.approximations.specs.Ln.{lnAt, lnOf};
+ghost use Rattle.approximations.specs.Cos.{cos_core, fast_cos};
+ghost use Rattle.approximations.specs.Erf.{erf_core, fast_erff};
+ghost use Rattle.approximations.specs.Ln.{ln_at, ln_of};
 
 const PI: f32 = 3.14159265358979323846264338327950288;
 
@@ -17,7 +17,7 @@ const SQRT_2: f32 = 1.41421356237309504880168872420969808;
 
 // The cosine of an angle up to a quarter turn.
 fn cos_core(x: f32) -> f32
-    ensures { result ≡ cosCore x }
+    ensures { result ≡ cos_core x }
 {
     let xs = x * 0.25;
     let x2 = xs * xs;
@@ -28,7 +28,7 @@ fn cos_core(x: f32) -> f32
 }
 
 pub fn fast_cos(x: f32) -> f32
-    ensures { result ≡ fastCos x }
+    ensures { result ≡ fast_cos x }
 {
     let pi2 = PI * 2.0;
     let pi2_inv = 0.5 / PI;
@@ -44,7 +44,7 @@ pub fn fast_cos(x: f32) -> f32
 
 // erf on the magnitude.
 pub fn erf_core(x: f32) -> f32
-    ensures { result ≡ erfCore x }
+    ensures { result ≡ erf_core x }
 {
     let denom1 = x * 7.77394369e-02 + 2.05260015e-04;
     let denom2 = denom1 * x + 2.32120216e-01;
@@ -56,7 +56,7 @@ pub fn erf_core(x: f32) -> f32
 }
 
 pub fn fast_erff(x: f32) -> f32
-    ensures { result ≡ fastErff x }
+    ensures { result ≡ fast_erff x }
 {
     numbers::with_sign(numbers::negative(x), erf_core(numbers::abs(x)))
 }
@@ -65,7 +65,7 @@ pub fn fast_erff(x: f32) -> f32
 
 // ln(z * 2^k).
 fn ln_at(z: f64, k: f64) -> f64
-    ensures { result ≡ lnAt z k }
+    ensures { result ≡ ln_at z k }
 {
     let s = (z - 1.0) / (z + 1.0);
     let w = s * s;
@@ -86,7 +86,7 @@ fn ln_at(z: f64, k: f64) -> f64
 // The logarithm of an x that is finite and above zero.
 fn ln_above(x: f32) -> f32
     requires { T (positive x) }
-    ensures { result ≡ lnOf x }
+    ensures { result ≡ ln_of x }
 {
     let b = f64::to_bits(x as f64);
     let z = f64::from_bits((b & 4503599627370495) + 4607182418800017408);
@@ -100,7 +100,7 @@ fn ln_above(x: f32) -> f32
 
 // The natural logarithm.
 pub fn ln(x: f32) -> f32
-    ensures { result ≡ lnOf x }
+    ensures { result ≡ ln_of x }
 {
     if x > 0.0 {
         if x < 1.0 / 0.0 { ln_above(x) } else { x }

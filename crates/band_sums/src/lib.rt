@@ -3,11 +3,11 @@
 
 ghost use Rattle.std.specs.Prelude.{◌≡◌, cond, ◌+◌, ◌-◌, ◌*◌, ◌^◌, ◌<◌, ◌≤◌, length, get_or};
 ghost use Rattle.std.proofs.Math.Seq.{slice};
-ghost use Rattle.desks.specs.Desks.{sight_of, hiddenIn};
+ghost use Rattle.desks.specs.Desks.{sight_of, hidden_in};
 ghost use Rattle.checks.specs.Tables.{table_of};
 ghost use Rattle.checks.specs.Refusals.{Lent};
-ghost use Rattle.band_sums.specs.Numbers.{bandsIn, rowsGoodFrom, bandGood, shownFrom, numbersOver, bandNumbers};
-ghost use Rattle.band_sums.specs.Steps.{leastWith, withOne, goodOr, sumOver, sumRow};
+ghost use Rattle.band_sums.specs.Numbers.{bands_in, rows_good_from, band_good, shown_from, numbers_over, band_numbers};
+ghost use Rattle.band_sums.specs.Steps.{least_with, with_one, good_or, sum_over, sum_row};
 
 use segments::{Range, Segment};
 
@@ -30,7 +30,7 @@ pub enum Summed {
 
 // The least segment number of what was summed and of entry i; the first entry sets it.
 fn least_with(sum: BandNumbers, i: u32) -> u32
-    ensures { result ≡ leastWith sum i }
+    ensures { result ≡ least_with sum i }
 {
     if sum.entries == 0 {
         return i;
@@ -41,7 +41,7 @@ fn least_with(sum: BandNumbers, i: u32) -> u32
 // The sum with entry i, which is shown.
 fn with_shown(sum: BandNumbers, segments: &[f32], i: u32, width: u32) -> BandNumbers
     requires { (8 * i + 8 ≤ length segments.now) × (sum.entries < 2 ^ 30) }
-    ensures { result ≡ withOne segments.now width sum i }
+    ensures { result ≡ with_one segments.now width sum i }
 {
     let found = Range {
         first: sum.first,
@@ -71,7 +71,7 @@ fn with_entry(
     width: u32,
 ) -> BandNumbers
     requires { (8 * i + 8 ≤ length segments.now) × (sum.entries < 2 ^ 30) × (i < length owners.now) × (get_or owners.now i 0 < length bits.now) × (desk < 2) }
-    ensures { result ≡ cond (hiddenIn (sight_of owners.now splines bits.now desk) i) sum (withOne segments.now width sum i) }
+    ensures { result ≡ cond (hidden_in (sight_of owners.now splines bits.now desk) i) sum (with_one segments.now width sum i) }
 {
     if desks::hidden(owners, splines, bits, desk, i as usize) {
         return sum;
@@ -94,7 +94,7 @@ fn sum_entries(
     width: u32,
 ) -> Summed
     requires { (sum.entries ≤ b) × (b ≤ e) × (e ≤ 2 ^ 30) × (e ≤ length entries.now) × (8 * segment_count ≤ length segments.now) × (segment_count ≤ length owners.now) × (splines ≤ length bits.now) × (desk < 2) }
-    ensures { result ≡ sumOver segments.now segment_count (sight_of owners.now splines bits.now desk) width sum (slice b e entries.now) }
+    ensures { result ≡ sum_over segments.now segment_count (sight_of owners.now splines bits.now desk) width sum (slice b e entries.now) }
 {
     let mut total = sum;
     let mut j = b;
@@ -130,7 +130,7 @@ fn sum_row(
 ) -> Summed
     requires lent { Lent (table_of segments.now segment_count entries.now entry_count row_starts.now height) (sight_of owners.now splines bits.now desk) }
     requires y_lt_height { (y < height) × (sum.entries ≤ get_or row_starts.now y 0) }
-    ensures { result ≡ sumRow (table_of segments.now segment_count entries.now entry_count row_starts.now height) (sight_of owners.now splines bits.now desk) width sum y }
+    ensures { result ≡ sum_row (table_of segments.now segment_count entries.now entry_count row_starts.now height) (sight_of owners.now splines bits.now desk) width sum y }
 {
     let b = row_starts[y] as usize;
     let e = row_starts[y + 1] as usize;
@@ -173,7 +173,7 @@ fn sum_rows(
 ) -> Summed
     requires lent { Lent (table_of segments.now segment_count entries.now entry_count row_starts.now height) (sight_of owners.now splines bits.now desk) }
     requires y_le_end { (y ≤ end) × (end ≤ height) × (width ≤ 2 ^ 23) }
-    ensures { result ≡ goodOr (rowsGoodFrom (table_of segments.now segment_count entries.now entry_count row_starts.now height) (sight_of owners.now splines bits.now desk) y (end - y)) (numbersOver (table_of segments.now segment_count entries.now entry_count row_starts.now height) width (shownFrom (table_of segments.now segment_count entries.now entry_count row_starts.now height) (sight_of owners.now splines bits.now desk) y (end - y))) }
+    ensures { result ≡ good_or (rows_good_from (table_of segments.now segment_count entries.now entry_count row_starts.now height) (sight_of owners.now splines bits.now desk) y (end - y)) (numbers_over (table_of segments.now segment_count entries.now entry_count row_starts.now height) width (shown_from (table_of segments.now segment_count entries.now entry_count row_starts.now height) (sight_of owners.now splines bits.now desk) y (end - y))) }
 {
     let mut sum = BandNumbers {
         entries: 0,
@@ -223,8 +223,8 @@ pub fn sum_band(
     b: u32,
 ) -> Summed
     requires lent { Lent (table_of segments.now segment_count entries.now entry_count row_starts.now height) (sight_of owners.now splines bits.now desk) }
-    requires b_bound { (b < bandsIn height) × (width ≤ 2 ^ 23) }
-    ensures { result ≡ goodOr (bandGood (table_of segments.now segment_count entries.now entry_count row_starts.now height) (sight_of owners.now splines bits.now desk) b) (bandNumbers (table_of segments.now segment_count entries.now entry_count row_starts.now height) (sight_of owners.now splines bits.now desk) width b) }
+    requires b_bound { (b < bands_in height) × (width ≤ 2 ^ 23) }
+    ensures { result ≡ good_or (band_good (table_of segments.now segment_count entries.now entry_count row_starts.now height) (sight_of owners.now splines bits.now desk) b) (band_numbers (table_of segments.now segment_count entries.now entry_count row_starts.now height) (sight_of owners.now splines bits.now desk) width b) }
 {
     let first = 64 * (b as usize);
     let rows = height as usize;

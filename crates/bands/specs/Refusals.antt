@@ -5,7 +5,7 @@ use Rattle.codes.specs.declared.Code.TheVariants as Code
 use Rattle.desks.specs.Desks.{Sight}
 use Rattle.checks.specs.Tables.{Table}
 use Rattle.checks.specs.Refusals.{OverrunFor, CountsFitFor, Lent, RowBadFor}
-use Rattle.bands.specs.Bands.{bandsIn, rowOfBand, rowsIn}
+use Rattle.bands.specs.Bands.{bands_in, row_of_band, rows_in}
 
 -- of n rows from y on, one is bad
 pub record RowsBadFor (t : Table) (s : Sight) (y n : ℕ) : Type 0 where
@@ -25,13 +25,13 @@ pub data EarlyRefusal (t : Table) (s : Sight) (W room : ℕ) : Code → ℕ → 
   -- 20: fewer bytes are lent than there are splines
   trace : W ≤ 2 ^ 23 → CountsFitFor t s → s.desk < 2 → length s.bits < s.splines → EarlyRefusal t s W room Code.Trace 0
   -- 7: fewer than five cells a band are lent
-  room : W ≤ 2 ^ 23 → Lent t s → room < 5 * bandsIn t.height → EarlyRefusal t s W room Code.Room 0
+  room : W ≤ 2 ^ 23 → Lent t s → room < 5 * bands_in t.height → EarlyRefusal t s W room Code.Room 0
 
 -- all of that passes
 pub record SummaryFits (t : Table) (s : Sight) (W room : ℕ) : Type 0 where
   pub narrow : W ≤ 2 ^ 23
   pub lent : Lent t s
-  pub roomy : 5 * bandsIn t.height ≤ room
+  pub roomy : 5 * bands_in t.height ≤ room
 
 -- making
 pub data BandsRefusal (t : Table) (s : Sight) (W room : ℕ) : Code → ℕ → Type 0 where
@@ -43,6 +43,6 @@ pub data BandsRefusal (t : Table) (s : Sight) (W room : ℕ) : Code → ℕ → 
 pub data BandRefusal (t : Table) (s : Sight) (W room b : ℕ) : Code → ℕ → Type 0 where
   early : {c : Code} {p : ℕ} → EarlyRefusal t s W room c p → BandRefusal t s W room b c p
   -- 23: a band past the last
-  band : SummaryFits t s W room → bandsIn t.height ≤ b → BandRefusal t s W room b Code.Band 0
+  band : SummaryFits t s W room → bands_in t.height ≤ b → BandRefusal t s W room b Code.Band 0
   -- 14: a row of the band is bad; other rows are not looked at
-  rows : SummaryFits t s W room → b < bandsIn t.height → RowsBadFor t s (rowOfBand b) (rowsIn t.height b) → BandRefusal t s W room b Code.Table 0
+  rows : SummaryFits t s W room → b < bands_in t.height → RowsBadFor t s (row_of_band b) (rows_in t.height b) → BandRefusal t s W room b Code.Table 0

@@ -7,8 +7,8 @@ ghost use Rattle.desks.specs.Desks.{sight_of};
 ghost use Rattle.checks.specs.Tables.{table_of};
 ghost use Rattle.checks.specs.Refusals.{Lent};
 ghost use Rattle.checks.specs.declared.Verdict.TheVariants.{Fine};
-ghost use Rattle.bands.specs.Bands.{bandsIn, rowsGoodFrom, bandNumbers, bandCells, putBands};
-ghost use Rattle.bands.specs.Calls.{beforeRows, leaves, bandsOf, bandOf};
+ghost use Rattle.bands.specs.Bands.{bands_in, rows_good_from, band_numbers, band_cells, put_bands};
+ghost use Rattle.bands.specs.Calls.{before_rows, leaves, bands_of, band_of};
 
 use band_sums::{BandNumbers, Summed, sum_band};
 use checks::Verdict;
@@ -24,7 +24,7 @@ pub enum BandsAnswer {
 // The five numbers, written from cell k on.
 fn put(cells: &mut [u32], k: usize, numbers: BandNumbers)
     requires { k + 5 ≤ length cells.old }
-    ensures { cells.new ≡ sets cells.old k (bandCells numbers) }
+    ensures { cells.new ≡ sets cells.old k (band_cells numbers) }
 {
     cells[k] = numbers.entries;
     cells[k + 1] = numbers.least;
@@ -36,7 +36,7 @@ fn put(cells: &mut [u32], k: usize, numbers: BandNumbers)
 // How many bands there are of so many rows.
 fn bands_in(height: u32) -> u32
     requires { height ≤ 2 ^ 23 }
-    ensures { result ≡ bandsIn height }
+    ensures { result ≡ bands_in height }
 {
     (height + 63) / 64
 }
@@ -57,9 +57,9 @@ fn fill(
     cells: &mut [u32],
 ) -> bool
     requires lent { Lent (table_of segments.now segment_count entries.now entry_count row_starts.now height) (sight_of owners.now splines bits.now desk) }
-    requires height_in_bounds { (5 * bandsIn height ≤ length cells.old) × (width ≤ 2 ^ 23) }
-    ensures value { result ≡ rowsGoodFrom (table_of segments.now segment_count entries.now entry_count row_starts.now height) (sight_of owners.now splines bits.now desk) 0 height }
-    ensures cells_after { result ≡ true → cells.new ≡ putBands cells.old (bandNumbers (table_of segments.now segment_count entries.now entry_count row_starts.now height) (sight_of owners.now splines bits.now desk) width) (bandsIn height) }
+    requires height_in_bounds { (5 * bands_in height ≤ length cells.old) × (width ≤ 2 ^ 23) }
+    ensures value { result ≡ rows_good_from (table_of segments.now segment_count entries.now entry_count row_starts.now height) (sight_of owners.now splines bits.now desk) 0 height }
+    ensures cells_after { result ≡ true → cells.new ≡ put_bands cells.old (band_numbers (table_of segments.now segment_count entries.now entry_count row_starts.now height) (sight_of owners.now splines bits.now desk) width) (bands_in height) }
 {
     let bands = bands_in(height);
     let mut b = 0;
@@ -101,7 +101,7 @@ fn judge(
     width: u32,
     room: usize,
 ) -> Verdict
-    ensures { result ≡ beforeRows (table_of segments.now segment_count entries.now entry_count row_starts.now height) (sight_of owners.now splines bits.now desk) width room Fine }
+    ensures { result ≡ before_rows (table_of segments.now segment_count entries.now entry_count row_starts.now height) (sight_of owners.now splines bits.now desk) width room Fine }
 {
     if 8388608 < width {
         return Verdict::Fault(Code::Size);
@@ -145,7 +145,7 @@ pub fn make(
     width: u32,
     cells: &mut [u32],
 ) -> BandsAnswer
-    ensures { leaves result cells.new ≡ bandsOf (table_of segments.now segment_count entries.now entry_count row_starts.now height) (sight_of owners.now splines bits.now desk) width (length cells.old) }
+    ensures { leaves result cells.new ≡ bands_of (table_of segments.now segment_count entries.now entry_count row_starts.now height) (sight_of owners.now splines bits.now desk) width (length cells.old) }
 {
     buffers::clear_u32(cells);
     match judge(
@@ -202,7 +202,7 @@ pub fn refresh(
     cells: &mut [u32],
     band: u32,
 ) -> BandsAnswer
-    ensures { leaves result cells.new ≡ bandOf (table_of segments.now segment_count entries.now entry_count row_starts.now height) (sight_of owners.now splines bits.now desk) width band cells.old }
+    ensures { leaves result cells.new ≡ band_of (table_of segments.now segment_count entries.now entry_count row_starts.now height) (sight_of owners.now splines bits.now desk) width band cells.old }
 {
     match judge(
         segments,

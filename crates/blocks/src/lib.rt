@@ -6,9 +6,9 @@
 ghost use Rattle.std.specs.Prelude.{◌≡◌, ◌+◌, ◌≤◌, ◌<◌, ◌^◌, length, get_or, pos};
 ghost use Rattle.std.specs.Float.{nan, binary32};
 ghost use Rattle.std.specs.Float.Ieee.{of_int};
-ghost use Rattle.roots.specs.Root.{sqrtOf};
-ghost use Rattle.shade.specs.Edit.{edit, firstCells};
-ghost use Rattle.shade.specs.Shade.{sqd, dy2, intensityAt, shadedBySquare, shaded, Holds};
+ghost use Rattle.roots.specs.Root.{sqrt_of};
+ghost use Rattle.shade.specs.Edit.{edit, first_cells};
+ghost use Rattle.shade.specs.Shade.{sqd, dy2, intensity_at, shaded_by_square, shaded, Holds};
 
 use segments::Segment;
 
@@ -23,7 +23,7 @@ fn float_of(n: u32) -> f32
 // The squares of the distances of m columns from x on.
 fn squares(v: &mut [f32; 32], m: usize, x: u32, center_x: f32, dy2: f32)
     requires { (m ≤ 32) × (length v.old ≡ 32) × (x + m ≤ 2 ^ 24) }
-    ensures { v.new ≡ edit (firstCells m (λ k w. sqd center_x dy2 (x + k))) v.old }
+    ensures { v.new ≡ edit (first_cells m (λ k w. sqd center_x dy2 (x + k))) v.old }
 {
     let mut k: usize = 0;
     while k < m {
@@ -36,7 +36,7 @@ fn squares(v: &mut [f32; 32], m: usize, x: u32, center_x: f32, dy2: f32)
 // The roots of the first m numbers.
 pub fn roots(v: &mut [f32; 32], m: usize, table: &[u64; 128])
     requires { (m ≤ 32) × (length v.old ≡ 32) }
-    ensures { v.new ≡ edit (firstCells m (λ k w. sqrtOf binary32 w)) v.old }
+    ensures { v.new ≡ edit (first_cells m (λ k w. sqrt_of binary32 w)) v.old }
 {
     let mut k: usize = 0;
     while k < m {
@@ -48,7 +48,7 @@ pub fn roots(v: &mut [f32; 32], m: usize, table: &[u64; 128])
 // The first m distances as intensities.
 fn intensities(segment: Segment, v: &mut [f32; 32], m: usize)
     requires { (m ≤ 32) × (length v.old ≡ 32) }
-    ensures { v.new ≡ edit (firstCells m (λ k w. intensityAt segment w)) v.old }
+    ensures { v.new ≡ edit (first_cells m (λ k w. intensity_at segment w)) v.old }
 {
     let mut k: usize = 0;
     while k < m {
@@ -68,9 +68,9 @@ fn block(
     table: &[u64; 128],
 )
     requires { (length r0.old ≤ 32) × (length r1.old ≡ length r0.old) × (length r2.old ≡ length r0.old) × (x + length r0.old ≤ 2 ^ 23) }
-    ensures r0_after { r0.new ≡ edit (λ k v. shadedBySquare segment dy2 (x + k) 0 v) r0.old }
-    ensures r1_after { r1.new ≡ edit (λ k v. shadedBySquare segment dy2 (x + k) 1 v) r1.old }
-    ensures r2_after { r2.new ≡ edit (λ k v. shadedBySquare segment dy2 (x + k) 2 v) r2.old }
+    ensures r0_after { r0.new ≡ edit (λ k v. shaded_by_square segment dy2 (x + k) 0 v) r0.old }
+    ensures r1_after { r1.new ≡ edit (λ k v. shaded_by_square segment dy2 (x + k) 1 v) r1.old }
+    ensures r2_after { r2.new ≡ edit (λ k v. shaded_by_square segment dy2 (x + k) 2 v) r2.old }
 {
     let m = r0.len();
     let l = shade::fours(m);
@@ -96,7 +96,7 @@ pub fn squares_at(segment: Segment, y: u32, x: u32, m: usize, v: &mut [f32; 32])
 // The first m distances as intensities.
 pub fn intensities_at(segment: Segment, m: usize, v: &mut [f32; 32])
     requires { (m ≤ 32) × (length v.old ≡ 32) }
-    ensures { Holds m (λ k. intensityAt segment (get_or v.old k nan)) v.new }
+    ensures { Holds m (λ k. intensity_at segment (get_or v.old k nan)) v.new }
 {
     let l = shade::fours(m);
     intensities(segment, v, l);

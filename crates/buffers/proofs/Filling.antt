@@ -6,7 +6,7 @@ use native.Mathlib.Omega.{arith}
 use lib.ListN.{length, length-append}
 use lib.Seq.{sets}
 use Rattle.buffers.specs.Onto.{onto}
-use Rattle.buffers.proofs.Fronts.{onto-none, length-onto, sets-onto, sets_more}
+use Rattle.buffers.proofs.Fronts.{onto_none, length_onto, sets_onto, sets_more}
 
 -- ---- from the front on
 
@@ -19,7 +19,7 @@ pub record Filled {A : Type 0} (whole o₀ o rest : List A) (n : ℕ) : Type 0 w
 
 module _ {A : Type 0} {whole o₀ : List A} where
   pub filled_none : (rest : List A) → whole ≡ rest → Filled whole o₀ o₀ rest 0
-  filled_none rest e = record { done = []; parts = e; size = refl; buffer = sym (onto-none o₀) }
+  filled_none rest e = record { done = []; parts = e; size = refl; buffer = sym (onto_none o₀) }
 
   -- the next vs are stored
   pub filled_more : {o : List A} {n : ℕ} (vs rest : List A) → Filled whole o₀ o (vs ++ rest) n → n + length vs ≤ length o₀
@@ -28,14 +28,14 @@ module _ {A : Type 0} {whole o₀ : List A} where
     done = f.done ++ vs;
     parts = f.parts ∙ sym (append_assoc f.done vs rest);
     size = length-append f.done vs ∙ omega (arith, f.size);
-    buffer = ap (λ (t : List A). sets t n vs) f.buffer ∙ sets-onto f.done vs o₀ n f.size h;
+    buffer = ap (λ (t : List A). sets t n vs) f.buffer ∙ sets_onto f.done vs o₀ n f.size h;
   }
 
-  pub filled-length : {o rest : List A} {n : ℕ} → Filled whole o₀ o rest n → n ≤ length o₀ → length o ≡ length o₀
-  filled-length f h = ap length f.buffer ∙ length-onto f.done o₀ (omega (arith, f.size))
+  pub filled_length : {o rest : List A} {n : ℕ} → Filled whole o₀ o rest n → n ≤ length o₀ → length o ≡ length o₀
+  filled_length f h = ap length f.buffer ∙ length_onto f.done o₀ (omega (arith, f.size))
 
-  pub filled-all : {o : List A} {n : ℕ} → Filled whole o₀ o [] n → o ≡ onto whole o₀
-  filled-all f = f.buffer ∙ ap (λ (t : List A). onto t o₀) (sym (f.parts ∙ append-nil f.done))
+  pub filled_all : {o : List A} {n : ℕ} → Filled whole o₀ o [] n → o ≡ onto whole o₀
+  filled_all f = f.buffer ∙ ap (λ (t : List A). onto t o₀) (sym (f.parts ∙ append-nil f.done))
 
 -- ---- from an index on
 
@@ -47,8 +47,8 @@ pub record Stored {A : Type 0} (whole o₀ o rest : List A) (k n : ℕ) : Type 0
   pub buffer : o ≡ sets o₀ k done
 
 module _ {A : Type 0} {whole o₀ : List A} {k : ℕ} where
-  pub stored-none : Stored whole o₀ o₀ whole k 0
-  stored-none = record { done = []; parts = refl; size = refl; buffer = refl }
+  pub stored_none : Stored whole o₀ o₀ whole k 0
+  stored_none = record { done = []; parts = refl; size = refl; buffer = refl }
 
   -- the next vs are stored
   pub stored_more : {o rest : List A} {n : ℕ} (vs rest' : List A) → Stored whole o₀ o rest k n → rest ≡ vs ++ rest' → (j m : ℕ) → k + n ≡ j → n + length vs ≡ m
@@ -60,7 +60,7 @@ module _ {A : Type 0} {whole o₀ : List A} {k : ℕ} where
     buffer = ap (λ (t : List A). sets t j vs) f.buffer ∙ sets_more f.done vs o₀ k j (omega (arith, f.size));
   }
 
-  pub stored-all : {o rest : List A} {n : ℕ} → Stored whole o₀ o rest k n → rest ≡ [] → o ≡ sets o₀ k whole
-  stored-all f r = f.buffer ∙ ap (sets o₀ k) (sym (f.parts ∙ ap (λ (t : List A). f.done ++ t) r ∙ append-nil f.done))
+  pub stored_all : {o rest : List A} {n : ℕ} → Stored whole o₀ o rest k n → rest ≡ [] → o ≡ sets o₀ k whole
+  stored_all f r = f.buffer ∙ ap (sets o₀ k) (sym (f.parts ∙ ap (λ (t : List A). f.done ++ t) r ∙ append-nil f.done))
 
 -- Assumes nothing.

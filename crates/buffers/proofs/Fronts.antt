@@ -8,18 +8,18 @@ use lib.Seq.{sets, sets-eq, take_at, drop-drop, drop-append-add}
 use Rattle.buffers.specs.Onto.{onto}
 
 module _ {A : Type 0} where
-  pub onto-none : (o : List A) → onto [] o ≡ o
+  pub onto_none : (o : List A) → onto [] o ≡ o
   unfolding onto
-  onto-none o = refl
+  onto_none o = refl
 
-  pub length-onto : (xs o : List A) → length xs ≤ length o → length (onto xs o) ≡ length o
+  pub length_onto : (xs o : List A) → length xs ≤ length o → length (onto xs o) ≡ length o
   unfolding onto
-  length-onto xs o h = simp (length-append, length-drop) (omega arith)
+  length_onto xs o h = simp (length-append, length-drop) (omega arith)
 
   -- the next vs are stored
-  pub sets-onto : (xs vs o : List A) (n : ℕ) → length xs ≡ n → n + length vs ≤ length o → sets (onto xs o) n vs ≡ onto (xs ++ vs) o
+  pub sets_onto : (xs vs o : List A) (n : ℕ) → length xs ≡ n → n + length vs ≤ length o → sets (onto xs o) n vs ≡ onto (xs ++ vs) o
   unfolding onto
-  sets-onto xs vs o n e h =
+  sets_onto xs vs o n e h =
       let l : length (xs ++ drop (length xs) o) ≡ length o = simp (length-append, length-drop) (omega arith) in
       let k : n + length vs ≤ length (xs ++ drop (length xs) o) = omega arith in
       let d : drop (n + length vs) (xs ++ drop (length xs) o) ≡ drop (length (xs ++ vs)) o =
@@ -27,13 +27,13 @@ module _ {A : Type 0} where
       sets-eq vs (xs ++ drop (length xs) o) n k ∙ rw (take_at, d, append_assoc)
 
   -- stores from the first cell on
-  pub sets-front : (xs o : List A) → length xs ≤ length o → sets o 0 xs ≡ onto xs o
-  sets-front xs o h = ap (λ (t : List A). sets t 0 xs) (sym (onto-none o)) ∙ sets-onto [] xs o 0 refl (omega arith)
+  pub sets_front : (xs o : List A) → length xs ≤ length o → sets o 0 xs ≡ onto xs o
+  sets_front xs o h = ap (λ (t : List A). sets t 0 xs) (sym (onto_none o)) ∙ sets_onto [] xs o 0 refl (omega arith)
 
   -- the front is what was written
-  pub take-onto : (xs o : List A) (n : ℕ) → length xs ≡ n → take n (onto xs o) ≡ xs
+  pub take_onto : (xs o : List A) (n : ℕ) → length xs ≡ n → take n (onto xs o) ≡ xs
   unfolding onto
-  take-onto xs o n e = take_at xs (drop (length xs) o) n e
+  take_onto xs o n e = take_at xs (drop (length xs) o) n e
 
   -- a run of stores after a run of stores
   pub sets_more : (xs ys l : List A) (i j : ℕ) → i + length xs ≡ j → sets (sets l i xs) j ys ≡ sets l i (xs ++ ys)
@@ -41,8 +41,8 @@ module _ {A : Type 0} where
   sets_more (a ∷ xs) ys l i j e = sets_more xs ys (set l i a) (suc i) j (omega arith)
 
   -- what is written over a front that was written before
-  pub onto-over : (xs ys o : List A) → onto (xs ++ ys) (onto xs o) ≡ onto (xs ++ ys) o
+  pub onto_over : (xs ys o : List A) → onto (xs ++ ys) (onto xs o) ≡ onto (xs ++ ys) o
   unfolding onto
-  onto-over xs ys o = rw (length-append, drop-append-add, drop-drop)
+  onto_over xs ys o = rw (length-append, drop-append-add, drop-drop)
 
 -- Assumes nothing.

@@ -11,9 +11,9 @@ use Rattle.codes.specs.declared.Code.TheVariants as Code
 use Rattle.rows.specs.declared.Listed.{Listed}
 use Rattle.rows.specs.declared.Listed.TheVariants as Listed
 use Rattle.rows.specs.Rows.{RowsOutcome, outcome}
-use Rattle.faint.specs.Faint.{faintIn}
+use Rattle.faint.specs.Faint.{faint_in}
 use Rattle.build_answer.specs.declared.BuildAnswer.TheVariants.{Done}
-use Rattle.build_answer.specs.Answer.{BuildRooms, leaves, zeros, refusedWith, afterRows}
+use Rattle.build_answer.specs.Answer.{BuildRooms, leaves, zeros, refused_with, after_rows}
 
 -- ---- a buffer that is cleared behind what it keeps
 
@@ -23,11 +23,11 @@ kept z o n h e = e ∙ rw (length-take-le n o h)
 -- ---- the rows
 
 module _ (r : BuildRooms) (estimate count : ℕ) (numbers : List Float) (owned : List ℕ) (o : RowsOutcome) {a : Listed} {starts entries : List ℕ} (e : outcome a starts entries ≡ o) where
-  pub rows-room : a ≡ Listed.Room → refusedWith r Code.Room 0 ≡ afterRows r estimate count numbers owned o
-  rows-room q = rw (← e, q)
+  pub rows_room : a ≡ Listed.Room → refused_with r Code.Room 0 ≡ after_rows r estimate count numbers owned o
+  rows_room q = rw (← e, q)
 
-  pub rows-done : {path walk segments : List Float} {owners : List ℕ} (n : ℕ) {faint : ℕ} → faint ≡ faintIn numbers count → a ≡ Listed.Entries n → path ≡ zeros r.path → walk ≡ zeros r.walk → segments ≡ padded r.segments 0·0 numbers
-      → owners ≡ padded r.owners 0 owned → leaves (Done count n estimate faint) path walk segments owners starts entries ≡ afterRows r estimate count numbers owned o
-  rows-done n f q p w s h = rw (← e, q, p, w, s, h, f)
+  pub rows_done : {path walk segments : List Float} {owners : List ℕ} (n : ℕ) {faint : ℕ} → faint ≡ faint_in numbers count → a ≡ Listed.Entries n → path ≡ zeros r.path → walk ≡ zeros r.walk → segments ≡ padded r.segments 0·0 numbers
+      → owners ≡ padded r.owners 0 owned → leaves (Done count n estimate faint) path walk segments owners starts entries ≡ after_rows r estimate count numbers owned o
+  rows_done n f q p w s h = rw (← e, q, p, w, s, h, f)
 
 -- Assumes nothing.

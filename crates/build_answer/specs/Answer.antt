@@ -8,7 +8,7 @@ use Rattle.codes.specs.declared.Code.TheVariants as Code
 use Rattle.rows.specs.declared.Listed.{Listed}
 use Rattle.rows.specs.declared.Listed.TheVariants as Listed
 use Rattle.rows.specs.Rows.{RowsOutcome}
-use Rattle.faint.specs.Faint.{faintIn}
+use Rattle.faint.specs.Faint.{faint_in}
 use Rattle.build_answer.specs.declared.BuildAnswer.{BuildAnswer}
 use Rattle.build_answer.specs.declared.BuildAnswer.TheVariants.{Done, Refused}
 
@@ -41,9 +41,9 @@ pub record BuildTold : Type 0 where
   pub faint : ℕ
 
 -- a success is number 0 at place 0; a refusal has counts of 0
-abbrev pub toldOf : BuildAnswer → BuildTold
-toldOf (Done s n a f) = record { number = 0; place = 0; segments = s; entries = n; estimate = a; faint = f }
-toldOf (Refused c p) = record { number = number_of c; place = p; segments = 0; entries = 0; estimate = 0; faint = 0 }
+abbrev pub told_of : BuildAnswer → BuildTold
+told_of (Done s n a f) = record { number = 0; place = 0; segments = s; entries = n; estimate = a; faint = f }
+told_of (Refused c p) = record { number = number_of c; place = p; segments = 0; entries = 0; estimate = 0; faint = 0 }
 
 -- the answer, what it tells, and the six lent buffers
 pub record BuildOutcome : Type 0 where
@@ -59,7 +59,7 @@ pub record BuildOutcome : Type 0 where
 abbrev pub leaves : BuildAnswer → List Float → List Float → List Float → List ℕ → List ℕ → List ℕ → BuildOutcome
 leaves r path walk segments owners starts entries = record {
   answer = r;
-  told = toldOf r;
+  told = told_of r;
   path = path;
   walk = walk;
   segments = segments;
@@ -72,14 +72,14 @@ abbrev pub zeros : ℕ → List Float
 zeros n = replicate n 0·0
 
 -- every lent cell zero
-unfoldable pub refusedWith : BuildRooms → Code → ℕ → BuildOutcome
-refusedWith r code place =
+unfoldable pub refused_with : BuildRooms → Code → ℕ → BuildOutcome
+refused_with r code place =
     leaves (Refused code place) (zeros r.path) (zeros r.walk) (zeros r.segments) (replicate r.owners 0) (replicate r.starts 0) (replicate r.entries 0)
 
 -- ROOM for the entries, or the table of so many segments, whose numbers and owners are given, and how many of them are faint
-abbrev pub afterRows : BuildRooms → ℕ → ℕ → List Float → List ℕ → RowsOutcome → BuildOutcome
-afterRows r estimate count numbers owners o = go o.answer
+abbrev pub after_rows : BuildRooms → ℕ → ℕ → List Float → List ℕ → RowsOutcome → BuildOutcome
+after_rows r estimate count numbers owners o = go o.answer
   where
     go : Listed → BuildOutcome
-    go Listed.Room = refusedWith r Code.Room 0
-    go (Listed.Entries n) = leaves (Done count n estimate (faintIn numbers count)) (zeros r.path) (zeros r.walk) (padded r.segments 0·0 numbers) (padded r.owners 0 owners) o.starts o.entries
+    go Listed.Room = refused_with r Code.Room 0
+    go (Listed.Entries n) = leaves (Done count n estimate (faint_in numbers count)) (zeros r.path) (zeros r.walk) (padded r.segments 0·0 numbers) (padded r.owners 0 owners) o.starts o.entries

@@ -2,8 +2,8 @@
 #![tactic(auto)]
 
 ghost use Rattle.std.specs.Prelude.{◌≡◌, ◌*◌, ◌≤◌, ◌<◌, ◌^◌, length, take};
-ghost use Rattle.rows.specs.Rows.{in_row, listedRows};
-ghost use Rattle.build_answer.specs.Answer.{rooms_of, leaves, refusedWith, afterRows};
+ghost use Rattle.rows.specs.Rows.{in_row, listed_rows};
+ghost use Rattle.build_answer.specs.Answer.{rooms_of, leaves, refused_with, after_rows};
 
 use codes::Code;
 use rows::Listed;
@@ -27,7 +27,7 @@ pub fn refuse(
     entries: &mut [u32],
 ) -> BuildAnswer
     ensures { leaves result path.new walk.new segments.new owners.new row_starts.new entries.new
-        ≡ refusedWith (rooms_of path.old walk.old segments.old owners.old row_starts.old entries.old) code place }
+        ≡ refused_with (rooms_of path.old walk.old segments.old owners.old row_starts.old entries.old) code place }
 {
     wipe::wipe(path, walk, segments, owners, row_starts, entries);
     BuildAnswer::Refused(code, place)
@@ -47,7 +47,7 @@ pub fn list_segments(
 ) -> BuildAnswer
     requires { (8 * count ≤ length segments.old) × (count ≤ length owners.old) × (count ≤ 2 ^ 24) × (height ≤ 2 ^ 23) × (height < length row_starts.old) }
     ensures { leaves result path.new walk.new segments.new owners.new row_starts.new entries.new
-        ≡ afterRows (rooms_of path.old walk.old segments.old owners.old row_starts.old entries.old) estimate count (take (8 * count) segments.old) (take count owners.old) (listedRows (in_row segments.old) count height (length row_starts.old) (length entries.old)) }
+        ≡ after_rows (rooms_of path.old walk.old segments.old owners.old row_starts.old entries.old) estimate count (take (8 * count) segments.old) (take count owners.old) (listed_rows (in_row segments.old) count height (length row_starts.old) (length entries.old)) }
 {
     match rows::list_rows(segments, count, height as usize, row_starts, entries) {
         Listed::Room => refuse(

@@ -9,18 +9,18 @@ use lib.ListN.{length, get_or}
 use lib.Seq.{slice, slice-cons, slice_empty}
 use lib.Dec.{ltb}
 use borrow.Author.Tests.{ltb-true}
-use Rattle.desks.proofs.Shown.{owned-first, owned-rest}
-use Rattle.desks.specs.Desks.{allOwned}
+use Rattle.desks.proofs.Shown.{owned_first, owned_rest}
+use Rattle.desks.specs.Desks.{all_owned}
 use Rattle.checks.specs.Checks.{all_below}
 
-pub slice-next : (i e : ℕ) (l : List ℕ) → i < e → e ≤ length l → slice i e l ≡ get_or l i 0 ∷ slice (i + 1) e l
-slice-next i e l h k = rw (add-one i) (slice-cons i e l 0 h k)
+pub slice_next : (i e : ℕ) (l : List ℕ) → i < e → e ≤ length l → slice i e l ≡ get_or l i 0 ∷ slice (i + 1) e l
+slice_next i e l h k = rw (add-one i) (slice-cons i e l 0 h k)
 
-pub slice-none : (i e : ℕ) (l : List ℕ) → i ≤ e → e ≤ i → slice i e l ≡ []
-slice-none i e l h k = ap (λ (j : ℕ). slice j e l) (le_antisymm h k) ∙ slice_empty e l
+pub slice_none : (i e : ℕ) (l : List ℕ) → i ≤ e → e ≤ i → slice i e l ≡ []
+slice_none i e l h k = ap (λ (j : ℕ). slice j e l) (le_antisymm h k) ∙ slice_empty e l
 
-pub all-next : (m i e : ℕ) (l : List ℕ) → i < e → e ≤ length l → all_below m (slice i e l) ≡ ltb (get_or l i 0) m && all_below m (slice (i + 1) e l)
-all-next m i e l h k = ap (all_below m) (slice-next i e l h k)
+pub all_next : (m i e : ℕ) (l : List ℕ) → i < e → e ≤ length l → all_below m (slice i e l) ≡ ltb (get_or l i 0) m && all_below m (slice (i + 1) e l)
+all_next m i e l h k = ap (all_below m) (slice_next i e l h k)
 
 pub and_left : (a b : Bool) → a && b ≡ true → a ≡ true
 and_left true b h = refl
@@ -28,62 +28,62 @@ and_left false b h = h
 
 pub and_right : (a b : Bool) → a && b ≡ true → b ≡ true
 and_right true b h = h
-and_right false b h = absurd (false-true h)
+and_right false b h = absurd (false_true h)
   where
     is_false : Bool → Type 0
     is_false true = ⊥
     is_false false = Unit
 
-    false-true : false ≡ true → ⊥
-    false-true p = subst is_false p tt
+    false_true : false ≡ true → ⊥
+    false_true p = subst is_false p tt
 
 -- the first entry is below m, and so are the others
 pub first_below : (m i e : ℕ) (l : List ℕ) → i < e → e ≤ length l → all_below m (slice i e l) ≡ true → get_or l i 0 < m
-first_below m i e l h k p = ltb-true (get_or l i 0) m (and_left (ltb (get_or l i 0) m) (all_below m (slice (i + 1) e l)) (sym (all-next m i e l h k) ∙ p))
+first_below m i e l h k p = ltb-true (get_or l i 0) m (and_left (ltb (get_or l i 0) m) (all_below m (slice (i + 1) e l)) (sym (all_next m i e l h k) ∙ p))
 
 pub rest_below : (m i e : ℕ) (l : List ℕ) → i < e → e ≤ length l → all_below m (slice i e l) ≡ true → all_below m (slice (i + 1) e l) ≡ true
-rest_below m i e l h k p = and_right (ltb (get_or l i 0) m) (all_below m (slice (i + 1) e l)) (sym (all-next m i e l h k) ∙ p)
+rest_below m i e l h k p = and_right (ltb (get_or l i 0) m) (all_below m (slice (i + 1) e l)) (sym (all_next m i e l h k) ∙ p)
 
 pub all_none : (m i e : ℕ) (l : List ℕ) → i ≤ e → e ≤ i → all_below m (slice i e l) ≡ true
-all_none m i e l h k = ap (all_below m) (slice-none i e l h k)
+all_none m i e l h k = ap (all_below m) (slice_none i e l h k)
 
 -- ---- the owners of a row's segments
 
 -- the first entry decides, or those after it do
 module _ (m : ℕ) (owners : List ℕ) (splines i e : ℕ) (l : List ℕ) (h : i < e) (k : e ≤ length l) where
   abbrev good : ℕ → Bool
-  good j = all_below m (slice j e l) && allOwned owners splines (slice j e l)
+  good j = all_below m (slice j e l) && all_owned owners splines (slice j e l)
 
-  both-next : good i ≡ ((ltb (get_or l i 0) m && all_below m (slice (i + 1) e l)) && (ltb (get_or owners (get_or l i 0) 0) splines && allOwned owners splines (slice (i + 1) e l)))
-  both-next = ap (λ (q : List ℕ). all_below m q && allOwned owners splines q) (slice-next i e l h k)
+  both_next : good i ≡ ((ltb (get_or l i 0) m && all_below m (slice (i + 1) e l)) && (ltb (get_or owners (get_or l i 0) 0) splines && all_owned owners splines (slice (i + 1) e l)))
+  both_next = ap (λ (q : List ℕ). all_below m q && all_owned owners splines q) (slice_next i e l h k)
 
-  pub not-below : ltb (get_or l i 0) m ≡ false → good i ≡ false
-  not-below p = both-next ∙ ap (λ (b : Bool). (b && all_below m (slice (i + 1) e l)) && (ltb (get_or owners (get_or l i 0) 0) splines && allOwned owners splines (slice (i + 1) e l))) p
+  pub not_below : ltb (get_or l i 0) m ≡ false → good i ≡ false
+  not_below p = both_next ∙ ap (λ (b : Bool). (b && all_below m (slice (i + 1) e l)) && (ltb (get_or owners (get_or l i 0) 0) splines && all_owned owners splines (slice (i + 1) e l))) p
 
-  pub not-owned : ltb (get_or owners (get_or l i 0) 0) splines ≡ false → good i ≡ false
-  not-owned p =
-      both-next
-      ∙ ap (λ (b : Bool). (ltb (get_or l i 0) m && all_below m (slice (i + 1) e l)) && (b && allOwned owners splines (slice (i + 1) e l))) p
-      ∙ and-false (ltb (get_or l i 0) m && all_below m (slice (i + 1) e l))
+  pub not_owned : ltb (get_or owners (get_or l i 0) 0) splines ≡ false → good i ≡ false
+  not_owned p =
+      both_next
+      ∙ ap (λ (b : Bool). (ltb (get_or l i 0) m && all_below m (slice (i + 1) e l)) && (b && all_owned owners splines (slice (i + 1) e l))) p
+      ∙ and_false (ltb (get_or l i 0) m && all_below m (slice (i + 1) e l))
     where
-      and-false : (b : Bool) → b && false ≡ false
-      and-false true = refl
-      and-false false = refl
+      and_false : (b : Bool) → b && false ≡ false
+      and_false true = refl
+      and_false false = refl
 
-  pub owned-on : ltb (get_or l i 0) m ≡ true → ltb (get_or owners (get_or l i 0) 0) splines ≡ true → good i ≡ good (i + 1)
-  owned-on p q =
-      both-next
-      ∙ ap (λ (b : Bool). (b && all_below m (slice (i + 1) e l)) && (ltb (get_or owners (get_or l i 0) 0) splines && allOwned owners splines (slice (i + 1) e l))) p
-      ∙ ap (λ (b : Bool). all_below m (slice (i + 1) e l) && (b && allOwned owners splines (slice (i + 1) e l))) q
+  pub owned_on : ltb (get_or l i 0) m ≡ true → ltb (get_or owners (get_or l i 0) 0) splines ≡ true → good i ≡ good (i + 1)
+  owned_on p q =
+      both_next
+      ∙ ap (λ (b : Bool). (b && all_below m (slice (i + 1) e l)) && (ltb (get_or owners (get_or l i 0) 0) splines && all_owned owners splines (slice (i + 1) e l))) p
+      ∙ ap (λ (b : Bool). all_below m (slice (i + 1) e l) && (b && all_owned owners splines (slice (i + 1) e l))) q
 
-pub good_none : (m : ℕ) (owners : List ℕ) (splines i e : ℕ) (l : List ℕ) → i ≤ e → e ≤ i → (all_below m (slice i e l) && allOwned owners splines (slice i e l)) ≡ true
-good_none m owners splines i e l h k = ap (λ (q : List ℕ). all_below m q && allOwned owners splines q) (slice-none i e l h k)
+pub good_none : (m : ℕ) (owners : List ℕ) (splines i e : ℕ) (l : List ℕ) → i ≤ e → e ≤ i → (all_below m (slice i e l) && all_owned owners splines (slice i e l)) ≡ true
+good_none m owners splines i e l h k = ap (λ (q : List ℕ). all_below m q && all_owned owners splines q) (slice_none i e l h k)
 
 -- the owner of the first entry's segment is a spline, and so are the others'
-pub first-owned : (owners : List ℕ) (splines i e : ℕ) (l : List ℕ) → i < e → e ≤ length l → allOwned owners splines (slice i e l) ≡ true → get_or owners (get_or l i 0) 0 < splines
-first-owned owners splines i e l h k p = owned-first owners splines (get_or l i 0) (slice (i + 1) e l) (sym (ap (allOwned owners splines) (slice-next i e l h k)) ∙ p)
+pub first_owned : (owners : List ℕ) (splines i e : ℕ) (l : List ℕ) → i < e → e ≤ length l → all_owned owners splines (slice i e l) ≡ true → get_or owners (get_or l i 0) 0 < splines
+first_owned owners splines i e l h k p = owned_first owners splines (get_or l i 0) (slice (i + 1) e l) (sym (ap (all_owned owners splines) (slice_next i e l h k)) ∙ p)
 
-pub rest-owned : (owners : List ℕ) (splines i e : ℕ) (l : List ℕ) → i < e → e ≤ length l → allOwned owners splines (slice i e l) ≡ true → allOwned owners splines (slice (i + 1) e l) ≡ true
-rest-owned owners splines i e l h k p = owned-rest owners splines (get_or l i 0) (slice (i + 1) e l) (sym (ap (allOwned owners splines) (slice-next i e l h k)) ∙ p)
+pub rest_owned : (owners : List ℕ) (splines i e : ℕ) (l : List ℕ) → i < e → e ≤ length l → all_owned owners splines (slice i e l) ≡ true → all_owned owners splines (slice (i + 1) e l) ≡ true
+rest_owned owners splines i e l h k p = owned_rest owners splines (get_or l i 0) (slice (i + 1) e l) (sym (ap (all_owned owners splines) (slice_next i e l h k)) ∙ p)
 
 -- Assumes nothing.

@@ -6,29 +6,29 @@ use Rattle.desks.specs.Desks.{Sight, shown}
 -- segments, entries and row starts, each in a buffer with the count in use; the row starts are one more than the rows
 pub record Table : Type 0 where
   pub segments : List Float
-  pub segmentCount : ℕ
+  pub segment_count : ℕ
   pub entries : List ℕ
-  pub entryCount : ℕ
-  pub rowStarts : List ℕ
+  pub entry_count : ℕ
+  pub row_starts : List ℕ
   pub height : ℕ
 
 abbrev pub table_of : List Float → ℕ → List ℕ → ℕ → List ℕ → ℕ → Table
-table_of segments segmentCount entries entryCount rowStarts height = record {
+table_of segments segment_count entries entry_count row_starts height = record {
   segments = segments;
-  segmentCount = segmentCount;
+  segment_count = segment_count;
   entries = entries;
-  entryCount = entryCount;
-  rowStarts = rowStarts;
+  entry_count = entry_count;
+  row_starts = row_starts;
   height = height;
 }
 
 -- the entries between the two starts of row y
-abbrev pub entriesOf : List ℕ → List ℕ → ℕ → List ℕ
-entriesOf rowStarts entries y = slice (get_or rowStarts y 0) (get_or rowStarts (y + 1) 0) entries
+abbrev pub entries_of : List ℕ → List ℕ → ℕ → List ℕ
+entries_of row_starts entries y = slice (get_or row_starts y 0) (get_or row_starts (y + 1) 0) entries
 
 abbrev pub row_of : Table → ℕ → List ℕ
-row_of t y = entriesOf t.rowStarts t.entries y
+row_of t y = entries_of t.row_starts t.entries y
 
 -- those of them that are not hidden for the desk
-abbrev pub shownOf : Table → Sight → ℕ → List ℕ
-shownOf t s y = shown s (row_of t y)
+abbrev pub shown_of : Table → Sight → ℕ → List ℕ
+shown_of t s y = shown s (row_of t y)

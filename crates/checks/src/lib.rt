@@ -3,9 +3,9 @@
 
 ghost use Rattle.std.specs.Prelude.{◌≡◌, ◌&&◌, ◌+◌, ◌<◌, ◌≤◌, leb, length};
 ghost use Rattle.std.proofs.Math.Seq.{slice};
-ghost use Rattle.desks.specs.Desks.{sight_of, allOwned};
-ghost use Rattle.checks.specs.Tables.{table_of, entriesOf};
-ghost use Rattle.checks.specs.Checks.{countsGood, spanGood, all_below, entriesGood, judgeRow, judgeDraw};
+ghost use Rattle.desks.specs.Desks.{sight_of, all_owned};
+ghost use Rattle.checks.specs.Tables.{table_of, entries_of};
+ghost use Rattle.checks.specs.Checks.{counts_good, span_good, all_below, entries_good, judge_row, judge_draw};
 
 use codes::Code;
 
@@ -19,7 +19,7 @@ pub enum Verdict {
 // Whether the entries from b up to e are all below m, and the owners of their segments below `splines`.
 fn all_owned(entries: &[u32], b: usize, e: usize, m: u32, owners: &[u64], splines: u64) -> bool
     requires { (b ≤ e) × (e ≤ length entries.now) × (m ≤ length owners.now) }
-    ensures { result ≡ (all_below m (slice b e entries.now) && allOwned owners.now splines (slice b e entries.now)) }
+    ensures { result ≡ (all_below m (slice b e entries.now) && all_owned owners.now splines (slice b e entries.now)) }
 {
     let mut j = b;
     while j < e {
@@ -45,7 +45,7 @@ pub fn counts_good(
     row_starts: &[u32],
     height: u32,
 ) -> bool
-    ensures { result ≡ (countsGood (table_of segments.now segment_count entries.now entry_count row_starts.now height) && leb segment_count (length owners.now)) }
+    ensures { result ≡ (counts_good (table_of segments.now segment_count entries.now entry_count row_starts.now height) && leb segment_count (length owners.now)) }
 {
     if 16777216 < segment_count {
         return false;
@@ -72,7 +72,7 @@ pub fn counts_good(
 }
 
 pub fn span_good(x0: u32, n: u32, l0: usize, l1: usize, l2: usize) -> bool
-    ensures { result ≡ spanGood x0 n l0 l1 l2 }
+    ensures { result ≡ span_good x0 n l0 l1 l2 }
 {
     if 8388608 < n {
         return false;
@@ -104,8 +104,8 @@ fn entries_good(
     y: u32,
 ) -> bool
     requires { (entry_count ≤ length entries.now) × (y + 1 < length row_starts.now) × (segment_count ≤ length owners.now) }
-    ensures { result ≡ (entriesGood entries.now entry_count row_starts.now segment_count y
-        && allOwned owners.now splines (entriesOf row_starts.now entries.now y)) }
+    ensures { result ≡ (entries_good entries.now entry_count row_starts.now segment_count y
+        && all_owned owners.now splines (entries_of row_starts.now entries.now y)) }
 {
     let at = y as usize;
     let b = row_starts[at] as usize;
@@ -134,7 +134,7 @@ pub fn judge_row(
     y: u32,
     spanned: bool,
 ) -> Verdict
-    ensures { result ≡ judgeRow (table_of segments.now segment_count entries.now entry_count row_starts.now height) (sight_of owners.now splines bits.now desk) y spanned }
+    ensures { result ≡ judge_row (table_of segments.now segment_count entries.now entry_count row_starts.now height) (sight_of owners.now splines bits.now desk) y spanned }
 {
     let counted = counts_good(
         segments,
@@ -190,7 +190,7 @@ pub fn judge(
     l1: usize,
     l2: usize,
 ) -> Verdict
-    ensures { result ≡ judgeDraw (table_of segments.now segment_count entries.now entry_count row_starts.now height) (sight_of owners.now splines bits.now desk) y x0 n l0 l1 l2 }
+    ensures { result ≡ judge_draw (table_of segments.now segment_count entries.now entry_count row_starts.now height) (sight_of owners.now splines bits.now desk) y x0 n l0 l1 l2 }
 {
     if 2 <= desk {
         return Verdict::Fault(Code::Desk);

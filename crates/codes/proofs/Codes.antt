@@ -37,7 +37,7 @@ numbered Edition = refl
 numbered Band = refl
 
 -- two codes with one number are equal
-pub numberOf-injective : (a b : Code) → number_of a ≡ number_of b → a ≡ b
-numberOf-injective a b same = sym (numbered a) ∙ ap (λ (n : ℕ). get_or all n Done) same ∙ numbered b
+pub number_of_injective : (a b : Code) → number_of a ≡ number_of b → a ≡ b
+number_of_injective a b same = sym (numbered a) ∙ ap (λ (n : ℕ). get_or all n Done) same ∙ numbered b
 
 -- Assumes nothing.

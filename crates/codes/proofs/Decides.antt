@@ -16,8 +16,8 @@ pub record Decides (b : Bool) (yes no : Type 0) : Type 0 where
 pub at_most : (m n : ℕ) → Decides (leb m n) (m ≤ n) (n < m)
 at_most m n = record { passed = leb-true m n; passes = le-leb m n; failed = leb-false m n; fails = lt-leb m n }
 
-pub less-than : (m n : ℕ) → Decides (ltb m n) (m < n) (n ≤ m)
-less-than m n = record { passed = ltb-true m n; passes = lt-ltb m n; failed = ltb-false m n; fails = le-ltb m n }
+pub less_than : (m n : ℕ) → Decides (ltb m n) (m < n) (n ≤ m)
+less_than m n = record { passed = ltb-true m n; passes = lt-ltb m n; failed = ltb-false m n; fails = le-ltb m n }
 
 pub both : (s t : Bool) → cond s t false ≡ true → (s ≡ true) × (t ≡ true)
 both true t h = (refl, h)
@@ -25,8 +25,8 @@ both false t h = absurd (true≢false (sym h))
 
 module _ {a b : Bool} {A B A' B' : Type 0} (p : Decides a A A') (q : Decides b B B') where
   -- of two tests both pass, or one fails
-  pub both-decide : Decides (cond a b false) (A × B) (A' ⊎ B')
-  both-decide = record {
+  pub both_decide : Decides (cond a b false) (A × B) (A' ⊎ B')
+  both_decide = record {
     passed = λ h. let k = both a b h in (p.passed k.0, q.passed k.1);
     passes = λ y. rw (p.passes y.0, q.passes y.1);
     failed = λ h. one a refl h;
@@ -46,8 +46,8 @@ module _ {a b : Bool} {A B A' B' : Type 0} (p : Decides a A A') (q : Decides b B
       other (inr n) = last a (q.fails n)
 
   -- of two tests one passes, or both fail
-  pub either-decides : Decides (a || b) (A ⊎ B) (A' × B')
-  either-decides = record {
+  pub either_decides : Decides (a || b) (A ⊎ B) (A' × B')
+  either_decides = record {
     passed = λ h. one a refl h;
     passes = λ y. other y;
     failed = λ h. none a refl h;

@@ -1,5 +1,5 @@
 -- The number of each code, as the table of codes gives it.
--- Two codes with one number are equal: `numberOf-injective` of proofs/Codes.antt.
+-- Two codes with one number are equal: `number_of_injective` of proofs/Codes.antt.
 use Rattle.std.specs.Prelude.{ℕ}
 use Rattle.codes.specs.declared.Code.{Code}
 use Rattle.codes.specs.declared.Code.TheVariants.{Done, Short, Splines, Coord, Points, Delta, Trail, Room, Size, Shape, Position, Distance, Area, Coincide, Table, Row, Span, Header, Text, Desk, Trace, Profile, Edition, Band}

@@ -2,11 +2,11 @@
 #![tactic(auto)]
 
 ghost use Rattle.std.specs.Prelude.{◌≡◌, cond, ◌+◌, ◌*◌, ◌^◌, ◌≤◌, min, max, length};
-ghost use Rattle.segments.specs.Segment.{segmentAt};
-ghost use Rattle.segments.specs.Ranges.{hasColumn};
-ghost use Rattle.shade.specs.Edit.{edit, firstCells};
+ghost use Rattle.segments.specs.Segment.{segment_at};
+ghost use Rattle.segments.specs.Ranges.{has_column};
+ghost use Rattle.shade.specs.Edit.{edit, first_cells};
 ghost use Rattle.shade.specs.Shade.{shaded};
-ghost use Rattle.columns.specs.Columns.{shadedInColumn, between, count};
+ghost use Rattle.columns.specs.Columns.{shaded_in_column, between, count};
 
 use segments::Segment;
 
@@ -38,9 +38,9 @@ pub fn draw_columns(
     requires n_bound { (x0 + n ≤ 2 ^ 23) × (y ≤ 2 ^ 23) }
     requires n_in_bounds { (n ≤ length r0.old) × (n ≤ length r1.old) × (n ≤ length r2.old) }
     ensures value { result ≡ count (between first past) x0 n }
-    ensures r0_after { r0.new ≡ edit (firstCells n (λ k v. cond (between first past (x0 + k)) (shaded segment y (x0 + k) 0 v) v)) r0.old }
-    ensures r1_after { r1.new ≡ edit (firstCells n (λ k v. cond (between first past (x0 + k)) (shaded segment y (x0 + k) 1 v) v)) r1.old }
-    ensures r2_after { r2.new ≡ edit (firstCells n (λ k v. cond (between first past (x0 + k)) (shaded segment y (x0 + k) 2 v) v)) r2.old }
+    ensures r0_after { r0.new ≡ edit (first_cells n (λ k v. cond (between first past (x0 + k)) (shaded segment y (x0 + k) 0 v) v)) r0.old }
+    ensures r1_after { r1.new ≡ edit (first_cells n (λ k v. cond (between first past (x0 + k)) (shaded segment y (x0 + k) 1 v) v)) r1.old }
+    ensures r2_after { r2.new ≡ edit (first_cells n (λ k v. cond (between first past (x0 + k)) (shaded segment y (x0 + k) 2 v) v)) r2.old }
 {
     let from = greatest(x0, first);
     let to = least(x0 + n, past);
@@ -77,10 +77,10 @@ pub fn draw_segment(
     requires i_in_bounds { 8 * i + 8 ≤ length segments.now }
     requires n_bound { (x0 + n ≤ 2 ^ 23) × (y ≤ 2 ^ 23) }
     requires n_in_bounds { (n ≤ length r0.old) × (n ≤ length r1.old) × (n ≤ length r2.old) }
-    ensures value { result ≡ count (hasColumn (segmentAt segments.now i)) x0 n }
-    ensures r0_after { r0.new ≡ edit (firstCells n (λ k v. shadedInColumn 0 segments.now y (x0 + k) v i)) r0.old }
-    ensures r1_after { r1.new ≡ edit (firstCells n (λ k v. shadedInColumn 1 segments.now y (x0 + k) v i)) r1.old }
-    ensures r2_after { r2.new ≡ edit (firstCells n (λ k v. shadedInColumn 2 segments.now y (x0 + k) v i)) r2.old }
+    ensures value { result ≡ count (has_column (segment_at segments.now i)) x0 n }
+    ensures r0_after { r0.new ≡ edit (first_cells n (λ k v. shaded_in_column 0 segments.now y (x0 + k) v i)) r0.old }
+    ensures r1_after { r1.new ≡ edit (first_cells n (λ k v. shaded_in_column 1 segments.now y (x0 + k) v i)) r1.old }
+    ensures r2_after { r2.new ≡ edit (first_cells n (λ k v. shaded_in_column 2 segments.now y (x0 + k) v i)) r2.old }
 {
     let segment = Segment::at(segments, i);
     let columns = segment.columns();

@@ -3,6 +3,6 @@ use Rattle.std.specs.Prelude.{ℕ}
 use Rattle.contents.specs.declared.short.Tried.{Tried}
 use Rattle.contents.specs.declared.short.Tried.TheVariants.{Status, Room}
 
-abbrev pub triedStatus : Tried → ℕ
-triedStatus (Status s) = s
-triedStatus Room = 0
+abbrev pub tried_status : Tried → ℕ
+tried_status (Status s) = s
+tried_status Room = 0

@@ -1,6 +1,6 @@
 // A list or a trace file in rooms that are soon cleared and fit a small stack; a description that is too long for them is left to others.
 ghost use Rattle.std.specs.Prelude.{◌≤◌};
-ghost use Rattle.contents.specs.Tries.{triedStatus};
+ghost use Rattle.contents.specs.Tries.{tried_status};
 
 use crate::{Source, telling};
 use codes::Code;
@@ -51,7 +51,7 @@ fn say_first(
 
 // ROOM, or the status of another refusal of a list that has no image.
 fn refuse_list(code: Code, place: usize, list: &[u32]) -> Tried
-    ensures { triedStatus result ≤ 3 }
+    ensures { tried_status result ≤ 3 }
 {
     if codes::number_of(code) == 7 {
         return Tried::Room;
@@ -67,7 +67,7 @@ fn list_in(
     deltas: &mut [i32; DELTAS],
     coefficients: &mut [i32; COEFFICIENTS],
 ) -> Tried
-    ensures { triedStatus result ≤ 3 }
+    ensures { tried_status result ≤ 3 }
 {
     match reader::read(
         list,
@@ -92,7 +92,7 @@ fn list_in(
 
 // What a list holds.
 pub fn tell_list(list: &[u32]) -> Tried
-    ensures { triedStatus result ≤ 3 }
+    ensures { tried_status result ≤ 3 }
 {
     let mut counts = [0u32; SPLINES];
     let mut starts = [0.0f32; STARTS];
@@ -108,7 +108,7 @@ pub fn tell_list(list: &[u32]) -> Tried
 }
 
 fn refuse_trace(code: Code, place: usize, bytes: &[u8]) -> Tried
-    ensures { triedStatus result ≤ 3 }
+    ensures { tried_status result ≤ 3 }
 {
     if codes::number_of(code) == 7 {
         return Tried::Room;
@@ -124,7 +124,7 @@ fn trace_in(
     deltas: &mut [i32; DELTAS],
     coefficients: &mut [i32; COEFFICIENTS],
 ) -> Tried
-    ensures { triedStatus result ≤ 3 }
+    ensures { tried_status result ≤ 3 }
 {
     match trace2_read::trace_read2(bytes, counts, starts, deltas, coefficients) {
         FileAnswer::Refused(code, place) => refuse_trace(code, place, bytes),
@@ -141,7 +141,7 @@ fn trace_in(
 
 // What a trace file holds.
 pub fn tell_trace(bytes: &[u8]) -> Tried
-    ensures { triedStatus result ≤ 3 }
+    ensures { tried_status result ≤ 3 }
 {
     let mut counts = [0u32; SPLINES];
     let mut starts = [0.0f32; STARTS];

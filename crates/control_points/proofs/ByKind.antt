@@ -7,23 +7,23 @@ use lib.IntN.{ℤ, pos, neg_ℤ}
 use lib.Signed.{lt_z}
 use lib.Ieee.{Float, nan, inf, fin, Format, binary32, prec, emax, low, up, down, is_nan, round, units, odd, to_signed}
 use lib.Ieee.Fits.{round_is}
-use Rattle.wholes.specs.Whole.{half, wholeBy, roundOf}
-use Rattle.kinds.specs.Kind.{kindBy, cutI32, saturatedI32, within}
+use Rattle.wholes.specs.Whole.{half, whole_by, round_of}
+use Rattle.kinds.specs.Kind.{kind_by, cut_i32, saturated_i32, within}
 use Rattle.kinds.specs.declared.KindI32.{KindI32}
 use Rattle.kinds.specs.declared.KindI32.TheVariants as I32
-use Rattle.kinds.proofs.ByKind.{saturated-i32}
-use Rattle.control_points.specs.ControlPoints.{coordinateBy, roundedOf}
+use Rattle.kinds.proofs.ByKind.{saturated_i32_lem}
+use Rattle.control_points.specs.ControlPoints.{coordinate_by, rounded_of}
 use Rattle.control_points.specs.ByKind.{taken, StartByKind}
 use Rattle.control_points.specs.declared.Coordinate.TheVariants as W
 
 -- a number that is held to the range of an i32 is no coordinate where that changed it
-by_tests : (a b : Bool) (z : ℤ) → coordinateBy (cond a I32.Above (cond b I32.Below (I32.Exact z))) ≡ taken (saturatedI32 (cond a I32.Above (cond b I32.Below (I32.Exact z))))
+by_tests : (a b : Bool) (z : ℤ) → coordinate_by (cond a I32.Above (cond b I32.Below (I32.Exact z))) ≡ taken (saturated_i32 (cond a I32.Above (cond b I32.Below (I32.Exact z))))
 by_tests true b z = refl
 by_tests false true z = refl
 by_tests false false z = refl
 
-coordinate : (r : Float) → is_nan r ≡ false → coordinateBy (cutI32 r) ≡ taken (saturatedI32 (cutI32 r))
-unfolding kindBy is_nan
+coordinate : (r : Float) → is_nan r ≡ false → coordinate_by (cut_i32 r) ≡ taken (saturated_i32 (cut_i32 r))
+unfolding kind_by is_nan
 coordinate nan h = absurd (true≢false h)
 coordinate (inf true) h = refl
 coordinate (inf false) h = refl
@@ -46,11 +46,11 @@ units_number f s q k = go (ltb (q * 2 ^ k) (2 ^ (low f + suc (emax f))))
 round_number : (f : Format) (s : Bool) (n d : ℕ) → is_nan (round f s n d) ≡ false
 round_number f s n d = ap is_nan (round_is f s n d) ∙ units_number f s _ _
 
-pub start-by-kind : StartByKind
-unfolding roundedOf wholeBy kindBy is_nan to_signed
-start-by-kind nan = refl
-start-by-kind (inf true) = refl
-start-by-kind (inf false) = refl
-start-by-kind (fin s m e) = let r = round binary32 s (half (m * up e) (down e)) 1 in coordinate r (round_number binary32 s (half (m * up e) (down e)) 1) ∙ ap taken (saturated-i32 r)
+pub start_by_kind : StartByKind
+unfolding rounded_of whole_by kind_by is_nan to_signed
+start_by_kind nan = refl
+start_by_kind (inf true) = refl
+start_by_kind (inf false) = refl
+start_by_kind (fin s m e) = let r = round binary32 s (half (m * up e) (down e)) 1 in coordinate r (round_number binary32 s (half (m * up e) (down e)) 1) ∙ ap taken (saturated_i32_lem r)
 
 -- Assumes nothing.

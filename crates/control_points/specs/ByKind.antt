@@ -2,8 +2,8 @@
 use Rattle.std.specs.Prelude.{◌≡◌, cond, ℤ, Float}
 use Rattle.std.specs.Float.{binary32}
 use Rattle.std.specs.Float.Ieee.{is_nan, to_signed}
-use Rattle.wholes.specs.Whole.{roundOf}
-use Rattle.control_points.specs.ControlPoints.{in_range, roundedOf}
+use Rattle.wholes.specs.Whole.{round_of}
+use Rattle.control_points.specs.ControlPoints.{in_range, rounded_of}
 use Rattle.control_points.specs.declared.Coordinate.{Coordinate}
 use Rattle.control_points.specs.declared.Coordinate.TheVariants as W
 
@@ -13,4 +13,4 @@ taken z = cond (in_range z) (W.At z) W.Out
 
 -- a coordinate of a start: none where it is NaN
 abbrev pub StartByKind : Type 0
-StartByKind = (x : Float) → roundedOf x ≡ cond (is_nan x) W.Out (taken (to_signed 31 (roundOf binary32 x)))
+StartByKind = (x : Float) → rounded_of x ≡ cond (is_nan x) W.Out (taken (to_signed 31 (round_of binary32 x)))

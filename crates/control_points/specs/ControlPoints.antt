@@ -5,11 +5,11 @@ use Rattle.std.specs.Int.Signed.{le_z, lt_z}
 use Rattle.std.specs.Float.{binary32}
 use Rattle.std.specs.Float.Ieee.{lt, of_int}
 use Rattle.numbers.specs.Arith.{f, ◌⊖◌}
-use Rattle.wholes.specs.Whole.{roundOf}
-use Rattle.kinds.specs.Kind.{cutI32}
+use Rattle.wholes.specs.Whole.{round_of}
+use Rattle.kinds.specs.Kind.{cut_i32}
 use Rattle.kinds.specs.declared.KindI32.{KindI32}
 use Rattle.kinds.specs.declared.KindI32.TheVariants as I32
-use Rattle.numbers.specs.Magnitude.{absOf}
+use Rattle.numbers.specs.Magnitude.{abs_of}
 use Rattle.codes.specs.declared.Code.{Code}
 use Rattle.codes.specs.declared.Code.TheVariants.{Delta, Position, Distance}
 use Rattle.control_points.specs.declared.Pair.{Pair}
@@ -29,24 +29,24 @@ abbrev pub in_range : ℤ → Bool
 in_range v = cond (le_z (negsuc 8388607) v) (lt_z v (pos 8388608)) false
 
 -- a magnitude below 2^30
-abbrev pub belowDeltaLimit : ℤ → Bool
-belowDeltaLimit v = cond (lt_z (negsuc 1073741823) v) (lt_z v (pos 1073741824)) false
+abbrev pub below_delta_limit : ℤ → Bool
+below_delta_limit v = cond (lt_z (negsuc 1073741823) v) (lt_z v (pos 1073741824)) false
 
 -- `validate_spline_point_pos`, x then y
-unfoldable pub validPointPos : Pair → Bool
-validPointPos p = cond (in_range p.x) (in_range p.y) false
+unfoldable pub valid_point_pos : Pair → Bool
+valid_point_pos p = cond (in_range p.x) (in_range p.y) false
 
-unfoldable pub validDoubleDelta : Pair → Bool
-validDoubleDelta p = cond (belowDeltaLimit p.x) (belowDeltaLimit p.y) false
+unfoldable pub valid_double_delta : Pair → Bool
+valid_double_delta p = cond (below_delta_limit p.x) (below_delta_limit p.y) false
 
 -- ---- pairs
 
-unfoldable pub plusOf : Pair → Pair → Pair
-plusOf p q = record { x = p.x +ℤ q.x; y = p.y +ℤ q.y }
+unfoldable pub plus_of : Pair → Pair → Pair
+plus_of p q = record { x = p.x +ℤ q.x; y = p.y +ℤ q.y }
 
 -- both magnitudes
-unfoldable pub manhattanOf : Pair → ℕ
-manhattanOf p = nat_abs p.x + nat_abs p.y
+unfoldable pub manhattan_of : Pair → ℕ
+manhattan_of p = nat_abs p.x + nat_abs p.y
 
 -- the pair k of a list that holds two numbers a pair
 unfoldable pub pair_at : List ℤ → ℕ → Pair
@@ -55,42 +55,42 @@ pair_at l k = record { x = get_or l (2 * k) (pos 0); y = get_or l (2 * k + 1) (p
 -- ---- the start
 
 -- a coordinate by its kind: an exact number in the range is one
-abbrev pub coordinateBy : KindI32 → Coordinate
-coordinateBy (I32.Exact z) = cond (in_range z) (W.At z) W.Out
-coordinateBy I32.NotNumber = W.Out
-coordinateBy I32.Below = W.Out
-coordinateBy I32.Above = W.Out
+abbrev pub coordinate_by : KindI32 → Coordinate
+coordinate_by (I32.Exact z) = cond (in_range z) (W.At z) W.Out
+coordinate_by I32.NotNumber = W.Out
+coordinate_by I32.Below = W.Out
+coordinate_by I32.Above = W.Out
 
 -- `x.round()` as an i32, where it is in the range; a NaN is not
-unfoldable pub roundedOf : Float → Coordinate
-roundedOf x = coordinateBy (cutI32 (roundOf binary32 x))
+unfoldable pub rounded_of : Float → Coordinate
+rounded_of x = coordinate_by (cut_i32 (round_of binary32 x))
 
 abbrev pub joined : Coordinate → Coordinate → Start
 joined W.Out q = S.Out
 joined (W.At a) W.Out = S.Out
 joined (W.At a) (W.At b) = S.At (record { x = a; y = b })
 
-unfoldable pub startingPoint : Float → Float → Start
-startingPoint x y = joined (roundedOf x) (roundedOf y)
+unfoldable pub starting_point : Float → Float → Start
+starting_point x y = joined (rounded_of x) (rounded_of y)
 
 -- ---- the points
 
 -- where all begins: no delta yet
-unfoldable pub standAt : Pair → Stand
-standAt start = record { delta = record { x = pos 0; y = pos 0 }; point = start }
+unfoldable pub stand_at : Pair → Stand
+stand_at start = record { delta = record { x = pos 0; y = pos 0 }; point = start }
 
 -- one double delta on: it is added to the delta, and the delta to the point
-unfoldable pub movedOf : Stand → Pair → Stand
-movedOf p dd = let delta = plusOf p.delta dd in record { delta = delta; point = plusOf p.point delta }
+unfoldable pub moved_of : Stand → Pair → Stand
+moved_of p dd = let delta = plus_of p.delta dd in record { delta = delta; point = plus_of p.point delta }
 
 -- the points after a place, one for each double delta
-unfoldable pub laterPoints : Stand → List ℤ → List Pair
-laterPoints p [] = []
-laterPoints p (a ∷ []) = []
-laterPoints p (a ∷ b ∷ ds) = let q = movedOf p (record { x = a; y = b }) in q.point ∷ laterPoints q ds
+unfoldable pub later_points : Stand → List ℤ → List Pair
+later_points p [] = []
+later_points p (a ∷ []) = []
+later_points p (a ∷ b ∷ ds) = let q = moved_of p (record { x = a; y = b }) in q.point ∷ later_points q ds
 
-unfoldable pub controlPoints : Pair → List ℤ → List Pair
-controlPoints start ds = start ∷ laterPoints (standAt start) ds
+unfoldable pub control_points : Pair → List ℤ → List Pair
+control_points start ds = start ∷ later_points (stand_at start) ds
 
 -- ---- COINCIDE
 
@@ -99,53 +99,53 @@ abbrev 1e-3 : Float
 
 -- (a - b).abs() < 1e-3, of two whole numbers as f32
 unfoldable pub near : ℤ → ℤ → Bool
-near a b = lt (absOf (of_int binary32 a ⊖ of_int binary32 b)) 1e-3
+near a b = lt (abs_of (of_int binary32 a ⊖ of_int binary32 b)) 1e-3
 
 -- `==` of two points
-unfoldable pub samePoint : Pair → Pair → Bool
-samePoint p q = cond (near p.x q.x) (near p.y q.y) false
+unfoldable pub same_point : Pair → Pair → Bool
+same_point p q = cond (near p.x q.x) (near p.y q.y) false
 
 -- whether a point, or one of those after it, is the same as the next
-unfoldable pub coincideFrom : Pair → List Pair → Bool
-coincideFrom p [] = false
-coincideFrom p (q ∷ l) = cond (samePoint p q) true (coincideFrom q l)
+unfoldable pub coincide_from : Pair → List Pair → Bool
+coincide_from p [] = false
+coincide_from p (q ∷ l) = cond (same_point p q) true (coincide_from q l)
 
-unfoldable pub adjacentCoincide : List Pair → Bool
-unfolding coincideFrom
-adjacentCoincide [] = false
-adjacentCoincide (p ∷ l) = coincideFrom p l
+unfoldable pub adjacent_coincide : List Pair → Bool
+unfolding coincide_from
+adjacent_coincide [] = false
+adjacent_coincide (p ∷ l) = coincide_from p l
 
 -- ---- all checks in their order
 
-abbrev pub orStop : Bool → Code → Traced → Traced
-orStop true code t = t
-orStop false code t = Stop code
+abbrev pub or_stop : Bool → Code → Traced → Traced
+or_stop true code t = t
+or_stop false code t = Stop code
 
 -- one double delta: DELTA, POSITION of the delta, DISTANCE, POSITION of the point
 unfoldable pub step_of : ℕ → Run → Pair → Traced
 step_of limit r dd =
-    let delta = plusOf r.delta dd in
-    let manhattan = r.manhattan + manhattanOf delta in
-    let point = plusOf r.point delta in
-    orStop (validDoubleDelta dd) Delta
-    (orStop (validPointPos delta) Position
-    (orStop (leb manhattan limit) Distance
-    (orStop (validPointPos point) Position
-    (On (record { delta = delta; point = point; manhattan = manhattan; coincide = cond r.coincide true (samePoint r.point point) })))))
+    let delta = plus_of r.delta dd in
+    let manhattan = r.manhattan + manhattan_of delta in
+    let point = plus_of r.point delta in
+    or_stop (valid_double_delta dd) Delta
+    (or_stop (valid_point_pos delta) Position
+    (or_stop (leb manhattan limit) Distance
+    (or_stop (valid_point_pos point) Position
+    (On (record { delta = delta; point = point; manhattan = manhattan; coincide = cond r.coincide true (same_point r.point point) })))))
 
 abbrev pub onward : Traced → (Run → Traced) → Traced
 onward (On r) k = k r
 onward (Stop code) k = Stop code
 
-unfoldable pub traceFrom : ℕ → Run → List ℤ → Traced
+unfoldable pub trace_from : ℕ → Run → List ℤ → Traced
 unfolding step_of
-traceFrom limit r [] = On r
-traceFrom limit r (a ∷ []) = On r
-traceFrom limit r (a ∷ b ∷ ds) = onward (step_of limit r (record { x = a; y = b })) (λ s. traceFrom limit s ds)
+trace_from limit r [] = On r
+trace_from limit r (a ∷ []) = On r
+trace_from limit r (a ∷ b ∷ ds) = onward (step_of limit r (record { x = a; y = b })) (λ s. trace_from limit s ds)
 
 unfoldable pub run_at : Pair → Run
 run_at start = record { delta = record { x = pos 0; y = pos 0 }; point = start; manhattan = 0; coincide = false }
 
 -- the run after all double deltas, or the first refusal
-unfoldable pub traceOf : ℕ → Pair → List ℤ → Traced
-traceOf limit start ds = traceFrom limit (run_at start) ds
+unfoldable pub trace_of : ℕ → Pair → List ℤ → Traced
+trace_of limit start ds = trace_from limit (run_at start) ds

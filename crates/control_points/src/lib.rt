@@ -2,7 +2,7 @@
 #![tactic(auto)]
 
 ghost use Rattle.std.specs.Prelude.{◌≡◌, true, ◌+◌, ◌*◌, ◌≤◌, nat_abs, length};
-ghost use Rattle.control_points.specs.ControlPoints.{in_range, belowDeltaLimit, validPointPos, validDoubleDelta, plusOf, manhattanOf, pair_at, roundedOf, startingPoint, movedOf, standAt, step_of, traceOf};
+ghost use Rattle.control_points.specs.ControlPoints.{in_range, below_delta_limit, valid_point_pos, valid_double_delta, plus_of, manhattan_of, pair_at, rounded_of, starting_point, moved_of, stand_at, step_of, trace_of};
 ghost use Rattle.control_points.specs.Asked.{Fine, Held, Moves};
 
 use codes::Code;
@@ -59,7 +59,7 @@ fn in_range(v: i32) -> bool
 
 // Whether v is below 2^30 in magnitude.
 fn below_delta_limit(v: i32) -> bool
-    ensures { result ≡ belowDeltaLimit v }
+    ensures { result ≡ below_delta_limit v }
 {
     if v > -1073741824 {
         v < 1073741824
@@ -76,7 +76,7 @@ pub fn unsigned_abs(v: i32) -> u64
 }
 
 fn rounded(x: f32) -> Coordinate
-    ensures { result ≡ roundedOf x }
+    ensures { result ≡ rounded_of x }
 {
     match kinds::rounded_to_i32(x) {
         KindI32::Exact(z) => {
@@ -94,7 +94,7 @@ fn rounded(x: f32) -> Coordinate
 
 // Where a spline begins, or that POSITION refuses it.
 pub fn starting_point(x: f32, y: f32) -> Start
-    ensures { result ≡ startingPoint x y }
+    ensures { result ≡ starting_point x y }
 {
     match rounded(x) {
         Coordinate::Out => Start::Out,
@@ -118,7 +118,7 @@ impl Pair {
     }
 
     fn valid_double_delta(self) -> bool
-        ensures { result ≡ validDoubleDelta self }
+        ensures { result ≡ valid_double_delta self }
     {
         if below_delta_limit(self.x) {
             below_delta_limit(self.y)
@@ -128,7 +128,7 @@ impl Pair {
     }
 
     fn valid_point_pos(self) -> bool
-        ensures { result ≡ validPointPos self }
+        ensures { result ≡ valid_point_pos self }
     {
         if in_range(self.x) {
             in_range(self.y)
@@ -139,7 +139,7 @@ impl Pair {
 
     pub fn plus(self, o: Pair) -> Pair
         requires { Fine self × Fine o }
-        ensures { result ≡ plusOf self o }
+        ensures { result ≡ plus_of self o }
     {
         Pair {
             x: self.x + o.x,
@@ -148,7 +148,7 @@ impl Pair {
     }
 
     fn manhattan(self) -> u64
-        ensures { result ≡ manhattanOf self }
+        ensures { result ≡ manhattan_of self }
     {
         unsigned_abs(self.x) + unsigned_abs(self.y)
     }
@@ -156,7 +156,7 @@ impl Pair {
 
 impl Stand {
     pub fn at(start: Pair) -> Stand
-        ensures { result ≡ standAt start }
+        ensures { result ≡ stand_at start }
     {
         Stand {
             delta: Pair { x: 0, y: 0 },
@@ -167,7 +167,7 @@ impl Stand {
     // The next place of a walk that was traced before.
     pub fn moved(self, dd: Pair) -> Stand
         requires { Moves self dd }
-        ensures { result ≡ movedOf self dd }
+        ensures { result ≡ moved_of self dd }
     {
         let delta = self.delta.plus(dd);
         let point = self.point.plus(delta);
@@ -208,8 +208,8 @@ impl Run {
 
 // The run after all double deltas, or the first refusal.
 pub fn trace(start: Pair, deltas: &[i32], limit: u64) -> Traced
-    requires { validPointPos start ≡ true }
-    ensures { result ≡ traceOf limit start deltas.now }
+    requires { valid_point_pos start ≡ true }
+    ensures { result ≡ trace_of limit start deltas.now }
 {
     let mut run = Run {
         delta: Pair { x: 0, y: 0 },

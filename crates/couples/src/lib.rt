@@ -5,7 +5,7 @@ ghost use Rattle.std.specs.Prelude.{◌≡◌, [], ◌∷◌, ◌+◌, ◌*◌, 
 ghost use Rattle.shade.specs.Edit.{edit};
 ghost use Rattle.desks.specs.Desks.{sight_of, shown};
 ghost use Rattle.columns.specs.Columns.{updates};
-ghost use Rattle.couples.specs.Couples.{shadedInRange, shownChannel};
+ghost use Rattle.couples.specs.Couples.{shaded_in_range, shown_channel};
 
 use columns::{draw_columns, greatest};
 use cuts::{add_in, part_of};
@@ -27,9 +27,9 @@ fn draw_narrow(
     requires x0_le_first { (x0 ≤ p.first) × (p.first ≤ p.past) × (p.past ≤ p.first + 32) × (p.past ≤ 2 ^ 23) × (x0 ≤ q.first) × (q.first ≤ q.past) × (q.past ≤ q.first + 32) × (q.past ≤ 2 ^ 23) × (y ≤ 2 ^ 23) }
     requires past_bound { (p.past ≤ x0 + length r0.old) × (p.past ≤ x0 + length r1.old) × (p.past ≤ x0 + length r2.old) }
     requires past_bound_2 { (q.past ≤ x0 + length r0.old) × (q.past ≤ x0 + length r1.old) × (q.past ≤ x0 + length r2.old) }
-    ensures r0_after { r0.new ≡ edit (shadedInRange two q y x0 0) (edit (shadedInRange one p y x0 0) r0.old) }
-    ensures r1_after { r1.new ≡ edit (shadedInRange two q y x0 1) (edit (shadedInRange one p y x0 1) r1.old) }
-    ensures r2_after { r2.new ≡ edit (shadedInRange two q y x0 2) (edit (shadedInRange one p y x0 2) r2.old) }
+    ensures r0_after { r0.new ≡ edit (shaded_in_range two q y x0 0) (edit (shaded_in_range one p y x0 0) r0.old) }
+    ensures r1_after { r1.new ≡ edit (shaded_in_range two q y x0 1) (edit (shaded_in_range one p y x0 1) r1.old) }
+    ensures r2_after { r2.new ≡ edit (shaded_in_range two q y x0 2) (edit (shaded_in_range one p y x0 2) r2.old) }
 {
     let m = (p.past - p.first) as usize;
     let l = (q.past - q.first) as usize;
@@ -67,9 +67,9 @@ pub fn draw_two(
     requires n_bound { (x0 + n ≤ 2 ^ 23) × (y ≤ 2 ^ 23) }
     requires n_in_bounds { (n ≤ length r0.old) × (n ≤ length r1.old) × (n ≤ length r2.old) }
     ensures value { result ≡ updates segments.now x0 n (shown (sight_of owners.now splines bits.now desk) (i ∷ [])) + updates segments.now x0 n (shown (sight_of owners.now splines bits.now desk) (j ∷ [])) }
-    ensures r0_after { r0.new ≡ shownChannel 0 segments.now (sight_of owners.now splines bits.now desk) y x0 n (j ∷ []) (shownChannel 0 segments.now (sight_of owners.now splines bits.now desk) y x0 n (i ∷ []) r0.old) }
-    ensures r1_after { r1.new ≡ shownChannel 1 segments.now (sight_of owners.now splines bits.now desk) y x0 n (j ∷ []) (shownChannel 1 segments.now (sight_of owners.now splines bits.now desk) y x0 n (i ∷ []) r1.old) }
-    ensures r2_after { r2.new ≡ shownChannel 2 segments.now (sight_of owners.now splines bits.now desk) y x0 n (j ∷ []) (shownChannel 2 segments.now (sight_of owners.now splines bits.now desk) y x0 n (i ∷ []) r2.old) }
+    ensures r0_after { r0.new ≡ shown_channel 0 segments.now (sight_of owners.now splines bits.now desk) y x0 n (j ∷ []) (shown_channel 0 segments.now (sight_of owners.now splines bits.now desk) y x0 n (i ∷ []) r0.old) }
+    ensures r1_after { r1.new ≡ shown_channel 1 segments.now (sight_of owners.now splines bits.now desk) y x0 n (j ∷ []) (shown_channel 1 segments.now (sight_of owners.now splines bits.now desk) y x0 n (i ∷ []) r1.old) }
+    ensures r2_after { r2.new ≡ shown_channel 2 segments.now (sight_of owners.now splines bits.now desk) y x0 n (j ∷ []) (shown_channel 2 segments.now (sight_of owners.now splines bits.now desk) y x0 n (i ∷ []) r2.old) }
 {
     let one = Segment::at(segments, i);
     let p = part_of(one, desks::hidden(owners, splines, bits, desk, i), x0, n);

@@ -9,11 +9,11 @@ use lib.Dec.{leb}
 use lib.ListN.{length, take}
 use lib.Ieee.{Float}
 use Rattle.buffers.specs.Onto.{onto}
-use Rattle.buffers.proofs.Fronts.{take-onto}
+use Rattle.buffers.proofs.Fronts.{take_onto}
 use Rattle.curve.specs.declared.Point.{Point}
 use Rattle.curve.specs.declared.Curved.TheVariants.{Points, Room}
-use Rattle.curve.specs.Curve.{flat, curvedOf, curvedOn}
-use Rattle.curve.proofs.Paths.{length-flat}
+use Rattle.curve.specs.Curve.{flat, curved_of, curved_on}
+use Rattle.curve.proofs.Paths.{length_flat}
 
 -- a path of n points had room and stands on the front of the buffer e
 pub record OnFront (room : ℕ) (path : List Point) (e : List Float) (n : ℕ) : Type 0 where
@@ -21,19 +21,19 @@ pub record OnFront (room : ℕ) (path : List Point) (e : List Float) (n : ℕ) :
   pub fits : n ≤ room
   pub front : take (2 * n) e ≡ flat path
 
-pub curved-got : (room : ℕ) (path : List Point) (o e : List Float) (n : ℕ) → Points n ≡ curvedOf room path → e ≡ curvedOn room path o → OnFront room path e n
-unfolding curvedOf curvedOn
+pub curved-got : (room : ℕ) (path : List Point) (o e : List Float) (n : ℕ) → Points n ≡ curved_of room path → e ≡ curved_on room path o → OnFront room path e n
+unfolding curved_of curved_on
 curved-got room path o e n a b = go (leb (length path) room) refl a b
   where
     go : (t : Bool) → leb (length path) room ≡ t → Points n ≡ cond t (Points (length path)) Room → e ≡ cond t (onto (flat path) o) o → OnFront room path e n
     go false h a b = absurd (let z : ◌≡◌ {A = ℕ} 0 1 = cc in omega arith)
     go true h a b =
         let k : n ≡ length path = cc in
-        let l : length (flat path) ≡ 2 * n = length-flat path ∙ ap (λ (i : ℕ). 2 * i) (sym k) in
-        record { count = k; fits = omega (arith, leb-true (length path) room h); front = rw b (take-onto (flat path) o (2 * n) l) }
+        let l : length (flat path) ≡ 2 * n = length_flat path ∙ ap (λ (i : ℕ). 2 * i) (sym k) in
+        record { count = k; fits = omega (arith, leb-true (length path) room h); front = rw b (take_onto (flat path) o (2 * n) l) }
 
-pub curved-none : (room : ℕ) (path : List Point) → Room ≡ curvedOf room path → room < length path
-unfolding curvedOf
+pub curved-none : (room : ℕ) (path : List Point) → Room ≡ curved_of room path → room < length path
+unfolding curved_of
 curved-none room path a = go (leb (length path) room) refl a
   where
     go : (t : Bool) → leb (length path) room ≡ t → Room ≡ cond t (Points (length path)) Room → room < length path

@@ -2,16 +2,16 @@
 use Rattle.std.specs.Prelude.{◌≡◌, Bool, true, false, cond, List, [], ◌∷◌, ◌++◌, ℕ, zero, suc, ◌+◌, ◌-◌, ◌*◌, ◌/◌, min, leb, ℤ, length, Float}
 use Rattle.std.specs.Float.{binary32}
 use Rattle.std.specs.Float.Ieee.{of_int}
-use Rattle.roots.specs.Root.{sqrtOf}
+use Rattle.roots.specs.Root.{sqrt_of}
 use Rattle.buffers.specs.Onto.{onto}
-use Rattle.control_points.specs.ControlPoints.{controlPoints}
+use Rattle.control_points.specs.ControlPoints.{control_points}
 use Rattle.control_points.specs.declared.Pair.{Pair}
 use Rattle.curve.specs.declared.Point.{Point}
 use Rattle.curve.specs.declared.Window.{Window}
 use Rattle.curve.specs.declared.Curved.{Curved}
 use Rattle.curve.specs.declared.Curved.TheVariants.{Points, Room}
-use Rattle.curve.specs.Points.{addPoint, subPoint, absPoint}
-use Rattle.curve.specs.Windows.{windowPoint}
+use Rattle.curve.specs.Points.{add_point, sub_point, abs_point}
+use Rattle.curve.specs.Windows.{window_point}
 
 -- ---- control points
 
@@ -19,15 +19,15 @@ use Rattle.curve.specs.Windows.{windowPoint}
 abbrev pub point_of : Pair → Point
 point_of p = record { x = of_int binary32 p.x; y = of_int binary32 p.y }
 
-unfoldable pub asPoints : List Pair → List Point
-asPoints [] = []
-asPoints (p ∷ l) = point_of p ∷ asPoints l
+unfoldable pub as_points : List Pair → List Point
+as_points [] = []
+as_points (p ∷ l) = point_of p ∷ as_points l
 
 -- ---- windows
 
 -- p + (p - q)
 abbrev pub reflected : Point → Point → Point
-reflected p q = addPoint p (subPoint p q)
+reflected p q = add_point p (sub_point p q)
 
 -- what follows p and q: the points l, and behind the last of all its reflection
 unfoldable pub closing : Point → Point → List Point → List Point
@@ -35,60 +35,60 @@ closing p q [] = reflected q p ∷ []
 closing p q (r ∷ l) = r ∷ closing q r l
 
 -- (q - p).abs().sqrt()
-unfoldable pub rootDistance : Point → Point → Float
-rootDistance p q = sqrtOf binary32 (absPoint (subPoint q p))
+unfoldable pub root_distance : Point → Point → Float
+root_distance p q = sqrt_of binary32 (abs_point (sub_point q p))
 
 -- each point but the last is paired with the root of its distance to the next
-unfoldable pub windowOf : Point → Point → Point → Point → Window
-windowOf p q r s = record {
+unfoldable pub window_of : Point → Point → Point → Point → Window
+window_of p q r s = record {
   p0 = p;
   p1 = q;
   p2 = r;
   p3 = s;
-  d0 = rootDistance p q;
-  d1 = rootDistance q r;
-  d2 = rootDistance r s;
+  d0 = root_distance p q;
+  d1 = root_distance q r;
+  d2 = root_distance r s;
 }
 
 -- each four points that follow one another, of p, q, r and l
-unfoldable pub windowsFrom : Point → Point → Point → List Point → List Window
-windowsFrom p q r [] = []
-windowsFrom p q r (s ∷ l) = windowOf p q r s ∷ windowsFrom q r s l
+unfoldable pub windows_from : Point → Point → Point → List Point → List Window
+windows_from p q r [] = []
+windows_from p q r (s ∷ l) = window_of p q r s ∷ windows_from q r s l
 
 -- the windows of p, q and l, with one point more at either end
-unfoldable pub windowsOf : Point → Point → List Point → List Window
-windowsOf p q l = windowsFrom (reflected p q) p q (closing p q l)
+unfoldable pub windows_of : Point → Point → List Point → List Window
+windows_of p q l = windows_from (reflected p q) p q (closing p q l)
 
 -- ---- the path
 
 -- the first i points after a window's second point
 unfoldable pub interpolated : Window → ℕ → List Point
 interpolated w zero = []
-interpolated w (suc i) = interpolated w i ++ (windowPoint w (suc i) ∷ [])
+interpolated w (suc i) = interpolated w i ++ (window_point w (suc i) ∷ [])
 
-unfoldable pub windowPoints : Window → List Point
-windowPoints w = w.p1 ∷ interpolated w 15
+unfoldable pub window_points : Window → List Point
+window_points w = w.p1 ∷ interpolated w 15
 
-unfoldable pub allPoints : List Window → List Point
-allPoints [] = []
-allPoints (w ∷ l) = windowPoints w ++ allPoints l
+unfoldable pub all_points : List Window → List Point
+all_points [] = []
+all_points (w ∷ l) = window_points w ++ all_points l
 
 unfoldable pub last_of : Point → List Point → Point
 last_of p [] = p
 last_of p (q ∷ l) = last_of q l
 
-unfoldable pub drawCentripetalCatmullRomSpline : List Point → List Point
-drawCentripetalCatmullRomSpline [] = []
-drawCentripetalCatmullRomSpline (p ∷ []) = p ∷ []
-drawCentripetalCatmullRomSpline (p ∷ q ∷ l) = allPoints (windowsOf p q l) ++ (last_of q l ∷ [])
+unfoldable pub draw_centripetal_catmull_rom_spline : List Point → List Point
+draw_centripetal_catmull_rom_spline [] = []
+draw_centripetal_catmull_rom_spline (p ∷ []) = p ∷ []
+draw_centripetal_catmull_rom_spline (p ∷ q ∷ l) = all_points (windows_of p q l) ++ (last_of q l ∷ [])
 
 -- the path of the spline that begins at start and has the double deltas ds
-unfoldable pub pathOf : Pair → List ℤ → List Point
-pathOf start ds = drawCentripetalCatmullRomSpline (asPoints (controlPoints start ds))
+unfoldable pub path_of : Pair → List ℤ → List Point
+path_of start ds = draw_centripetal_catmull_rom_spline (as_points (control_points start ds))
 
 -- 16(n - 1) + 1 points for n control points: 1 for one
 abbrev pub PathLength : Type 0
-PathLength = (start : Pair) (ds : List ℤ) → length (pathOf start ds) ≡ 16 * (length (controlPoints start ds) - 1) + 1
+PathLength = (start : Pair) (ds : List ℤ) → length (path_of start ds) ≡ 16 * (length (control_points start ds) - 1) + 1
 
 -- ---- in a lent buffer
 
@@ -98,12 +98,12 @@ flat [] = []
 flat (p ∷ l) = p.x ∷ p.y ∷ flat l
 
 -- how many points a buffer of n numbers has room for
-abbrev pub pathRoom : ℕ → ℕ
-pathRoom n = min (n / 2) 8388608
+abbrev pub path_room : ℕ → ℕ
+path_room n = min (n / 2) 8388608
 
-unfoldable pub curvedOf : ℕ → List Point → Curved
-curvedOf room path = cond (leb (length path) room) (Points (length path)) Room
+unfoldable pub curved_of : ℕ → List Point → Curved
+curved_of room path = cond (leb (length path) room) (Points (length path)) Room
 
 -- the buffer after; o is the buffer before
-unfoldable pub curvedOn : ℕ → List Point → List Float → List Float
-curvedOn room path o = cond (leb (length path) room) (onto (flat path) o) o
+unfoldable pub curved_on : ℕ → List Point → List Float → List Float
+curved_on room path o = cond (leb (length path) room) (onto (flat path) o) o

@@ -2,18 +2,18 @@
 use Rattle.std.specs.Prelude.{Float}
 use Rattle.std.specs.Float.{binary32}
 use Rattle.numbers.specs.Arith.{◌⊕◌, ◌⊖◌, ◌⊗◌}
-use Rattle.roots.specs.Length.{hypotOf}
+use Rattle.roots.specs.Length.{hypot_of}
 use Rattle.curve.specs.declared.Point.{Point}
 
-abbrev pub addPoint : Point → Point → Point
-addPoint p q = record { x = p.x ⊕ q.x; y = p.y ⊕ q.y }
+abbrev pub add_point : Point → Point → Point
+add_point p q = record { x = p.x ⊕ q.x; y = p.y ⊕ q.y }
 
-abbrev pub subPoint : Point → Point → Point
-subPoint p q = record { x = p.x ⊖ q.x; y = p.y ⊖ q.y }
+abbrev pub sub_point : Point → Point → Point
+sub_point p q = record { x = p.x ⊖ q.x; y = p.y ⊖ q.y }
 
-abbrev pub mulPoint : Point → Float → Point
-mulPoint p k = record { x = p.x ⊗ k; y = p.y ⊗ k }
+abbrev pub mul_point : Point → Float → Point
+mul_point p k = record { x = p.x ⊗ k; y = p.y ⊗ k }
 
 -- `abs`, by `hypot`
-unfoldable pub absPoint : Point → Float
-absPoint p = hypotOf binary32 p.x p.y
+unfoldable pub abs_point : Point → Float
+abs_point p = hypot_of binary32 p.x p.y

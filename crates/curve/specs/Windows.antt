@@ -5,14 +5,14 @@ use Rattle.std.specs.Float.Ieee.{of_int}
 use Rattle.numbers.specs.Arith.{f, 0·0, ◌⊕◌, ◌⊖◌, ◌⊗◌, ◌⊘◌}
 use Rattle.curve.specs.declared.Point.{Point}
 use Rattle.curve.specs.declared.Window.{Window}
-use Rattle.curve.specs.Points.{addPoint, subPoint, mulPoint}
+use Rattle.curve.specs.Points.{add_point, sub_point, mul_point}
 
 abbrev 16·0 : Float
 16·0 = f 0x41800000
 
 -- p + (q - p) * ((tt - t) / d)
 unfoldable pub toward : Point → Point → Float → Float → Float → Point
-toward p q tt t d = addPoint p (mulPoint (subPoint q p) ((tt ⊖ t) ⊘ d))
+toward p q tt t d = add_point p (mul_point (sub_point q p) ((tt ⊖ t) ⊘ d))
 
 -- tt of point i: d[0] + (i / 16) * d[1]
 unfoldable pub time : Window → ℕ → Float
@@ -31,9 +31,9 @@ levels w tt t1 t2 =
     toward b0 b1 tt t1 w.d1
 
 -- t[0] = 0 and t[k + 1] = t[k] + d[k]
-unfoldable pub windowPoint : Window → ℕ → Point
+unfoldable pub window_point : Window → ℕ → Point
 unfolding levels time
-windowPoint w i =
+window_point w i =
     let t1 = 0·0 ⊕ w.d0 in
     let t2 = t1 ⊕ w.d1 in
     levels w (time w i) t1 t2

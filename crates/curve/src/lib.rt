@@ -4,12 +4,12 @@
 ghost use Rattle.std.specs.Prelude.{◌≡◌, true, ◌+◌, ◌*◌, ◌/◌, ◌≤◌, ◌<◌, length, drop};
 ghost use Rattle.std.proofs.lemmas.List.Edits.{sets};
 ghost use Rattle.buffers.specs.Onto.{onto};
-ghost use Rattle.control_points.specs.ControlPoints.{validPointPos, standAt};
+ghost use Rattle.control_points.specs.ControlPoints.{valid_point_pos, stand_at};
 ghost use Rattle.control_points.specs.Asked.{Passable};
-ghost use Rattle.curve.specs.Points.{addPoint, subPoint, mulPoint};
-ghost use Rattle.curve.specs.Windows.{toward, time, levels, windowPoint};
-ghost use Rattle.curve.specs.Curve.{point_of, reflected, interpolated, windowPoints, pathOf, flat, pathRoom, curvedOf, curvedOn};
-ghost use Rattle.curve.specs.Turns.{rootLength, nextStand, firstTurn, nextTurn, turnWindow, lastWindow};
+ghost use Rattle.curve.specs.Points.{add_point, sub_point, mul_point};
+ghost use Rattle.curve.specs.Windows.{toward, time, levels, window_point};
+ghost use Rattle.curve.specs.Curve.{point_of, reflected, interpolated, window_points, path_of, flat, path_room, curved_of, curved_on};
+ghost use Rattle.curve.specs.Turns.{root_length, next_stand, first_turn, next_turn, turn_window, last_window};
 
 use control_points::{Pair, Stand};
 
@@ -23,7 +23,7 @@ pub struct Point {
 
 impl Point {
     pub fn add(self, q: Point) -> Point
-        ensures { result ≡ addPoint self q }
+        ensures { result ≡ add_point self q }
     {
         Point {
             x: self.x + q.x,
@@ -32,7 +32,7 @@ impl Point {
     }
 
     pub fn sub(self, q: Point) -> Point
-        ensures { result ≡ subPoint self q }
+        ensures { result ≡ sub_point self q }
     {
         Point {
             x: self.x - q.x,
@@ -41,7 +41,7 @@ impl Point {
     }
 
     pub fn scale(self, k: f32) -> Point
-        ensures { result ≡ mulPoint self k }
+        ensures { result ≡ mul_point self k }
     {
         Point {
             x: self.x * k,
@@ -65,7 +65,7 @@ impl Point {
 
     // A control point. In the range every whole number is exact.
     fn of(p: Pair) -> Point
-        requires { validPointPos p ≡ true }
+        requires { valid_point_pos p ≡ true }
         ensures { result ≡ point_of p }
     {
         Point {
@@ -113,7 +113,7 @@ impl Window {
     // The interpolated point i.
     fn point(self, i: usize) -> Point
         requires { i < 16 }
-        ensures { result ≡ windowPoint self i }
+        ensures { result ≡ window_point self i }
     {
         let t1 = 0.0 + self.d0;
         let t2 = t1 + self.d1;
@@ -137,7 +137,7 @@ fn put_interpolated(out: &mut [f32], k: usize, w: Window)
 // A window's second point and the 15 after it, written from cell k on.
 fn put_window(out: &mut [f32], k: usize, w: Window)
     requires { k + 32 ≤ length out.old }
-    ensures { out.new ≡ sets out.old k (flat (windowPoints w)) }
+    ensures { out.new ≡ sets out.old k (flat (window_points w)) }
 {
     buffers::put2(out, k, w.p1.x, w.p1.y);
     put_interpolated(out, k + 2, w);
@@ -158,7 +158,7 @@ struct Turn {
 
 // The root of a delta's length. The delta is the exact difference of two control points.
 fn root_length(delta: Pair) -> f32
-    ensures { result ≡ rootLength delta }
+    ensures { result ≡ root_length delta }
 {
     roots::root(roots::length(delta.x, delta.y))
 }
@@ -166,7 +166,7 @@ fn root_length(delta: Pair) -> f32
 // The stand that the double delta k leads to.
 fn next_stand(stand: Stand, deltas: &[i32], k: usize) -> Stand
     requires { Passable stand (drop (2 * k) deltas.now) × (2 * k + 2 ≤ length deltas.now) }
-    ensures { result ≡ nextStand stand deltas.now k }
+    ensures { result ≡ next_stand stand deltas.now k }
 {
     stand.moved(Pair::of(deltas, k))
 }
@@ -174,8 +174,8 @@ fn next_stand(stand: Stand, deltas: &[i32], k: usize) -> Stand
 impl Turn {
     // At the start, which is followed by a stand. The reflected point lies as far away as the next one.
     fn first(start: Pair, stand: Stand) -> Turn
-        requires { (validPointPos start ≡ true) × (validPointPos stand.point ≡ true) }
-        ensures { result ≡ firstTurn start stand }
+        requires { (valid_point_pos start ≡ true) × (valid_point_pos stand.point ≡ true) }
+        ensures { result ≡ first_turn start stand }
     {
         let q = Point::of(start);
         let r = Point::of(stand.point);
@@ -192,8 +192,8 @@ impl Turn {
     }
 
     fn next(self, stand: Stand) -> Turn
-        requires { validPointPos stand.point ≡ true }
-        ensures { result ≡ nextTurn self stand }
+        requires { valid_point_pos stand.point ≡ true }
+        ensures { result ≡ next_turn self stand }
     {
         let p = self.q;
         let q = self.r;
@@ -211,7 +211,7 @@ impl Turn {
 
     // The window of the three points and s, which lies at the distance whose root is d.
     fn window(self, s: Point, d: f32) -> Window
-        ensures { result ≡ turnWindow self s d }
+        ensures { result ≡ turn_window self s d }
     {
         let p0 = self.p;
         let p1 = self.q;
@@ -228,7 +228,7 @@ impl Turn {
     }
 
     fn last(self) -> Window
-        ensures { result ≡ lastWindow self }
+        ensures { result ≡ last_window self }
     {
         self.window(self.r.reflected(self.q), self.d1)
     }
@@ -238,16 +238,16 @@ impl Turn {
 
 // The turn at the start of a path of two control points or more.
 fn first_turn(start: Pair, deltas: &[i32]) -> Turn
-    requires { Passable (standAt start) deltas.now × (2 ≤ length deltas.now) }
-    ensures { result ≡ firstTurn start (nextStand (standAt start) deltas.now 0) }
+    requires { Passable (stand_at start) deltas.now × (2 ≤ length deltas.now) }
+    ensures { result ≡ first_turn start (next_stand (stand_at start) deltas.now 0) }
 {
     Turn::first(start, next_stand(Stand::at(start), deltas, 0))
 }
 
 // The path through m + 1 control points.
 fn put_path(start: Pair, deltas: &[i32], out: &mut [f32], m: usize)
-    requires { Passable (standAt start) deltas.now × (m ≡ length deltas.now / 2) × (0 < m) × (32 * m + 2 ≤ length out.old) }
-    ensures { out.new ≡ onto (flat (pathOf start deltas.now)) out.old }
+    requires { Passable (stand_at start) deltas.now × (m ≡ length deltas.now / 2) × (0 < m) × (32 * m + 2 ≤ length out.old) }
+    ensures { out.new ≡ onto (flat (path_of start deltas.now)) out.old }
 {
     let mut t = first_turn(start, deltas);
     let mut k = 0;
@@ -270,7 +270,7 @@ pub enum Curved {
 
 // How many points a path may have in a buffer of len numbers.
 fn path_room(len: usize) -> usize
-    ensures { result ≡ pathRoom len }
+    ensures { result ≡ path_room len }
 {
     let n = len / 2;
     if n <= 8388608 { n } else { 8388608 }
@@ -278,9 +278,9 @@ fn path_room(len: usize) -> usize
 
 // The path of a spline that was traced before, on the front of out.
 pub fn curve(start: Pair, deltas: &[i32], out: &mut [f32]) -> Curved
-    requires { Passable (standAt start) deltas.now }
-    ensures { (result ≡ curvedOf (pathRoom (length out.old)) (pathOf start deltas.now))
-        × (out.new ≡ curvedOn (pathRoom (length out.old)) (pathOf start deltas.now) out.old) }
+    requires { Passable (stand_at start) deltas.now }
+    ensures { (result ≡ curved_of (path_room (length out.old)) (path_of start deltas.now))
+        × (out.new ≡ curved_on (path_room (length out.old)) (path_of start deltas.now) out.old) }
 {
     let room = path_room(out.len());
     if room == 0 {

@@ -3,7 +3,7 @@ use Rattle.std.specs.Prelude.{◌≡◌, Bool, cond, List, ℕ, ◌+◌, ◌-◌
 use Rattle.std.specs.Float.{nan}
 use Rattle.segments.specs.declared.Segment.{Segment}
 use Rattle.segments.specs.declared.Range.{Range}
-use Rattle.shade.specs.Shade.{shadedByIntensity}
+use Rattle.shade.specs.Shade.{shaded_by_intensity}
 use Rattle.columns.specs.Columns.{between}
 
 -- a range that is those of the n columns from x0 on that pass the test
@@ -11,5 +11,5 @@ abbrev pub Cuts : Range → (ℕ → Bool) → ℕ → ℕ → Type 0
 Cuts r p x0 n = (x0 ≤ r.first) × (r.first ≤ r.past) × (r.past ≤ x0 + n) × ((k : ℕ) → k < n → between r.first r.past (x0 + k) ≡ p (x0 + k))
 
 -- cell k of a channel of colour c that begins at column x0, with a segment added by the intensities at the columns of a range, if the range has its column
-abbrev pub shadedInRangeBy : Segment → Range → List Float → ℕ → ℕ → ℕ → Float → Float
-shadedInRangeBy s r locals x0 c k v = cond (between r.first r.past (x0 + k)) (shadedByIntensity s (get_or locals (x0 + k - r.first) nan) c v) v
+abbrev pub shaded_in_range_by : Segment → Range → List Float → ℕ → ℕ → ℕ → Float → Float
+shaded_in_range_by s r locals x0 c k v = cond (between r.first r.past (x0 + k)) (shaded_by_intensity s (get_or locals (x0 + k - r.first) nan) c v) v

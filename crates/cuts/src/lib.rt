@@ -2,9 +2,9 @@
 #![tactic(auto)]
 
 ghost use Rattle.std.specs.Prelude.{◌≡◌, false, cond, ◌+◌, ◌^◌, ◌≤◌, length};
-ghost use Rattle.segments.specs.Ranges.{hasColumn};
+ghost use Rattle.segments.specs.Ranges.{has_column};
 ghost use Rattle.shade.specs.Edit.{edit};
-ghost use Rattle.cuts.specs.Cuts.{Cuts, shadedInRangeBy};
+ghost use Rattle.cuts.specs.Cuts.{Cuts, shaded_in_range_by};
 
 use columns::{greatest, least};
 use segments::{Range, Segment};
@@ -12,7 +12,7 @@ use segments::{Range, Segment};
 // Those of the n columns from x0 on that a segment has, unless it is hidden.
 pub fn part_of(segment: Segment, hidden: bool, x0: u32, n: u32) -> Range
     requires { x0 + n ≤ 2 ^ 23 }
-    ensures { Cuts result (λ x. cond hidden false (hasColumn segment x)) x0 n }
+    ensures { Cuts result (λ x. cond hidden false (has_column segment x)) x0 n }
 {
     if hidden {
         return Range {
@@ -44,9 +44,9 @@ pub fn add_in(
 )
     requires x0_le_first { (x0 ≤ range.first) × (range.first ≤ range.past) × (range.past ≤ range.first + 32) }
     requires past_bound { (range.past ≤ x0 + length r0.old) × (range.past ≤ x0 + length r1.old) × (range.past ≤ x0 + length r2.old) }
-    ensures r0_after { r0.new ≡ edit (shadedInRangeBy segment range locals.now x0 0) r0.old }
-    ensures r1_after { r1.new ≡ edit (shadedInRangeBy segment range locals.now x0 1) r1.old }
-    ensures r2_after { r2.new ≡ edit (shadedInRangeBy segment range locals.now x0 2) r2.old }
+    ensures r0_after { r0.new ≡ edit (shaded_in_range_by segment range locals.now x0 0) r0.old }
+    ensures r1_after { r1.new ≡ edit (shaded_in_range_by segment range locals.now x0 1) r1.old }
+    ensures r2_after { r2.new ≡ edit (shaded_in_range_by segment range locals.now x0 2) r2.old }
 {
     let a = (range.first - x0) as usize;
     let e = (range.past - x0) as usize;

@@ -11,30 +11,30 @@ use mir.Syntax.{w32}
 use mir.Val.{to_z, of_z}
 use mir.Facts.{to_z-of_z}
 use Rattle.control_points.specs.ControlPoints.{in_range}
-use Rattle.control_points.proofs.Pairs.{in-range-mag}
+use Rattle.control_points.proofs.Pairs.{in_range_mag}
 use mathlib.Core.Bool.{true}
-use Rattle.polyline.specs.Write.{digitsOf, numberText}
-use Rattle.polyline.proofs.Digits.{digits-small, digits-large, length-small, length-large, length_some, length_most}
+use Rattle.polyline.specs.Write.{digits_of, number_text}
+use Rattle.polyline.proofs.Digits.{digits_small, digits_large, length_small, length_large, length_some, length_most}
 
-set-sets : (vs l : List ℕ) (i j b : ℕ) → j < i → set (sets l i vs) j b ≡ sets (set l j b) i vs
-set-sets [] l i j b h = refl
-set-sets (v ∷ vs) l i j b h =
-    set-sets vs (set l i v) (suc i) j b (omega arith) ∙ ap (λ (k : List ℕ). sets k (suc i) vs) (set_comm l i j v b (λ e. omega arith))
+set_sets : (vs l : List ℕ) (i j b : ℕ) → j < i → set (sets l i vs) j b ≡ sets (set l j b) i vs
+set_sets [] l i j b h = refl
+set_sets (v ∷ vs) l i j b h =
+    set_sets vs (set l i v) (suc i) j b (omega arith) ∙ ap (λ (k : List ℕ). sets k (suc i) vs) (set_comm l i j v b (λ e. omega arith))
 
 -- the digits from byte i on are stored, and those of `left` are not
 pub record Back (text₀ : List ℕ) (end n : ℕ) (text : List ℕ) (left i : ℕ) : Type 0 where
   pub done : List ℕ
-  pub is : digitsOf n ≡ digitsOf left ++ done
-  pub at : i ≡ end - length (digitsOf n) + length (digitsOf left)
+  pub is : digits_of n ≡ digits_of left ++ done
+  pub at : i ≡ end - length (digits_of n) + length (digits_of left)
   pub kept : length text ≡ length text₀
   pub so : text ≡ sets text₀ i done
 
-append-none : (l : List ℕ) → l ++ [] ≡ l
-append-none [] = refl
-append-none (x ∷ l) = ap (λ (k : List ℕ). x ∷ k) (append-none l)
+append_none : (l : List ℕ) → l ++ [] ≡ l
+append_none [] = refl
+append_none (x ∷ l) = ap (λ (k : List ℕ). x ∷ k) (append_none l)
 
-pub back-begin : (text : List ℕ) (end n : ℕ) → length (digitsOf n) ≤ end → Back text end n text n end
-back-begin text end n h = record { done = []; is = sym (append-none (digitsOf n)); at = omega arith; kept = refl; so = refl }
+pub back_begin : (text : List ℕ) (end n : ℕ) → length (digits_of n) ≤ end → Back text end n text n end
+back_begin text end n h = record { done = []; is = sym (append_none (digits_of n)); at = omega arith; kept = refl; so = refl }
 
 pub back_some : {text₀ : List ℕ} {end n : ℕ} {text : List ℕ} {left i : ℕ} → Back text₀ end n text left i → 1 ≤ i
 back_some {left = left} b = omega (arith, b.at, length_some left)
@@ -46,21 +46,21 @@ back_more {text₀} {end} {n} {text} {left} {i} b h c text' e s =
     let k : suc (i - 1) ≡ i = omega arith in
     record {
       done = c ∷ b.done;
-      is = b.is ∙ rw (digits-large left h, ← e) (append_assoc (digitsOf (left / 10)) (c ∷ []) b.done);
-      at = omega (arith, b.at, length-large left h);
+      is = b.is ∙ rw (digits_large left h, ← e) (append_assoc (digits_of (left / 10)) (c ∷ []) b.done);
+      at = omega (arith, b.at, length_large left h);
       kept = ap length s ∙ length-set text (i - 1) c ∙ b.kept;
-      so = s ∙ ap (λ (l : List ℕ). set l (i - 1) c) b.so ∙ set-sets b.done text₀ i (i - 1) c (omega arith) ∙ ap (λ (j : ℕ). sets (set text₀ (i - 1) c) j b.done) (sym k);
+      so = s ∙ ap (λ (l : List ℕ). set l (i - 1) c) b.so ∙ set_sets b.done text₀ i (i - 1) c (omega arith) ∙ ap (λ (j : ℕ). sets (set text₀ (i - 1) c) j b.done) (sym k);
     }
 
 pub back_end : {text₀ : List ℕ} {end n : ℕ} {text : List ℕ} {left i : ℕ} → Back text₀ end n text left i → left < 10 → (c : ℕ) (text' : List ℕ) → c ≡ 48 + left
-    → text' ≡ set text (i - 1) c → text' ≡ sets text₀ (end - length (digitsOf n)) (digitsOf n)
+    → text' ≡ set text (i - 1) c → text' ≡ sets text₀ (end - length (digits_of n)) (digits_of n)
 back_end {text₀} {end} {n} {text} {left} {i} b h c text' e s =
     let one : 1 ≤ i = back_some b in
     let k : suc (i - 1) ≡ i = omega arith in
-    let j : end - length (digitsOf n) ≡ i - 1 = omega (arith, b.at, length-small left h) in
-    let d : digitsOf n ≡ c ∷ b.done = b.is ∙ rw (digits-small left h, e) in
-    s ∙ ap (λ (l : List ℕ). set l (i - 1) c) b.so ∙ set-sets b.done text₀ i (i - 1) c (omega arith) ∙ ap (λ (j : ℕ). sets (set text₀ (i - 1) c) j b.done) (sym k)
-    ∙ sym (ap (λ (p : ℕ). sets text₀ p (digitsOf n)) j ∙ ap (λ (l : List ℕ). sets text₀ (i - 1) l) d)
+    let j : end - length (digits_of n) ≡ i - 1 = omega (arith, b.at, length_small left h) in
+    let d : digits_of n ≡ c ∷ b.done = b.is ∙ rw (digits_small left h, e) in
+    s ∙ ap (λ (l : List ℕ). set l (i - 1) c) b.so ∙ set_sets b.done text₀ i (i - 1) c (omega arith) ∙ ap (λ (j : ℕ). sets (set text₀ (i - 1) c) j b.done) (sym k)
+    ∙ sym (ap (λ (p : ℕ). sets text₀ p (digits_of n)) j ∙ ap (λ (l : List ℕ). sets text₀ (i - 1) l) d)
 
 -- ---- numbers with a sign
 
@@ -68,25 +68,25 @@ pub less : (k : ℕ) → pos 0 -ℤ negsuc k ≡ pos (suc k)
 less k = ap pos (omega arith)
 
 module _ (v : ℤ) (r : in_range v ≡ true) where
-  pub minus-word : (k : ℕ) → v ≡ negsuc k → to_z w32 (of_z w32 (pos 0 -ℤ to_z w32 (of_z w32 v))) ≡ pos (suc k)
-  minus-word k is =
-      let small = in-range-mag v r in
+  pub minus_word : (k : ℕ) → v ≡ negsuc k → to_z w32 (of_z w32 (pos 0 -ℤ to_z w32 (of_z w32 v))) ≡ pos (suc k)
+  minus_word k is =
+      let small = in_range_mag v r in
       ap (λ (z : ℤ). to_z w32 (of_z w32 (pos 0 -ℤ z))) (to_z-of_z {w = w32} {z = v} (record { sfits = omega arith }) ∙ is)
       ∙ ap (λ (z : ℤ). to_z w32 (of_z w32 z)) (less k)
       ∙ to_z-of_z {w = w32} {z = pos (suc k)} (record { sfits = omega (arith, rw is at small) })
 
-  pub minus-text : (k : ℕ) → v ≡ negsuc k → (l l1 l2 : List ℕ) (at e : ℕ) → l1 ≡ set l at 45 → (l2 ≡ sets l1 (at + 1) (digitsOf (suc k))) × (e ≡ at + 1 + length (digitsOf (suc k)))
-      → (l2 ≡ sets l at (numberText v)) × (e ≡ at + length (numberText v)) × (e ≤ at + 8)
-  unfolding numberText
-  minus-text k is l l1 l2 at e a b =
-      let small : suc k < 10000000 = omega (arith, rw is at (in-range-mag v r)) in
+  pub minus_text : (k : ℕ) → v ≡ negsuc k → (l l1 l2 : List ℕ) (at e : ℕ) → l1 ≡ set l at 45 → (l2 ≡ sets l1 (at + 1) (digits_of (suc k))) × (e ≡ at + 1 + length (digits_of (suc k)))
+      → (l2 ≡ sets l at (number_text v)) × (e ≡ at + length (number_text v)) × (e ≤ at + 8)
+  unfolding number_text
+  minus_text k is l l1 l2 at e a b =
+      let small : suc k < 10000000 = omega (arith, rw is at (in_range_mag v r)) in
       rw is (b.0 ∙ rw (a, add-one at), omega (arith, b.1), omega (arith, b.1, length_most 6 (suc k) small))
 
-  pub plain-text : (n : ℕ) → v ≡ pos n → (l l1 : List ℕ) (at e : ℕ) → (l1 ≡ sets l at (digitsOf n)) × (e ≡ at + length (digitsOf n))
-      → (l1 ≡ sets l at (numberText v)) × (e ≡ at + length (numberText v)) × (e ≤ at + 8)
-  unfolding numberText
-  plain-text n is l l1 at e b =
-      let small : n < 10000000 = omega (arith, rw is at (in-range-mag v r)) in
+  pub plain_text : (n : ℕ) → v ≡ pos n → (l l1 : List ℕ) (at e : ℕ) → (l1 ≡ sets l at (digits_of n)) × (e ≡ at + length (digits_of n))
+      → (l1 ≡ sets l at (number_text v)) × (e ≡ at + length (number_text v)) × (e ≤ at + 8)
+  unfolding number_text
+  plain_text n is l l1 at e b =
+      let small : n < 10000000 = omega (arith, rw is at (in_range_mag v r)) in
       rw is (b.0, b.1, omega (arith, b.1, length_most 6 n small))
 
 -- Assumes nothing.

@@ -4,7 +4,7 @@
 ghost use Rattle.std.specs.Prelude.{◌≡◌, Bool, ◌+◌, ◌-◌, ◌≤◌, ◌<◌, length, set};
 ghost use Rattle.std.proofs.lemmas.List.Edits.{sets};
 ghost use Rattle.control_points.specs.ControlPoints.{in_range};
-ghost use Rattle.polyline.specs.Write.{digitsOf, numberText};
+ghost use Rattle.polyline.specs.Write.{digits_of, number_text};
 
 // A byte, where there is a cell for it.
 pub fn put_byte(text: &mut [u8], at: usize, b: u8)
@@ -17,7 +17,7 @@ pub fn put_byte(text: &mut [u8], at: usize, b: u8)
 
 // How many digits a number has.
 fn width(n: u32) -> usize
-    ensures { result ≡ length (digitsOf n) }
+    ensures { result ≡ length (digits_of n) }
 {
     let mut left = n;
     let mut w = 1;
@@ -38,8 +38,8 @@ fn digit_byte(d: u32) -> u8
 
 // The digits of a number that end before a byte, the last of them first.
 fn put_back(text: &mut [u8], end: usize, n: u32)
-    requires { length (digitsOf n) ≤ end }
-    ensures { text.new ≡ sets text.old (end - length (digitsOf n)) (digitsOf n) }
+    requires { length (digits_of n) ≤ end }
+    ensures { text.new ≡ sets text.old (end - length (digits_of n)) (digits_of n) }
 {
     let mut left = n;
     let mut i = end;
@@ -54,7 +54,7 @@ fn put_back(text: &mut [u8], end: usize, n: u32)
 // The digits of a number from a byte on: where they end.
 fn put_digits(text: &mut [u8], at: usize, n: u32) -> usize
     requires { at < 18446744073000000000 }
-    ensures { (text.new ≡ sets text.old at (digitsOf n)) × (result ≡ at + length (digitsOf n)) }
+    ensures { (text.new ≡ sets text.old at (digits_of n)) × (result ≡ at + length (digits_of n)) }
 {
     let end = at + width(n);
     put_back(text, end, n);
@@ -64,7 +64,7 @@ fn put_digits(text: &mut [u8], at: usize, n: u32) -> usize
 // A position with its sign.
 pub fn put_number(text: &mut [u8], at: usize, v: i32) -> usize
     requires { (at < 18446744000000000000) × (in_range v ≡ Bool.true) }
-    ensures { (text.new ≡ sets text.old at (numberText v)) × (result ≡ at + length (numberText v)) × (result ≤ at + 8) }
+    ensures { (text.new ≡ sets text.old at (number_text v)) × (result ≡ at + length (number_text v)) × (result ≤ at + 8) }
 {
     if v < 0 {
         let n = (0 - v) as u32;

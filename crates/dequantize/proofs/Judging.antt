@@ -3,8 +3,8 @@ use Rattle.std.proofs.Common.{◌≡◌, ℕ, zero, suc, ◌+◌, ◌-◌, ◌*�
 use lib.Ieee.{nan}
 use Rattle.codes.specs.declared.Code.{Code}
 use Rattle.shape.specs.Shape.{points_of}
-use Rattle.dequantize.specs.Dequantize.{dequantizeOf}
-use Rattle.dequantize.specs.Judge.{Description, Shaped, startX, startY, deltasAt, deltasOf, coefficientsOf, splineOf, settleOf, judgeFrom, judgeOf}
+use Rattle.dequantize.specs.Dequantize.{dequantize_of}
+use Rattle.dequantize.specs.Judge.{Description, Shaped, start_x, start_y, deltas_at, deltas_of, coefficients_of, spline_of, settle_of, judge_from, judge_of}
 use Rattle.dequantize.specs.declared.Given.{Given}
 use Rattle.dequantize.specs.declared.Spline.{Spline}
 use Rattle.dequantize.specs.declared.judge.Settled.{Settled}
@@ -18,59 +18,59 @@ sum_more [] k h = absurd (omega arith)
 sum_more (n ∷ ns) zero h = omega arith
 sum_more (n ∷ ns) (suc k) h = omega (arith, sum_more ns k (omega arith))
 
-sum-part : (ns : List ℕ) (k : ℕ) → points_of (take k ns) ≤ points_of ns
-sum-part ns zero = omega arith
-sum-part [] (suc k) = omega arith
-sum-part (n ∷ ns) (suc k) = omega (arith, sum-part ns k)
+sum_part : (ns : List ℕ) (k : ℕ) → points_of (take k ns) ≤ points_of ns
+sum_part ns zero = omega arith
+sum_part [] (suc k) = omega arith
+sum_part (n ∷ ns) (suc k) = omega (arith, sum_part ns k)
 
 module _ (d : Description) (k : ℕ) (h : k < length d.counts) where
-  pub deltas-more : deltasAt d (k + 1) ≡ deltasAt d k + 2 * get_or d.counts k 0
-  unfolding deltasAt
-  deltas-more = rw (add-one k) (omega (arith, sum_more d.counts k h))
+  pub deltas_more : deltas_at d (k + 1) ≡ deltas_at d k + 2 * get_or d.counts k 0
+  unfolding deltas_at
+  deltas_more = rw (add-one k) (omega (arith, sum_more d.counts k h))
 
   -- the double deltas of the spline k are all there
-  pub deltas-fit : Shaped d → deltasAt d k + 2 * get_or d.counts k 0 ≤ length d.deltas
-  unfolding deltasAt
-  deltas-fit s = omega (arith, sum_more d.counts k h, sum-part d.counts (suc k), s.deltas)
+  pub deltas_fit : Shaped d → deltas_at d k + 2 * get_or d.counts k 0 ≤ length d.deltas
+  unfolding deltas_at
+  deltas_fit s = omega (arith, sum_more d.counts k h, sum_part d.counts (suc k), s.deltas)
 
 -- ---- the run
 
 pub record Under (d : Description) (g : Given) (k at total : ℕ) : Type 0 where
-  pub used : at ≡ deltasAt d k
-  pub left : judgeOf d g ≡ judgeFrom d g (length d.counts - k) k total
+  pub used : at ≡ deltas_at d k
+  pub left : judge_of d g ≡ judge_from d g (length d.counts - k) k total
 
 pub under_none : (d : Description) (g : Given) → Under d g 0 0 0
-unfolding judgeOf deltasAt
+unfolding judge_of deltas_at
 under_none d g = let e : length d.counts - 0 ≡ length d.counts = omega arith in record { used = refl; left = rw e }
 
 module _ (d : Description) (g : Given) (k at total : ℕ) (u : Under d g k at total) where
-  pub under_all : length d.counts ≤ k → Fine total ≡ judgeOf d g
-  unfolding judgeFrom
+  pub under_all : length d.counts ≤ k → Fine total ≡ judge_of d g
+  unfolding judge_from
   under_all h = let e : length d.counts - k ≡ 0 = omega arith in sym (u.left ∙ rw e)
 
   module _ (h : k < length d.counts) {n : ℕ} (w : n ≡ get_or d.counts k 0) where
-    pub under-fits : Shaped d → at + 2 * n ≤ length d.deltas
-    under-fits s = omega (arith, deltas-fit d k h s, u.used)
+    pub under_fits : Shaped d → at + 2 * n ≤ length d.deltas
+    under_fits s = omega (arith, deltas_fit d k h s, u.used)
 
     one_left : length d.counts - k ≡ suc (length d.counts - suc k)
     one_left = omega arith
 
     -- the spline that the code judged
-    module _ {s : Spline} (e : s ≡ dequantizeOf (get_or d.starts (2 * k) nan) (get_or d.starts (2 * k + 1) nan) (take (at + 2 * n - at) (drop at d.deltas)) (take 128 (drop (128 * k) d.coefficients)) g) where
-      spline-is : s ≡ splineOf d g k
-      unfolding splineOf startX startY deltasOf coefficientsOf
-      spline-is = let r : at + 2 * n - at ≡ 2 * n = omega arith in rw (r, w, u.used) at e
+    module _ {s : Spline} (e : s ≡ dequantize_of (get_or d.starts (2 * k) nan) (get_or d.starts (2 * k + 1) nan) (take (at + 2 * n - at) (drop at d.deltas)) (take 128 (drop (128 * k) d.coefficients)) g) where
+      spline_is : s ≡ spline_of d g k
+      unfolding spline_of start_x start_y deltas_of coefficients_of
+      spline_is = let r : at + 2 * n - at ≡ 2 * n = omega arith in rw (r, w, u.used) at e
 
-      module _ {t : Settled} (q : t ≡ settleOf total s g.limit) where
-        pub under-stop : {code : Code} → t ≡ Stop code → Refused code k ≡ judgeOf d g
-        unfolding judgeFrom
-        under-stop z = sym (u.left ∙ rw (one_left, ← spline-is, ← q, z))
+      module _ {t : Settled} (q : t ≡ settle_of total s g.limit) where
+        pub under_stop : {code : Code} → t ≡ Stop code → Refused code k ≡ judge_of d g
+        unfolding judge_from
+        under_stop z = sym (u.left ∙ rw (one_left, ← spline_is, ← q, z))
 
         pub under_more : {more : ℕ} → t ≡ Total more → Under d g (k + 1) (at + 2 * n) more
-        unfolding judgeFrom
+        unfolding judge_from
         under_more z = record {
-          used = rw (w, u.used) (sym (deltas-more d k h));
-          left = u.left ∙ rw (one_left, ← spline-is, ← q, z, add-one k);
+          used = rw (w, u.used) (sym (deltas_more d k h));
+          left = u.left ∙ rw (one_left, ← spline_is, ← q, z, add-one k);
         }
 
 -- Assumes nothing.

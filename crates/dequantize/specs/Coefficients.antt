@@ -31,36 +31,36 @@ table g zero = []
 table g (suc n) = table g n ++ (g n ∷ [])
 
 -- 1.0 / (1.0 + 0.125 * adjustment), or 1.0 - 0.125 * adjustment for one below 0
-unfoldable pub invAdjustedQuant : ℤ → Float
-invAdjustedQuant adjustment =
+unfoldable pub inv_adjusted_quant : ℤ → Float
+inv_adjusted_quant adjustment =
     let a = of_int binary32 adjustment in
     cond (int_le (pos 0) adjustment) (1·0 ⊘ (1·0 ⊕ 0·125 ⊗ a)) (1·0 ⊖ 0·125 ⊗ a)
 
 -- «FRAC_1_SQRT_2» at index 0, else 1.0
-abbrev pub invDctFactor : ℕ → Float
-invDctFactor i = cond (i == 0) FRAC_1_SQRT_2 1·0
+abbrev pub inv_dct_factor : ℕ → Float
+inv_dct_factor i = cond (i == 0) FRAC_1_SQRT_2 1·0
 
 -- the coefficient i of the row that begins at index `from`
-unfoldable pub coefficientAt : List ℤ → ℕ → Float → Float → ℕ → Float
-coefficientAt c from weight quant i = of_int binary32 (slice_index_or c (from + i) (pos 0)) ⊗ invDctFactor i ⊗ weight ⊗ quant
+unfoldable pub coefficient_at : List ℤ → ℕ → Float → Float → ℕ → Float
+coefficient_at c from weight quant i = of_int binary32 (slice_index_or c (from + i) (pos 0)) ⊗ inv_dct_factor i ⊗ weight ⊗ quant
 
-unfoldable pub coefficientRow : List ℤ → ℕ → Float → Float → List Float
-coefficientRow c from weight quant = table (coefficientAt c from weight quant) 32
+unfoldable pub coefficient_row : List ℤ → ℕ → Float → Float → List Float
+coefficient_row c from weight quant = table (coefficient_at c from weight quant) 32
 
 -- x + k * y, cell by cell
-abbrev pub gainedAt : List Float → Float → List Float → ℕ → Float
-gainedAt x k y i = get_or x i nan ⊕ k ⊗ get_or y i nan
+abbrev pub gained_at : List Float → Float → List Float → ℕ → Float
+gained_at x k y i = get_or x i nan ⊕ k ⊗ get_or y i nan
 
-unfoldable pub gainedOf : List Float → Float → List Float → List Float
-gainedOf x k y = table (gainedAt x k y) 32
+unfoldable pub gained_of : List Float → Float → List Float → List Float
+gained_of x k y = table (gained_at x k y) 32
 
 -- X and B gain from Y
-unfoldable pub gainedRows : List ℤ → Float → Float → Float → Rows
-gainedRows c quant ytox ytob =
-    let y = coefficientRow c 32 0·075 quant in
+unfoldable pub gained_rows : List ℤ → Float → Float → Float → Rows
+gained_rows c quant ytox ytob =
+    let y = coefficient_row c 32 0·075 quant in
     record {
-      x = gainedOf (coefficientRow c 0 0·0042 quant) ytox y;
+      x = gained_of (coefficient_row c 0 0·0042 quant) ytox y;
       y = y;
-      b = gainedOf (coefficientRow c 64 0·07 quant) ytob y;
-      sigma = coefficientRow c 96 0·3333 quant;
+      b = gained_of (coefficient_row c 64 0·07 quant) ytob y;
+      sigma = coefficient_row c 96 0·3333 quant;
     }

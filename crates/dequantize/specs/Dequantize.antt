@@ -3,9 +3,9 @@ use Rattle.std.specs.Prelude.{ℕ, Bool, false, List, replicate, ℤ, Float}
 use Rattle.numbers.specs.Arith.{0·0}
 use Rattle.codes.specs.declared.Code.{Code}
 use Rattle.codes.specs.declared.Code.TheVariants.{Done, Position}
-use Rattle.control_points.specs.ControlPoints.{startingPoint, traceOf}
-use Rattle.dequantize.specs.Coefficients.{invAdjustedQuant, gainedRows}
-use Rattle.estimate.specs.Estimate.{estimateOf}
+use Rattle.control_points.specs.ControlPoints.{starting_point, trace_of}
+use Rattle.dequantize.specs.Coefficients.{inv_adjusted_quant, gained_rows}
+use Rattle.estimate.specs.Estimate.{estimate_of}
 use Rattle.control_points.specs.declared.Start.{Start}
 use Rattle.control_points.specs.declared.Start.TheVariants.{At, Out}
 use Rattle.control_points.specs.declared.Traced.{Traced}
@@ -14,35 +14,35 @@ use Rattle.dequantize.specs.declared.Given.{Given}
 use Rattle.dequantize.specs.declared.Spline.{Spline}
 
 -- a row of coefficients that are all 0
-abbrev pub zeroRow : List Float
-zeroRow = replicate 32 0·0
+abbrev pub zero_row : List Float
+zero_row = replicate 32 0·0
 
-unfoldable pub refusedOf : Code → Spline
-refusedOf code = record { code = code; x = zeroRow; y = zeroRow; b = zeroRow; sigma = zeroRow; estimate = 0; coincide = false }
+unfoldable pub refused_of : Code → Spline
+refused_of code = record { code = code; x = zero_row; y = zero_row; b = zero_row; sigma = zero_row; estimate = 0; coincide = false }
 
 -- what follows the control points: c the coefficients, and the Manhattan sum
-unfoldable pub finishedOf : List ℤ → Given → ℕ → Bool → Spline
-finishedOf c g manhattan coincide =
-    let quant = invAdjustedQuant g.adjustment in
-    let rows = gainedRows c quant g.y_to_x g.y_to_b in
+unfoldable pub finished_of : List ℤ → Given → ℕ → Bool → Spline
+finished_of c g manhattan coincide =
+    let quant = inv_adjusted_quant g.adjustment in
+    let rows = gained_rows c quant g.y_to_x g.y_to_b in
     record {
       code = Done;
       x = rows.x;
       y = rows.y;
       b = rows.b;
       sigma = rows.sigma;
-      estimate = estimateOf c quant g.y_to_x g.y_to_b g.limit manhattan;
+      estimate = estimate_of c quant g.y_to_x g.y_to_b g.limit manhattan;
       coincide = coincide;
     }
 
-abbrev pub afterTrace : List ℤ → Given → Traced → Spline
-afterTrace c g (Stop code) = refusedOf code
-afterTrace c g (On run) = finishedOf c g run.manhattan run.coincide
+abbrev pub after_trace : List ℤ → Given → Traced → Spline
+after_trace c g (Stop code) = refused_of code
+after_trace c g (On run) = finished_of c g run.manhattan run.coincide
 
-abbrev pub afterStart : List ℤ → List ℤ → Given → Start → Spline
-afterStart ds c g Out = refusedOf Position
-afterStart ds c g (At start) = afterTrace c g (traceOf g.limit start ds)
+abbrev pub after_start : List ℤ → List ℤ → Given → Start → Spline
+after_start ds c g Out = refused_of Position
+after_start ds c g (At start) = after_trace c g (trace_of g.limit start ds)
 
 -- the start, the double deltas, the coefficients, and what all splines share
-unfoldable pub dequantizeOf : Float → Float → List ℤ → List ℤ → Given → Spline
-dequantizeOf x y ds c g = afterStart ds c g (startingPoint x y)
+unfoldable pub dequantize_of : Float → Float → List ℤ → List ℤ → Given → Spline
+dequantize_of x y ds c g = after_start ds c g (starting_point x y)

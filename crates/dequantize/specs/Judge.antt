@@ -5,9 +5,9 @@ use Rattle.shape.specs.Shape as Shape
 use Rattle.shape.specs.Shape.{points_of}
 use Rattle.codes.specs.Codes.{number_of}
 use Rattle.codes.specs.declared.Code.TheVariants.{Area, Coincide}
-use Rattle.numbers.specs.Saturating.{satAdd}
-use Rattle.estimate.specs.Estimate.{satSum}
-use Rattle.dequantize.specs.Dequantize.{dequantizeOf}
+use Rattle.numbers.specs.Saturating.{sat_add}
+use Rattle.estimate.specs.Estimate.{sat_sum}
+use Rattle.dequantize.specs.Dequantize.{dequantize_of}
 use Rattle.dequantize.specs.declared.Given.{Given}
 use Rattle.dequantize.specs.declared.Spline.{Spline}
 use Rattle.dequantize.specs.declared.judge.Settled.{Settled}
@@ -22,8 +22,8 @@ pub record Description : Type 0 where
   pub deltas : List ℤ
   pub coefficients : List ℤ
 
-abbrev pub descriptionOf : List ℕ → List Float → List ℤ → List ℤ → Description
-descriptionOf counts starts deltas coefficients = record { counts = counts; starts = starts; deltas = deltas; coefficients = coefficients }
+abbrev pub description_of : List ℕ → List Float → List ℤ → List ℤ → Description
+description_of counts starts deltas coefficients = record { counts = counts; starts = starts; deltas = deltas; coefficients = coefficients }
 
 -- what SHAPE asks for
 abbrev pub Shaped : Description → Type 0
@@ -31,35 +31,35 @@ Shaped d = Shape.Shaped d.counts d.starts d.deltas d.coefficients
 
 -- ---- the spline k
 
-unfoldable pub startX : Description → ℕ → Float
-startX d k = slice_index_or d.starts (2 * k) nan
+unfoldable pub start_x : Description → ℕ → Float
+start_x d k = slice_index_or d.starts (2 * k) nan
 
-unfoldable pub startY : Description → ℕ → Float
-startY d k = slice_index_or d.starts (2 * k + 1) nan
+unfoldable pub start_y : Description → ℕ → Float
+start_y d k = slice_index_or d.starts (2 * k + 1) nan
 
 -- where its double deltas begin
-unfoldable pub deltasAt : Description → ℕ → ℕ
-deltasAt d k = 2 * points_of (take k d.counts)
+unfoldable pub deltas_at : Description → ℕ → ℕ
+deltas_at d k = 2 * points_of (take k d.counts)
 
-unfoldable pub deltasOf : Description → ℕ → List ℤ
-deltasOf d k = take (2 * slice_index d.counts k) (drop (deltasAt d k) d.deltas)
+unfoldable pub deltas_of : Description → ℕ → List ℤ
+deltas_of d k = take (2 * slice_index d.counts k) (drop (deltas_at d k) d.deltas)
 
-unfoldable pub coefficientsOf : Description → ℕ → List ℤ
-coefficientsOf d k = take 128 (drop (128 * k) d.coefficients)
+unfoldable pub coefficients_of : Description → ℕ → List ℤ
+coefficients_of d k = take 128 (drop (128 * k) d.coefficients)
 
-unfoldable pub splineOf : Description → Given → ℕ → Spline
-splineOf d g k = dequantizeOf (startX d k) (startY d k) (deltasOf d k) (coefficientsOf d k) g
+unfoldable pub spline_of : Description → Given → ℕ → Spline
+spline_of d g k = dequantize_of (start_x d k) (start_y d k) (deltas_of d k) (coefficients_of d k) g
 
 -- the estimates of the splines before k, summed with saturation
 unfoldable pub total_of : Description → Given → ℕ → ℕ
-total_of d g k = satSum (λ i. (splineOf d g i).estimate) k
+total_of d g k = sat_sum (λ i. (spline_of d g i).estimate) k
 
 -- ---- the checks after a spline
 
 -- its own refusal, AREA, COINCIDE, or the sum with its estimate
-unfoldable pub settleOf : ℕ → Spline → ℕ → Settled
-settleOf total s limit =
-    let more = satAdd total s.estimate in
+unfoldable pub settle_of : ℕ → Spline → ℕ → Settled
+settle_of total s limit =
+    let more = sat_add total s.estimate in
     cond (number_of s.code == 0)
     (cond (nat_le more limit)
     (cond s.coincide (Stop Coincide)
@@ -74,9 +74,9 @@ onward (Stop code) k rest = Refused code k
 onward (Total t) k rest = rest t
 
 -- the n splines from k on, total being the sum before them
-unfoldable pub judgeFrom : Description → Given → ℕ → ℕ → ℕ → Judged
-judgeFrom d g zero k total = Fine total
-judgeFrom d g (suc n) k total = onward (settleOf total (splineOf d g k) g.limit) k (λ t. judgeFrom d g n (suc k) t)
+unfoldable pub judge_from : Description → Given → ℕ → ℕ → ℕ → Judged
+judge_from d g zero k total = Fine total
+judge_from d g (suc n) k total = onward (settle_of total (spline_of d g k) g.limit) k (λ t. judge_from d g n (suc k) t)
 
-unfoldable pub judgeOf : Description → Given → Judged
-judgeOf d g = judgeFrom d g (length d.counts) 0 0
+unfoldable pub judge_of : Description → Given → Judged
+judge_of d g = judge_from d g (length d.counts) 0 0

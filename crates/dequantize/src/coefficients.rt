@@ -1,6 +1,6 @@
 // The coefficients of a spline, dequantized.
 ghost use Rattle.std.specs.Prelude.{◌≡◌, ◌+◌, ◌<◌, ◌≤◌, length};
-ghost use Rattle.dequantize.specs.Coefficients.{invAdjustedQuant, coefficientAt, coefficientRow, gainedOf, gainedRows};
+ghost use Rattle.dequantize.specs.Coefficients.{inv_adjusted_quant, coefficient_at, coefficient_row, gained_of, gained_rows};
 
 #[derive(Clone, Copy)]
 pub struct Rows {
@@ -11,7 +11,7 @@ pub struct Rows {
 }
 
 pub fn inv_adjusted_quant(adjustment: i32) -> f32
-    ensures { result ≡ invAdjustedQuant adjustment }
+    ensures { result ≡ inv_adjusted_quant adjustment }
 {
     let a = std::num::nearest_i32_to_f32(adjustment);
     if adjustment >= 0 {
@@ -24,7 +24,7 @@ pub fn inv_adjusted_quant(adjustment: i32) -> f32
 // The coefficient i of the row that begins at c[from].
 fn coefficient(c: &[i32], from: usize, i: usize, weight: f32, quant: f32) -> f32
     requires { from + i < length c.now }
-    ensures { result ≡ coefficientAt c.now from weight quant i }
+    ensures { result ≡ coefficient_at c.now from weight quant i }
 {
     let v = std::num::nearest_i32_to_f32(c[from + i]);
     if i == 0 {
@@ -36,7 +36,7 @@ fn coefficient(c: &[i32], from: usize, i: usize, weight: f32, quant: f32) -> f32
 
 fn row(c: &[i32], from: usize, weight: f32, quant: f32) -> [f32; 32]
     requires { from + 32 ≤ length c.now }
-    ensures { result ≡ coefficientRow c.now from weight quant }
+    ensures { result ≡ coefficient_row c.now from weight quant }
 {
     let mut out = [0.0; 32];
     let mut i = 0;
@@ -49,7 +49,7 @@ fn row(c: &[i32], from: usize, weight: f32, quant: f32) -> [f32; 32]
 
 // A row that gains k times another.
 fn gained(x: [f32; 32], k: f32, y: [f32; 32]) -> [f32; 32]
-    ensures { result ≡ gainedOf x k y }
+    ensures { result ≡ gained_of x k y }
 {
     let mut out = [0.0; 32];
     let mut i = 0;
@@ -62,7 +62,7 @@ fn gained(x: [f32; 32], k: f32, y: [f32; 32]) -> [f32; 32]
 
 pub fn gained_rows(c: &[i32], quant: f32, y_to_x: f32, y_to_b: f32) -> Rows
     requires { 128 ≤ length c.now }
-    ensures { result ≡ gainedRows c.now quant y_to_x y_to_b }
+    ensures { result ≡ gained_rows c.now quant y_to_x y_to_b }
 {
     let y = row(c, 32, 0.075, quant);
     let x = gained(row(c, 0, 0.0042, quant), y_to_x, y);

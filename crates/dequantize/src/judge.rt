@@ -1,8 +1,8 @@
 // All splines, each dequantized and judged in turn.
 ghost use Rattle.std.specs.Prelude.{◌≡◌, ◌+◌, ◌*◌, ◌≤◌, length, take, drop, slice_index_or};
 ghost use Rattle.std.specs.Float.{nan};
-ghost use Rattle.dequantize.specs.Dequantize.{dequantizeOf};
-ghost use Rattle.dequantize.specs.Judge.{descriptionOf, Shaped, settleOf, judgeOf};
+ghost use Rattle.dequantize.specs.Dequantize.{dequantize_of};
+ghost use Rattle.dequantize.specs.Judge.{description_of, Shaped, settle_of, judge_of};
 
 use crate::{Given, Spline};
 use codes::Code;
@@ -23,7 +23,7 @@ pub enum Judged {
 
 // AREA, then COINCIDE.
 fn settle(total: u64, s: Spline, limit: u64) -> Settled
-    ensures { result ≡ settleOf total s limit }
+    ensures { result ≡ settle_of total s limit }
 {
     let code = s.code;
     if codes::number_of(code) != 0 {
@@ -48,7 +48,7 @@ pub fn spline_at(
     given: Given,
 ) -> Spline
     requires { (2 * k + 2 ≤ length starts.now) × (128 * k + 128 ≤ length coefficients.now) }
-    ensures { result ≡ dequantizeOf (slice_index_or starts.now (2 * k) nan) (slice_index_or starts.now (2 * k + 1) nan) deltas.now (take 128 (drop (128 * k) coefficients.now)) given }
+    ensures { result ≡ dequantize_of (slice_index_or starts.now (2 * k) nan) (slice_index_or starts.now (2 * k + 1) nan) deltas.now (take 128 (drop (128 * k) coefficients.now)) given }
 {
     let x = starts[2 * k];
     let y = starts[2 * k + 1];
@@ -70,8 +70,8 @@ pub fn judge(
     coefficients: &[i32],
     given: Given,
 ) -> Judged
-    requires { Shaped (descriptionOf counts.now starts.now deltas.now coefficients.now) }
-    ensures { result ≡ judgeOf (descriptionOf counts.now starts.now deltas.now coefficients.now) given }
+    requires { Shaped (description_of counts.now starts.now deltas.now coefficients.now) }
+    ensures { result ≡ judge_of (description_of counts.now starts.now deltas.now coefficients.now) given }
 {
     let mut k = 0;
     let mut at = 0;

@@ -2,7 +2,7 @@
 #![tactic(auto)]
 
 ghost use Rattle.std.specs.Prelude.{◌≡◌, ◌≤◌, length};
-ghost use Rattle.dequantize.specs.Dequantize.{refusedOf, finishedOf, dequantizeOf};
+ghost use Rattle.dequantize.specs.Dequantize.{refused_of, finished_of, dequantize_of};
 
 use codes::Code;
 use control_points::{Start, Traced};
@@ -33,7 +33,7 @@ pub struct Spline {
 }
 
 fn refused(code: Code) -> Spline
-    ensures { result ≡ refusedOf code }
+    ensures { result ≡ refused_of code }
 {
     Spline {
         code,
@@ -49,7 +49,7 @@ fn refused(code: Code) -> Spline
 // The rows come last: while the estimate is made, none of them takes stack.
 fn finished(c: &[i32], given: Given, manhattan: u64, coincide: bool) -> Spline
     requires { 128 ≤ length c.now }
-    ensures { result ≡ finishedOf c.now given manhattan coincide }
+    ensures { result ≡ finished_of c.now given manhattan coincide }
 {
     let quant = coefficients::inv_adjusted_quant(given.adjustment);
     let estimate = estimate::estimated_area(
@@ -78,7 +78,7 @@ fn finished(c: &[i32], given: Given, manhattan: u64, coincide: bool) -> Spline
 
 pub fn dequantize(start_x: f32, start_y: f32, deltas: &[i32], c: &[i32], given: Given) -> Spline
     requires { 128 ≤ length c.now }
-    ensures { result ≡ dequantizeOf start_x start_y deltas.now c.now given }
+    ensures { result ≡ dequantize_of start_x start_y deltas.now c.now given }
 {
     match control_points::starting_point(start_x, start_y) {
         Start::Out => refused(Code::Position),

@@ -1,6 +1,6 @@
 // The limit on the area that all splines of an image may reach.
 ghost use Rattle.std.specs.Prelude.{◌≡◌};
-ghost use Rattle.dequantize.specs.Limits.{lesser, splineAreaLimit};
+ghost use Rattle.dequantize.specs.Limits.{lesser, spline_area_limit};
 
 fn lesser(a: u64, b: u64) -> u64
     ensures { result ≡ lesser a b }
@@ -10,7 +10,7 @@ fn lesser(a: u64, b: u64) -> u64
 
 // Level10 where level10 is true, else Level5.
 pub fn spline_area_limit(level10: bool, image_area: u64) -> u64
-    ensures { result ≡ splineAreaLimit level10 image_area }
+    ensures { result ≡ spline_area_limit level10 image_area }
 {
     if level10 {
         lesser(

@@ -16,28 +16,28 @@ abbrev pub sight_of : List ℕ → ℕ → List ℕ → ℕ → Sight
 sight_of owners splines bits desk = record { owners = owners; splines = splines; bits = bits; desk = desk }
 
 -- the owner of segment i, and whether the segment is hidden for the desk, told by its owner
-abbrev pub ownerIn : Sight → ℕ → ℕ
-ownerIn s i = get_or s.owners i 0
+abbrev pub owner_in : Sight → ℕ → ℕ
+owner_in s i = get_or s.owners i 0
 
-abbrev pub hiddenIn : Sight → ℕ → Bool
-hiddenIn s i = bit_of s.desk (get_or s.bits (ownerIn s i) 0)
+abbrev pub hidden_in : Sight → ℕ → Bool
+hidden_in s i = bit_of s.desk (get_or s.bits (owner_in s i) 0)
 
 -- what is shown of a list of segments, in its order
 abbrev pub shown : Sight → List ℕ → List ℕ
 shown s [] = []
-shown s (i ∷ listed) = cond (hiddenIn s i) (shown s listed) (i ∷ shown s listed)
+shown s (i ∷ listed) = cond (hidden_in s i) (shown s listed) (i ∷ shown s listed)
 
 -- ---- the checks
 
 -- there are two desks
-abbrev pub deskGood : Sight → Bool
-deskGood s = ltb s.desk 2
+abbrev pub desk_good : Sight → Bool
+desk_good s = ltb s.desk 2
 
 -- a byte is lent for each spline
-abbrev pub bytesGood : Sight → Bool
-bytesGood s = leb s.splines (length s.bits)
+abbrev pub bytes_good : Sight → Bool
+bytes_good s = leb s.splines (length s.bits)
 
 -- the owner of each listed segment is a spline
-abbrev pub allOwned : List ℕ → ℕ → List ℕ → Bool
-allOwned owners splines [] = true
-allOwned owners splines (i ∷ listed) = ltb (get_or owners i 0) splines && allOwned owners splines listed
+abbrev pub all_owned : List ℕ → ℕ → List ℕ → Bool
+all_owned owners splines [] = true
+all_owned owners splines (i ∷ listed) = ltb (get_or owners i 0) splines && all_owned owners splines listed

@@ -2,8 +2,8 @@
 #![tactic(auto)]
 
 ghost use Rattle.std.specs.Prelude.{◌≡◌, ◌<◌, length, get_or};
-ghost use Rattle.desks.specs.Desks.{bit_of, sight_of, hiddenIn};
-ghost use Rattle.desks.specs.Hide.{withBit, leaves, hideOf};
+ghost use Rattle.desks.specs.Desks.{bit_of, sight_of, hidden_in};
+ghost use Rattle.desks.specs.Hide.{with_bit, leaves, hide_of};
 
 use codes::Code;
 
@@ -27,7 +27,7 @@ fn bit_of(byte: u8, desk: u32) -> bool
 // Whether segment i is hidden for the desk, told by its owner.
 pub fn hidden(owners: &[u64], splines: u64, bits: &[u8], desk: u32, i: usize) -> bool
     requires { (i < length owners.now) × (get_or owners.now i 0 < length bits.now) × (desk < 2) }
-    ensures { result ≡ hiddenIn (sight_of owners.now splines bits.now desk) i }
+    ensures { result ≡ hidden_in (sight_of owners.now splines bits.now desk) i }
 {
     let owner = owners[i] as usize;
     bit_of(bits[owner], desk)
@@ -36,7 +36,7 @@ pub fn hidden(owners: &[u64], splines: u64, bits: &[u8], desk: u32, i: usize) ->
 // The byte with the desk's bit as asked, and every other bit as it was.
 fn with_bit(byte: u8, desk: u32, hidden: bool) -> u8
     requires { desk < 2 }
-    ensures { result ≡ withBit desk hidden byte }
+    ensures { result ≡ with_bit desk hidden byte }
 {
     if desk == 0 {
         let rest = byte - byte % 2;
@@ -49,7 +49,7 @@ fn with_bit(byte: u8, desk: u32, hidden: bool) -> u8
 
 // Hides a spline for a desk, or shows it again: changes one bit, and nothing where it is refused.
 pub fn hide(bits: &mut [u8], desk: u32, spline: u64, hidden: bool) -> HideAnswer
-    ensures { leaves result bits.new ≡ hideOf bits.old desk spline hidden }
+    ensures { leaves result bits.new ≡ hide_of bits.old desk spline hidden }
 {
     if 2 <= desk {
         return HideAnswer::Refused(Code::Desk, 0);

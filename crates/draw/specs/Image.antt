@@ -1,6 +1,6 @@
 -- A whole image drawn in parts: the rows and their parts in any order, each by an outcome that the contract of `draw` allows.
 use Rattle.std.specs.Prelude.{◌≡◌, cond, List, [], ◌∷◌, ◌++◌, map, ℕ, zero, suc, ◌+◌, ◌*◌, ◌<◌, eqb, length}
-use Rattle.draw.specs.Draw.{Table, Sight, Channels, shownOf, updates}
+use Rattle.draw.specs.Draw.{Table, Sight, Channels, shown_of, updates}
 use Rattle.draw.specs.Parts.{Part, cuts, total, Draws, Whole}
 
 -- a part of a row of an image
@@ -36,14 +36,14 @@ pub data DrawnAll (t : Table) (s : Sight) : List Job → Image → ℕ → Image
 -- the pairs of a row's shown entry and a column that its segment has, over n rows from y on
 abbrev pub pairs : Table → Sight → ℕ → ℕ → ℕ → ℕ
 pairs t s W y zero = 0
-pairs t s W y (suc n) = updates t.segments 0 W (shownOf t s y) + pairs t s W (suc y) n
+pairs t s W y (suc n) = updates t.segments 0 W (shown_of t s y) + pairs t s W (suc y) n
 
 -- W columns of each shown entry, over n rows from y on
-abbrev pub mostPairs : Table → Sight → ℕ → ℕ → ℕ → ℕ
-mostPairs t s W y zero = 0
-mostPairs t s W y (suc n) = W * length (shownOf t s y) + mostPairs t s W (suc y) n
+abbrev pub most_pairs : Table → Sight → ℕ → ℕ → ℕ → ℕ
+most_pairs t s W y zero = 0
+most_pairs t s W y (suc n) = W * length (shown_of t s y) + most_pairs t s W (suc y) n
 
 -- the image drawn whole
 pub record WholeImage (t : Table) (s : Sight) (W H : ℕ) (a : Image) (sum : ℕ) (w : Image) : Type 0 where
-  pub each_row : (y : ℕ) → y < H → Whole t s y W (a y) (updates t.segments 0 W (shownOf t s y)) (w y)
-  pub all-pairs : sum ≡ pairs t s W 0 H
+  pub each_row : (y : ℕ) → y < H → Whole t s y W (a y) (updates t.segments 0 W (shown_of t s y)) (w y)
+  pub all_pairs : sum ≡ pairs t s W 0 H

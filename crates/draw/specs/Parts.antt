@@ -1,7 +1,7 @@
 -- A row drawn in parts: adjacent parts that hold the row, drawn one after another in any order, each by an outcome that the contract of `draw` allows.
 use Rattle.std.specs.Prelude.{◌≡◌, List, [], ◌∷◌, ◌++◌, ℕ, ◌+◌, ◌≤◌, length, take, drop, Float}
 use Rattle.shade.specs.Edit.{edit}
-use Rattle.draw.specs.Draw.{pixel, updates, Table, Sight, shownOf, toldOf, Channels, three, leaves, drawOf}
+use Rattle.draw.specs.Draw.{pixel, updates, Table, Sight, shown_of, told_of, Channels, three, leaves, draw_of}
 use Rattle.draw.specs.declared.DrawAnswer.{DrawAnswer}
 
 -- a part of a row: its first column and how many columns it has
@@ -30,8 +30,8 @@ placed x n xs zs = take x xs ++ (zs ++ drop n (drop x xs))
 abbrev pub cells_of : ℕ → ℕ → Channels → Channels
 cells_of x n a = three (cells x n a.r0) (cells x n a.r1) (cells x n a.r2)
 
-abbrev pub placedIn : ℕ → ℕ → Channels → Channels → Channels
-placedIn x n a z = three (placed x n a.r0 z.r0) (placed x n a.r1 z.r1) (placed x n a.r2 z.r2)
+abbrev pub placed_in : ℕ → ℕ → Channels → Channels → Channels
+placed_in x n a z = three (placed x n a.r0 z.r0) (placed x n a.r1 z.r1) (placed x n a.r2 z.r2)
 
 -- every channel has so many cells
 pub record Wide (W : ℕ) (a : Channels) : Type 0 where
@@ -45,11 +45,11 @@ pub record Draws (t : Table) (s : Sight) (y : ℕ) (p : Part) (a : Channels) (co
   pub lent : Channels
   pub answer : DrawAnswer
   pub left : Channels
-  pub in-row : p.at + p.wide ≤ length a.r0
+  pub in_row_lem : p.at + p.wide ≤ length a.r0
   pub begins : cells_of 0 p.wide lent ≡ cells_of p.at p.wide a
-  pub outcome : leaves answer left ≡ drawOf t s y p.at p.wide lent
-  pub counted : count ≡ (toldOf answer).updates
-  pub comes_back : b ≡ placedIn p.at p.wide a (cells_of 0 p.wide left)
+  pub outcome : leaves answer left ≡ draw_of t s y p.at p.wide lent
+  pub counted : count ≡ (told_of answer).updates
+  pub comes_back : b ≡ placed_in p.at p.wide a (cells_of 0 p.wide left)
 
 -- parts of row y drawn one after another for a desk, whose bits stay meanwhile: from the channels a to w, with the updates summed
 pub data Drawn (t : Table) (s : Sight) (y : ℕ) : List Part → Channels → ℕ → Channels → Type 0 where
@@ -58,7 +58,7 @@ pub data Drawn (t : Table) (s : Sight) (y : ℕ) : List Part → Channels → �
 
 -- the row drawn whole: each pixel has exactly the listed segments added that are not hidden for the desk and have its column, and the updates are the pairs of such a segment and a column that it has
 pub record Whole (t : Table) (s : Sight) (y W : ℕ) (a : Channels) (sum : ℕ) (w : Channels) : Type 0 where
-  pub channel0 : w.r0 ≡ edit (λ x v. pixel 0 t.segments y x (shownOf t s y) v) a.r0
-  pub channel1 : w.r1 ≡ edit (λ x v. pixel 1 t.segments y x (shownOf t s y) v) a.r1
-  pub channel2 : w.r2 ≡ edit (λ x v. pixel 2 t.segments y x (shownOf t s y) v) a.r2
-  pub pairs : sum ≡ updates t.segments 0 W (shownOf t s y)
+  pub channel0 : w.r0 ≡ edit (λ x v. pixel 0 t.segments y x (shown_of t s y) v) a.r0
+  pub channel1 : w.r1 ≡ edit (λ x v. pixel 1 t.segments y x (shown_of t s y) v) a.r1
+  pub channel2 : w.r2 ≡ edit (λ x v. pixel 2 t.segments y x (shown_of t s y) v) a.r2
+  pub pairs : sum ≡ updates t.segments 0 W (shown_of t s y)

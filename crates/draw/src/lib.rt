@@ -5,7 +5,7 @@
 ghost use Rattle.std.specs.Prelude.{◌≡◌};
 ghost use Rattle.desks.specs.Desks.{sight_of};
 ghost use Rattle.checks.specs.Tables.{table_of};
-ghost use Rattle.draw.specs.Draw.{three, leaves, drawOf};
+ghost use Rattle.draw.specs.Draw.{three, leaves, draw_of};
 
 use checks::Verdict;
 use codes::Code;
@@ -37,7 +37,7 @@ pub fn draw(
     r2: &mut [f32],
 ) -> DrawAnswer
     ensures { leaves result (three r0.new r1.new r2.new)
-        ≡ drawOf (table_of segments.now segment_count entries.now entry_count row_starts.now height) (sight_of owners.now splines bits.now desk) y x0 n (three r0.old r1.old r2.old) }
+        ≡ draw_of (table_of segments.now segment_count entries.now entry_count row_starts.now height) (sight_of owners.now splines bits.now desk) y x0 n (three r0.old r1.old r2.old) }
 {
     match checks::judge(
         segments,

@@ -2,7 +2,7 @@
 #![tactic(auto)]
 
 ghost use Rattle.std.specs.Prelude.{◌≡◌, ◌≤◌};
-ghost use Rattle.drawing.specs.Thickness.{meanSigma, hundredthsOf};
+ghost use Rattle.drawing.specs.Thickness.{mean_sigma, hundredths_of};
 
 use dequantize::coefficients::inv_adjusted_quant;
 use writer::WriteAnswer;
@@ -27,7 +27,7 @@ fn room_of(points: u32) -> usize
 
 // The mean of sigma along a trace, by its first sigma coefficient.
 fn mean_sigma(sigma: i32, adjustment: i32) -> f32
-    ensures { result ≡ meanSigma sigma adjustment }
+    ensures { result ≡ mean_sigma sigma adjustment }
 {
     let quant = inv_adjusted_quant(adjustment);
     std::num::nearest_i32_to_f32(sigma) * 0.3333 * quant
@@ -35,7 +35,7 @@ fn mean_sigma(sigma: i32, adjustment: i32) -> f32
 
 // How thick a line is, in hundredths of a pixel: twice the mean of sigma along its trace.
 fn thickness(mean: f32) -> u64
-    ensures { result ≡ hundredthsOf mean }
+    ensures { result ≡ hundredths_of mean }
 {
     let width = numbers::abs(mean);
     kinds::saturating_f32_to_u64(wholes::round(200.0 * width))

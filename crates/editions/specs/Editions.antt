@@ -12,5 +12,5 @@ edition1 = record { deltas = 64; least = pos 0; greatest = pos 0; sigma = pos 40
 abbrev pub edition2 : Limits
 edition2 = record { deltas = 256; least = negsuc 7; greatest = pos 8; sigma = pos 1600 }
 
-unfoldable pub limitsOf : ℕ → Edition
-limitsOf e = cond (eqb e 1) (Known edition1) (cond (eqb e 2) (Known edition2) Unknown)
+unfoldable pub limits_of : ℕ → Edition
+limits_of e = cond (eqb e 1) (Known edition1) (cond (eqb e 2) (Known edition2) Unknown)

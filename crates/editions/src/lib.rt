@@ -2,7 +2,7 @@
 #![tactic(auto)]
 
 ghost use Rattle.std.specs.Prelude.{◌≡◌};
-ghost use Rattle.editions.specs.Editions.{limitsOf};
+ghost use Rattle.editions.specs.Editions.{limits_of};
 
 // What an edition allows: the most double deltas, the least and the greatest adjustment, the most of the first sigma coefficient.
 #[derive(Clone, Copy)]
@@ -20,7 +20,7 @@ pub enum Edition {
 }
 
 pub fn limits_of(edition: u32) -> Edition
-    ensures { result ≡ limitsOf edition }
+    ensures { result ≡ limits_of edition }
 {
     if edition == 1 {
         return Edition::Known(Limits {

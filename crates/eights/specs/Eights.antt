@@ -3,7 +3,7 @@ use Rattle.std.specs.Prelude.{ℕ, zero, suc, pos, Float}
 use Rattle.std.specs.Float.{binary32}
 use Rattle.std.specs.Float.Ieee.{of_int}
 use Rattle.numbers.specs.Arith.{f, 0·5, ◌⊕◌, ◌⊗◌, ◌⊘◌}
-use Rattle.approximations.specs.Cos.{fastCos}
+use Rattle.approximations.specs.Cos.{fast_cos}
 
 abbrev PI : Float
 PI = f 0x40490fdb
@@ -12,12 +12,12 @@ abbrev 32·0 : Float
 32·0 = f 0x42000000
 
 -- PI / 32.0 * k
-unfoldable pub dctMultiplier : ℕ → Float
-dctMultiplier k = PI ⊘ 32·0 ⊗ of_int binary32 (pos k)
+unfoldable pub dct_multiplier : ℕ → Float
+dct_multiplier k = PI ⊘ 32·0 ⊗ of_int binary32 (pos k)
 
 -- fast_cos(DCT_MULTIPLIERS[k] * (t + 0.5))
-unfoldable pub cosineAt : Float → ℕ → Float
-cosineAt t k = fastCos (dctMultiplier k ⊗ (t ⊕ 0·5))
+unfoldable pub cosine_at : Float → ℕ → Float
+cosine_at t k = fast_cos (dct_multiplier k ⊗ (t ⊕ 0·5))
 
 -- p 0, and the n products after it added one after another
 unfoldable pub sum_of : (ℕ → Float) → ℕ → Float

@@ -5,7 +5,7 @@ ghost use Rattle.std.specs.Prelude.{◌≡◌, ◌⊎◌, ◌+◌, ◌-◌, ◌%
 ghost use Rattle.std.specs.Float.{nan};
 ghost use Rattle.numbers.specs.Arith.{◌⊗◌};
 ghost use Rattle.dequantize.specs.Coefficients.{table};
-ghost use Rattle.eights.specs.Eights.{dctMultiplier, cosineAt, sum_of};
+ghost use Rattle.eights.specs.Eights.{dct_multiplier, cosine_at, sum_of};
 
 // k times the f32 number π/32.
 const DCT_MULTIPLIERS: [f32; 32] = [
@@ -18,7 +18,7 @@ const DCT_MULTIPLIERS: [f32; 32] = [
 // Eight entries of the table, those from 0, 8, 16 or 24 on, at literal indices: so no copy of the table is made.
 fn dct_multipliers(from: usize) -> [f32; 8]
     requires { (from % 8 ≡ 0) × (from < 32) }
-    ensures { result ≡ table (λ j. dctMultiplier (from + j)) 8 }
+    ensures { result ≡ table (λ j. dct_multiplier (from + j)) 8 }
 {
     let m = DCT_MULTIPLIERS;
     match from {
@@ -32,7 +32,7 @@ fn dct_multipliers(from: usize) -> [f32; 8]
 // Eight cosines.
 pub fn cosines(from: usize, t: f32) -> [f32; 8]
     requires { (from % 8 ≡ 0) × (from < 32) }
-    ensures { result ≡ table (λ j. cosineAt t (from + j)) 8 }
+    ensures { result ≡ table (λ j. cosine_at t (from + j)) 8 }
 {
     let multipliers = dct_multipliers(from);
     let tandhalf = t + 0.5;
@@ -47,8 +47,8 @@ pub fn cosines(from: usize, t: f32) -> [f32; 8]
 
 // A running sum of a row gets eight products more, one after another. The first product of all begins it.
 pub fn fed(sum: f32, row: &[f32; 32], eight: [f32; 8], from: usize, t: f32) -> f32
-    requires { (from + 8 ≤ 32) × (eight ≡ table (λ j. cosineAt t (from + j)) 8) × ((from ≡ 0) ⊎ (sum ≡ sum_of (λ i. get_or row.now i nan ⊗ get_or (table (cosineAt t) 32) i nan) (from - 1))) }
-    ensures { result ≡ sum_of (λ i. get_or row.now i nan ⊗ get_or (table (cosineAt t) 32) i nan) (from + 7) }
+    requires { (from + 8 ≤ 32) × (eight ≡ table (λ j. cosine_at t (from + j)) 8) × ((from ≡ 0) ⊎ (sum ≡ sum_of (λ i. get_or row.now i nan ⊗ get_or (table (cosine_at t) 32) i nan) (from - 1))) }
+    ensures { result ≡ sum_of (λ i. get_or row.now i nan ⊗ get_or (table (cosine_at t) 32) i nan) (from + 7) }
 {
     let first = row[from] * eight[0];
     let mut s = if from == 0 { first } else { sum + first };

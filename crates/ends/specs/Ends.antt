@@ -2,8 +2,8 @@
 -- The float is rounded half away from zero and told by its kind: an exact number, no number, or below or above the range of the conversion, which is an i64's for rows and a u64's for columns.
 use Rattle.std.specs.Prelude.{ℕ, suc, ◌^◌, min, ℤ, pos, negsuc, Float}
 use Rattle.std.specs.Float.{binary32}
-use Rattle.wholes.specs.Whole.{roundOf}
-use Rattle.kinds.specs.Kind.{cutI64, cutU64}
+use Rattle.wholes.specs.Whole.{round_of}
+use Rattle.kinds.specs.Kind.{cut_i64, cut_u64}
 use Rattle.kinds.specs.declared.KindI64.{KindI64}
 use Rattle.kinds.specs.declared.KindI64.TheVariants as I64
 use Rattle.kinds.specs.declared.KindU64.{KindU64}
@@ -13,42 +13,42 @@ abbrev pub clip : ℤ → ℕ
 clip (pos n) = min n (2 ^ 24)
 clip (negsuc n) = 0
 
-abbrev pub clipPast : ℤ → ℕ
-clipPast (pos n) = suc (min n (2 ^ 24))
-clipPast (negsuc n) = 0
+abbrev pub clip_past : ℤ → ℕ
+clip_past (pos n) = suc (min n (2 ^ 24))
+clip_past (negsuc n) = 0
 
-abbrev pub rowFirstBy : KindI64 → ℕ
-rowFirstBy (I64.Exact z) = clip z
-rowFirstBy I64.NotNumber = 0
-rowFirstBy I64.Below = 0
-rowFirstBy I64.Above = 2 ^ 24
+abbrev pub row_first_by : KindI64 → ℕ
+row_first_by (I64.Exact z) = clip z
+row_first_by I64.NotNumber = 0
+row_first_by I64.Below = 0
+row_first_by I64.Above = 2 ^ 24
 
-abbrev pub rowPastBy : KindI64 → ℕ
-rowPastBy (I64.Exact z) = clipPast z
-rowPastBy I64.NotNumber = 1
-rowPastBy I64.Below = 0
-rowPastBy I64.Above = 0
+abbrev pub row_past_by : KindI64 → ℕ
+row_past_by (I64.Exact z) = clip_past z
+row_past_by I64.NotNumber = 1
+row_past_by I64.Below = 0
+row_past_by I64.Above = 0
 
-abbrev pub columnFirstBy : KindU64 → ℕ
-columnFirstBy (U64.Exact n) = min n (2 ^ 24)
-columnFirstBy U64.NotNumber = 0
-columnFirstBy U64.Below = 0
-columnFirstBy U64.Above = 2 ^ 24
+abbrev pub column_first_by : KindU64 → ℕ
+column_first_by (U64.Exact n) = min n (2 ^ 24)
+column_first_by U64.NotNumber = 0
+column_first_by U64.Below = 0
+column_first_by U64.Above = 2 ^ 24
 
-abbrev pub columnPastBy : KindU64 → ℕ
-columnPastBy (U64.Exact n) = suc (min n (2 ^ 24))
-columnPastBy U64.NotNumber = 1
-columnPastBy U64.Below = 1
-columnPastBy U64.Above = 0
+abbrev pub column_past_by : KindU64 → ℕ
+column_past_by (U64.Exact n) = suc (min n (2 ^ 24))
+column_past_by U64.NotNumber = 1
+column_past_by U64.Below = 1
+column_past_by U64.Above = 0
 
-unfoldable pub rowFirstOf : Float → ℕ
-rowFirstOf x = rowFirstBy (cutI64 (roundOf binary32 x))
+unfoldable pub row_first_of : Float → ℕ
+row_first_of x = row_first_by (cut_i64 (round_of binary32 x))
 
-unfoldable pub rowPastOf : Float → ℕ
-rowPastOf x = rowPastBy (cutI64 (roundOf binary32 x))
+unfoldable pub row_past_of : Float → ℕ
+row_past_of x = row_past_by (cut_i64 (round_of binary32 x))
 
-unfoldable pub columnFirstOf : Float → ℕ
-columnFirstOf x = columnFirstBy (cutU64 (roundOf binary32 x))
+unfoldable pub column_first_of : Float → ℕ
+column_first_of x = column_first_by (cut_u64 (round_of binary32 x))
 
-unfoldable pub columnPastOf : Float → ℕ
-columnPastOf x = columnPastBy (cutU64 (roundOf binary32 x))
+unfoldable pub column_past_of : Float → ℕ
+column_past_of x = column_past_by (cut_u64 (round_of binary32 x))

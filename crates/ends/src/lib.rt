@@ -2,7 +2,7 @@
 #![tactic(auto)]
 
 ghost use Rattle.std.specs.Prelude.{◌≡◌, ◌^◌, min};
-ghost use Rattle.ends.specs.Ends.{clip, clipPast, rowFirstOf, rowPastOf, columnFirstOf, columnPastOf};
+ghost use Rattle.ends.specs.Ends.{clip, clip_past, row_first_of, row_past_of, column_first_of, column_past_of};
 
 use kinds::{KindI64, KindU64};
 
@@ -22,14 +22,14 @@ fn clip(z: i64) -> u32
 
 // One past z, brought so; none where z is negative.
 fn clip_past(z: i64) -> u32
-    ensures { result ≡ clipPast z }
+    ensures { result ≡ clip_past z }
 {
     if z < 0 { 0 } else { cut(z as u64) + 1 }
 }
 
 // The first row, by the float that it is.
 pub fn row_first(x: f32) -> u32
-    ensures { result ≡ rowFirstOf x }
+    ensures { result ≡ row_first_of x }
 {
     match kinds::rounded_to_i64(x) {
         KindI64::Exact(z) => clip(z),
@@ -41,7 +41,7 @@ pub fn row_first(x: f32) -> u32
 
 // One past the last row, by the float that is the last: none where it lies above the image, and none from 2^63 on.
 pub fn row_past(x: f32) -> u32
-    ensures { result ≡ rowPastOf x }
+    ensures { result ≡ row_past_of x }
 {
     match kinds::rounded_to_i64(x) {
         KindI64::Exact(z) => clip_past(z),
@@ -53,7 +53,7 @@ pub fn row_past(x: f32) -> u32
 
 // The first column, by the float that it is.
 pub fn column_first(x: f32) -> u32
-    ensures { result ≡ columnFirstOf x }
+    ensures { result ≡ column_first_of x }
 {
     match kinds::rounded_to_u64(x) {
         KindU64::Exact(n) => cut(n),
@@ -65,7 +65,7 @@ pub fn column_first(x: f32) -> u32
 
 // One past the last column, by the float that is the last: column 0 where it lies left of the image, and none from 2^64 on.
 pub fn column_past(x: f32) -> u32
-    ensures { result ≡ columnPastOf x }
+    ensures { result ≡ column_past_of x }
 {
     match kinds::rounded_to_u64(x) {
         KindU64::Exact(n) => cut(n) + 1,

@@ -3,8 +3,8 @@
 
 ghost use Rattle.std.specs.Prelude.{◌≡◌, true, ◌+◌, ◌*◌, ◌^◌, ◌<◌, ◌≤◌, length};
 ghost use Rattle.std.proofs.Math.Seq.{slice};
-ghost use Rattle.shade.specs.Edit.{edit, firstCells};
-ghost use Rattle.desks.specs.Desks.{sight_of, shown, allOwned};
+ghost use Rattle.shade.specs.Edit.{edit, first_cells};
+ghost use Rattle.desks.specs.Desks.{sight_of, shown, all_owned};
 ghost use Rattle.checks.specs.Checks.{all_below};
 ghost use Rattle.columns.specs.Columns.{pixel, updates};
 
@@ -31,13 +31,13 @@ fn draw_each(
     table: &[u64; 128],
 ) -> u64
     requires b_le_e { (b ≤ e) × (e ≤ length entries.now) × (e ≤ 2 ^ 30) × (8 * segment_count ≤ length segments.now) × (segment_count ≤ length owners.now) × (splines ≤ length bits.now) × (desk < 2) }
-    requires entries_value { (all_below segment_count (slice b e entries.now) ≡ true) × (allOwned owners.now splines (slice b e entries.now) ≡ true) }
+    requires entries_value { (all_below segment_count (slice b e entries.now) ≡ true) × (all_owned owners.now splines (slice b e entries.now) ≡ true) }
     requires n_bound { (x0 + n ≤ 2 ^ 23) × (y ≤ 2 ^ 23) }
     requires n_in_bounds { (n ≤ length r0.old) × (n ≤ length r1.old) × (n ≤ length r2.old) }
     ensures value { result ≡ updates segments.now x0 n (shown (sight_of owners.now splines bits.now desk) (slice b e entries.now)) }
-    ensures r0_after { r0.new ≡ edit (firstCells n (λ k v. pixel 0 segments.now y (x0 + k) (shown (sight_of owners.now splines bits.now desk) (slice b e entries.now)) v)) r0.old }
-    ensures r1_after { r1.new ≡ edit (firstCells n (λ k v. pixel 1 segments.now y (x0 + k) (shown (sight_of owners.now splines bits.now desk) (slice b e entries.now)) v)) r1.old }
-    ensures r2_after { r2.new ≡ edit (firstCells n (λ k v. pixel 2 segments.now y (x0 + k) (shown (sight_of owners.now splines bits.now desk) (slice b e entries.now)) v)) r2.old }
+    ensures r0_after { r0.new ≡ edit (first_cells n (λ k v. pixel 0 segments.now y (x0 + k) (shown (sight_of owners.now splines bits.now desk) (slice b e entries.now)) v)) r0.old }
+    ensures r1_after { r1.new ≡ edit (first_cells n (λ k v. pixel 1 segments.now y (x0 + k) (shown (sight_of owners.now splines bits.now desk) (slice b e entries.now)) v)) r1.old }
+    ensures r2_after { r2.new ≡ edit (first_cells n (λ k v. pixel 2 segments.now y (x0 + k) (shown (sight_of owners.now splines bits.now desk) (slice b e entries.now)) v)) r2.old }
 {
     let mut total: u64 = 0;
     let mut j = b;
@@ -71,13 +71,13 @@ pub fn draw_entries(
     table: &[u64; 128],
 ) -> u64
     requires b_le_e { (b ≤ e) × (e ≤ length entries.now) × (e ≤ 2 ^ 30) × (8 * segment_count ≤ length segments.now) × (segment_count ≤ length owners.now) × (splines ≤ length bits.now) × (desk < 2) }
-    requires entries_value { (all_below segment_count (slice b e entries.now) ≡ true) × (allOwned owners.now splines (slice b e entries.now) ≡ true) }
+    requires entries_value { (all_below segment_count (slice b e entries.now) ≡ true) × (all_owned owners.now splines (slice b e entries.now) ≡ true) }
     requires n_bound { (x0 + n ≤ 2 ^ 23) × (y ≤ 2 ^ 23) }
     requires n_in_bounds { (n ≤ length r0.old) × (n ≤ length r1.old) × (n ≤ length r2.old) }
     ensures value { result ≡ updates segments.now x0 n (shown (sight_of owners.now splines bits.now desk) (slice b e entries.now)) }
-    ensures r0_after { r0.new ≡ edit (firstCells n (λ k v. pixel 0 segments.now y (x0 + k) (shown (sight_of owners.now splines bits.now desk) (slice b e entries.now)) v)) r0.old }
-    ensures r1_after { r1.new ≡ edit (firstCells n (λ k v. pixel 1 segments.now y (x0 + k) (shown (sight_of owners.now splines bits.now desk) (slice b e entries.now)) v)) r1.old }
-    ensures r2_after { r2.new ≡ edit (firstCells n (λ k v. pixel 2 segments.now y (x0 + k) (shown (sight_of owners.now splines bits.now desk) (slice b e entries.now)) v)) r2.old }
+    ensures r0_after { r0.new ≡ edit (first_cells n (λ k v. pixel 0 segments.now y (x0 + k) (shown (sight_of owners.now splines bits.now desk) (slice b e entries.now)) v)) r0.old }
+    ensures r1_after { r1.new ≡ edit (first_cells n (λ k v. pixel 1 segments.now y (x0 + k) (shown (sight_of owners.now splines bits.now desk) (slice b e entries.now)) v)) r1.old }
+    ensures r2_after { r2.new ≡ edit (first_cells n (λ k v. pixel 2 segments.now y (x0 + k) (shown (sight_of owners.now splines bits.now desk) (slice b e entries.now)) v)) r2.old }
 {
     let mut total: u64 = 0;
     let mut j = b;

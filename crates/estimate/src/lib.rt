@@ -2,14 +2,14 @@
 #![tactic(auto)]
 
 ghost use Rattle.std.specs.Prelude.{◌≡◌, ◌+◌, ◌≤◌, ◌<◌, length};
-ghost use Rattle.estimate.specs.Estimate.{toU64, greater, shareAt, rowColor, tintedOf, logColor, weightLimit, weightAt, widthEstimate, estimateOf};
+ghost use Rattle.estimate.specs.Estimate.{to_u64, greater, share_at, row_color, tinted_of, log_color, weight_limit, weight_at, width_estimate, estimate_of};
 
 use control_points::unsigned_abs;
 use kinds::KindU64;
 
 // An f32 as a u64: no number and what is below the range count 0, and what is above it the largest u64.
 fn whole(x: f32) -> u64
-    ensures { result ≡ toU64 x }
+    ensures { result ≡ to_u64 x }
 {
     match kinds::cut_to_u64(x) {
         KindU64::Exact(n) => n,
@@ -28,14 +28,14 @@ fn greater(a: u64, b: u64) -> u64
 // The magnitude of coefficient k times the inverse quant, made whole upward.
 fn share(c: &[i32], k: usize, quant: f32) -> f32
     requires { k < length c.now }
-    ensures { result ≡ shareAt c.now quant k }
+    ensures { result ≡ share_at c.now quant k }
 {
     wholes::ceil(quant * to_f32::nearest_u64_to_f32(unsigned_abs(c[k])))
 }
 
 fn color(c: &[i32], from: usize, quant: f32) -> u64
     requires { from + 32 ≤ length c.now }
-    ensures { result ≡ rowColor c.now from quant }
+    ensures { result ≡ row_color c.now from quant }
 {
     let mut sum = 0;
     let mut i = 0;
@@ -47,7 +47,7 @@ fn color(c: &[i32], from: usize, quant: f32) -> u64
 }
 
 fn tinted(color: u64, k: f32, y: u64) -> u64
-    ensures { result ≡ tintedOf color k y }
+    ensures { result ≡ tinted_of color k y }
 {
     numbers::saturating_add(
         color,
@@ -56,14 +56,14 @@ fn tinted(color: u64, k: f32, y: u64) -> u64
 }
 
 fn log_color(x: u64, y: u64, b: u64, y_to_x: f32, y_to_b: f32) -> u64
-    ensures { result ≡ logColor x y b y_to_x y_to_b }
+    ensures { result ≡ log_color x y b y_to_x y_to_b }
 {
     let max_color = greater(greater(tinted(x, y_to_x, y), y), tinted(b, y_to_b, y));
     greater(1, numbers::ceil_log2(numbers::saturating_add(1, max_color)))
 }
 
 fn weight_limit(limit: u64, log: u64, manhattan: u64) -> f32
-    ensures { result ≡ weightLimit limit log manhattan }
+    ensures { result ≡ weight_limit limit log manhattan }
 {
     let area = to_f32::nearest_u64_to_f32(limit) / to_f32::nearest_u64_to_f32(log);
     wholes::ceil(roots::root(area / to_f32::nearest_u64_to_f32(greater(manhattan, 1))))
@@ -71,14 +71,14 @@ fn weight_limit(limit: u64, log: u64, manhattan: u64) -> f32
 
 fn weight(c: &[i32], k: usize, quant: f32, most: f32) -> u64
     requires { k < length c.now }
-    ensures { result ≡ weightAt c.now quant most k }
+    ensures { result ≡ weight_at c.now quant most k }
 {
     whole(numbers::min(most, numbers::max(share(c, k, quant), 1.0)))
 }
 
 fn width_estimate(c: &[i32], quant: f32, most: f32, log: u64) -> u64
     requires { 128 ≤ length c.now }
-    ensures { result ≡ widthEstimate c.now quant most log }
+    ensures { result ≡ width_estimate c.now quant most log }
 {
     let mut sum = 0;
     let mut i = 0;
@@ -102,7 +102,7 @@ pub fn estimated_area(
     manhattan: u64,
 ) -> u64
     requires { 128 ≤ length c.now }
-    ensures { result ≡ estimateOf c.now quant y_to_x y_to_b limit manhattan }
+    ensures { result ≡ estimate_of c.now quant y_to_x y_to_b limit manhattan }
 {
     let log = log_color(
         color(c, 0, quant),

@@ -6,10 +6,10 @@ use Prim.Native.Nat.{ℕ}
 use lib.Dec.{ltb}
 use lib.ListN.{length, get_or, set}
 use Rattle.codes.specs.declared.Code.TheVariants as Code
-use Rattle.desks.specs.Hide.{HideOutcome, withBit, hideOf}
+use Rattle.desks.specs.Hide.{HideOutcome, with_bit, hide_of}
 use Rattle.desks.specs.Hide as hiding
 use Rattle.desks.specs.declared.HideAnswer.TheVariants as Hiding
-use Rattle.aktyrbuz.specs.Exported.{HideExport, hideExport}
+use Rattle.aktyrbuz.specs.Exported.{HideExport, hide_export}
 use Rattle.aktyrbuz.specs.Calls as calls
 use Rattle.exports.specs.Exports.{Tells}
 use Rattle.exports.specs.DeskExports.{HideExportCall, hides, HideExportTellsTheCall, HideOneOutcomeExported}
@@ -23,24 +23,24 @@ whole_by true true x z = refl
 whole_by true false x z = refl
 whole_by false c x z = refl
 
-hide-whole : (a : List ℕ) (desk spline : ℕ) (hidden : Bool) → HideWhole (hideOf a desk spline hidden)
-unfolding hideOf
-hide-whole a desk spline hidden = whole_by (ltb desk 2) (ltb spline (length a)) (set a spline (withBit desk hidden (get_or a spline 0))) a
+hide_whole : (a : List ℕ) (desk spline : ℕ) (hidden : Bool) → HideWhole (hide_of a desk spline hidden)
+unfolding hide_of
+hide_whole a desk spline hidden = whole_by (ltb desk 2) (ltb spline (length a)) (set a spline (with_bit desk hidden (get_or a spline 0))) a
 
-pub hide-export-tells-the-call : HideExportTellsTheCall
-hide-export-tells-the-call a desk spline hidden x (hides κs bits _ _ _ answer r bits' desk' spline' hidden' answer' p) =
-    let o = hideOf a desk spline hidden in
-    let same : hiding.leaves o.answer bits'.now ≡ o = rw (ap (λ (u : HideExport). u.bits) p) (hide-whole a desk spline hidden) in
+pub hide_export_tells_the_call : HideExportTellsTheCall
+hide_export_tells_the_call a desk spline hidden x (hides κs bits _ _ _ answer r bits' desk' spline' hidden' answer' p) =
+    let o = hide_of a desk spline hidden in
+    let same : hiding.leaves o.answer bits'.now ≡ o = rw (ap (λ (u : HideExport). u.bits) p) (hide_whole a desk spline hidden) in
     record {
       outcome = hiding.leaves o.answer bits'.now;
       called = calls.hides κs.1 bits desk spline hidden o.answer bits' desk' spline' hidden' same;
-      is = p ∙ ap hideExport (sym same);
+      is = p ∙ ap hide_export (sym same);
     }
 
-hide-equation : (a : List ℕ) (desk spline : ℕ) (hidden : Bool) (x : HideExport) → HideExportCall a desk spline hidden x → x ≡ hideExport (hideOf a desk spline hidden)
-hide-equation a desk spline hidden x (hides κs _ _ _ _ _ _ _ _ _ _ _ p) = p
+hide_equation : (a : List ℕ) (desk spline : ℕ) (hidden : Bool) (x : HideExport) → HideExportCall a desk spline hidden x → x ≡ hide_export (hide_of a desk spline hidden)
+hide_equation a desk spline hidden x (hides κs _ _ _ _ _ _ _ _ _ _ _ p) = p
 
-pub hide-one-outcome-exported : HideOneOutcomeExported
-hide-one-outcome-exported a desk spline hidden x z c e = hide-equation a desk spline hidden x c ∙ sym (hide-equation a desk spline hidden z e)
+pub hide_one_outcome_exported : HideOneOutcomeExported
+hide_one_outcome_exported a desk spline hidden x z c e = hide_equation a desk spline hidden x c ∙ sym (hide_equation a desk spline hidden z e)
 
 -- Assumes nothing.

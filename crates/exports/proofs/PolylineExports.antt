@@ -4,74 +4,74 @@ use mathlib.Core.List.{List}
 use Prim.Native.Nat.{ℕ}
 use lib.IntN.{ℤ}
 use lib.Ieee.{Float}
-use Rattle.dequantize.specs.Judge.{descriptionOf}
+use Rattle.dequantize.specs.Judge.{description_of}
 use Rattle.write_judge.specs.declared.Verdict.{Verdict}
 use Rattle.write_judge.specs.declared.Verdict.TheVariants.{Fine, Fault}
 use Rattle.writer.specs.Write as writing
 use Rattle.polyline.specs.declared.Spot.{Spot}
-use Rattle.polyline.specs.Spots.{spotsOf}
-use Rattle.polyline.specs.Read.{PointsOutcome, pointsVerdict, readPointsOf}
+use Rattle.polyline.specs.Spots.{spots_of}
+use Rattle.polyline.specs.Read.{PointsOutcome, points_verdict, read_points_of}
 use Rattle.polyline.specs.Read as points
-use Rattle.polyline.specs.Write.{splineText, writeVerdict, writePointsOf}
-use Rattle.aktyrbuz.specs.Exported.{WriteExport, writeExport}
-use Rattle.aktyrbuz.specs.Polylines.{PointsExport, pointsExport}
+use Rattle.polyline.specs.Write.{spline_text, write_verdict, write_points_of}
+use Rattle.aktyrbuz.specs.Exported.{WriteExport, write_export}
+use Rattle.aktyrbuz.specs.Polylines.{PointsExport, points_export}
 use Rattle.aktyrbuz.specs.PolylineCalls as calls
 use Rattle.exports.specs.Exports.{Tells}
 use Rattle.exports.specs.PolylineExports.{PointsReadExportCall, reads, PointsWriteExportCall, writes, PolylineExportsTellTheCalls, PolylineOneOutcomeExported}
-use Rattle.exports.proofs.Exports.{WriteWhole, verdict-whole}
+use Rattle.exports.proofs.Exports.{WriteWhole, verdict_whole}
 
 abbrev PointsWhole : PointsOutcome → Type 0
 PointsWhole o = points.leaves o.answer o.start o.deltas ≡ o
 
-decided-whole : (start deltas : ℕ) (ss : List Spot) (v : Verdict) → PointsWhole (points.outcome start deltas ss v)
-decided-whole start deltas ss Fine = refl
-decided-whole start deltas ss (Fault c p) = refl
+decided_whole : (start deltas : ℕ) (ss : List Spot) (v : Verdict) → PointsWhole (points.outcome start deltas ss v)
+decided_whole start deltas ss Fine = refl
+decided_whole start deltas ss (Fault c p) = refl
 
-points-read-whole : (text : List ℕ) (start deltas : ℕ) → PointsWhole (readPointsOf start deltas text)
-unfolding readPointsOf
-points-read-whole text start deltas = decided-whole start deltas (spotsOf text) (pointsVerdict start deltas text)
+points_read_whole : (text : List ℕ) (start deltas : ℕ) → PointsWhole (read_points_of start deltas text)
+unfolding read_points_of
+points_read_whole text start deltas = decided_whole start deltas (spots_of text) (points_verdict start deltas text)
 
-points-write-whole : (ns : List ℕ) (ss : List Float) (ds cs : List ℤ) (k room : ℕ) → WriteWhole (writePointsOf ns ss ds cs k room)
-unfolding writePointsOf
-points-write-whole ns ss ds cs k room = verdict-whole room (splineText (descriptionOf ns ss ds cs) k) (writeVerdict ns ss ds cs k room)
+points_write_whole : (ns : List ℕ) (ss : List Float) (ds cs : List ℤ) (k room : ℕ) → WriteWhole (write_points_of ns ss ds cs k room)
+unfolding write_points_of
+points_write_whole ns ss ds cs k room = verdict_whole room (spline_text (description_of ns ss ds cs) k) (write_verdict ns ss ds cs k room)
 
-tells-read : (text : List ℕ) (start deltas : ℕ) (x : PointsExport) → PointsReadExportCall text start deltas x → Tells (calls.PointsReadCall text start deltas) pointsExport x
-tells-read b s d x (reads κs text start deltas answer r text' start' deltas' answer' p) =
-    let o = readPointsOf s d b in
+tells_read : (text : List ℕ) (start deltas : ℕ) (x : PointsExport) → PointsReadExportCall text start deltas x → Tells (calls.PointsReadCall text start deltas) points_export x
+tells_read b s d x (reads κs text start deltas answer r text' start' deltas' answer' p) =
+    let o = read_points_of s d b in
     let same : points.leaves o.answer start'.now deltas'.now ≡ o
-    = rw (ap (λ (u : PointsExport). u.start) p, ap (λ (u : PointsExport). u.deltas) p) (points-read-whole b s d) in
+    = rw (ap (λ (u : PointsExport). u.start) p, ap (λ (u : PointsExport). u.deltas) p) (points_read_whole b s d) in
     record {
       outcome = points.leaves o.answer start'.now deltas'.now;
       called = calls.reads κs.1 text start deltas o.answer text' start' deltas' same;
-      is = p ∙ ap pointsExport (sym same);
+      is = p ∙ ap points_export (sym same);
     }
 
-tells-write : (ns : List ℕ) (ss : List Float) (ds cs : List ℤ) (k room : ℕ) (x : WriteExport)
-    → PointsWriteExportCall ns ss ds cs k room x → Tells (calls.PointsWriteCall ns ss ds cs k room) writeExport x
-tells-write ns ss ds cs k room x
+tells_write : (ns : List ℕ) (ss : List Float) (ds cs : List ℤ) (k room : ℕ) (x : WriteExport)
+    → PointsWriteExportCall ns ss ds cs k room x → Tells (calls.PointsWriteCall ns ss ds cs k room) write_export x
+tells_write ns ss ds cs k room x
     (writes κs counts starts deltas coefficients spline text answer r counts' starts' deltas' coefficients' spline' text' answer' p) =
-    let o = writePointsOf ns ss ds cs k room in
-    let same : writing.leaves o.answer text'.now ≡ o = rw (ap (λ (u : WriteExport). u.list) p) (points-write-whole ns ss ds cs k room) in
+    let o = write_points_of ns ss ds cs k room in
+    let same : writing.leaves o.answer text'.now ≡ o = rw (ap (λ (u : WriteExport). u.list) p) (points_write_whole ns ss ds cs k room) in
     record {
       outcome = writing.leaves o.answer text'.now;
       called = calls.writes κs.1 counts starts deltas coefficients spline text o.answer counts' starts' deltas' coefficients' spline' text' same;
-      is = p ∙ ap writeExport (sym same);
+      is = p ∙ ap write_export (sym same);
     }
 
-pub polyline-exports-tell-the-calls : PolylineExportsTellTheCalls
-polyline-exports-tell-the-calls = record { read = tells-read; write = tells-write }
+pub polyline_exports_tell_the_calls : PolylineExportsTellTheCalls
+polyline_exports_tell_the_calls = record { read = tells_read; write = tells_write }
 
-read-equation : (text : List ℕ) (start deltas : ℕ) (x : PointsExport) → PointsReadExportCall text start deltas x → x ≡ pointsExport (readPointsOf start deltas text)
-read-equation text start deltas x (reads κs _ _ _ _ _ _ _ _ _ p) = p
+read_equation : (text : List ℕ) (start deltas : ℕ) (x : PointsExport) → PointsReadExportCall text start deltas x → x ≡ points_export (read_points_of start deltas text)
+read_equation text start deltas x (reads κs _ _ _ _ _ _ _ _ _ p) = p
 
-write-equation : (ns : List ℕ) (ss : List Float) (ds cs : List ℤ) (k room : ℕ) (x : WriteExport) → PointsWriteExportCall ns ss ds cs k room x
-    → x ≡ writeExport (writePointsOf ns ss ds cs k room)
-write-equation ns ss ds cs k room x (writes κs _ _ _ _ _ _ _ _ _ _ _ _ _ _ _ p) = p
+write_equation : (ns : List ℕ) (ss : List Float) (ds cs : List ℤ) (k room : ℕ) (x : WriteExport) → PointsWriteExportCall ns ss ds cs k room x
+    → x ≡ write_export (write_points_of ns ss ds cs k room)
+write_equation ns ss ds cs k room x (writes κs _ _ _ _ _ _ _ _ _ _ _ _ _ _ _ p) = p
 
-pub polyline-one-outcome-exported : PolylineOneOutcomeExported
-polyline-one-outcome-exported = record {
-  read = λ text start deltas x z a b. read-equation text start deltas x a ∙ sym (read-equation text start deltas z b);
-  write = λ ns ss ds cs k room x z a b. write-equation ns ss ds cs k room x a ∙ sym (write-equation ns ss ds cs k room z b);
+pub polyline_one_outcome_exported : PolylineOneOutcomeExported
+polyline_one_outcome_exported = record {
+  read = λ text start deltas x z a b. read_equation text start deltas x a ∙ sym (read_equation text start deltas z b);
+  write = λ ns ss ds cs k room x z a b. write_equation ns ss ds cs k room x a ∙ sym (write_equation ns ss ds cs k room z b);
 }
 
 -- Assumes nothing.

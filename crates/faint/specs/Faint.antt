@@ -4,6 +4,6 @@ use Rattle.std.specs.Float.Ieee.{is_nan}
 use Rattle.segments.specs.Segment.{field}
 
 -- how many of the first n segments of a flat list are
-unfoldable pub faintIn : List Float → ℕ → ℕ
-faintIn segs zero = 0
-faintIn segs (suc n) = faintIn segs n + cond (is_nan (field segs n 2)) 1 0
+unfoldable pub faint_in : List Float → ℕ → ℕ
+faint_in segs zero = 0
+faint_in segs (suc n) = faint_in segs n + cond (is_nan (field segs n 2)) 1 0

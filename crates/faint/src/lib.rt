@@ -3,7 +3,7 @@
 
 ghost use Rattle.std.specs.Prelude.{◌≡◌, cond, ◌*◌, ◌^◌, ◌≤◌, length};
 ghost use Rattle.std.specs.Float.Ieee.{is_nan};
-ghost use Rattle.faint.specs.Faint.{faintIn};
+ghost use Rattle.faint.specs.Faint.{faint_in};
 
 fn one_if_nan(distance: f32) -> u32
     ensures { result ≡ cond (is_nan distance) 1 0 }
@@ -14,7 +14,7 @@ fn one_if_nan(distance: f32) -> u32
 // Of the first `count` segments of a flat slice.
 pub fn faint_in(segments: &[f32], count: usize) -> u32
     requires { (8 * count ≤ length segments.now) × (count ≤ 2 ^ 24) }
-    ensures { result ≡ faintIn segments.now count }
+    ensures { result ≡ faint_in segments.now count }
 {
     let mut found = 0;
     let mut i = 0;

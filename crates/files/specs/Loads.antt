@@ -3,7 +3,7 @@ use Rattle.std.specs.Prelude.{ℕ, ◌≤◌}
 use Rattle.files.specs.declared.Loaded.{Loaded}
 use Rattle.files.specs.declared.Loaded.TheVariants.{Count, Long, Status}
 
-abbrev pub statusIn : Loaded → ℕ
-statusIn (Count n) = 0
-statusIn Long = 0
-statusIn (Status s) = s
+abbrev pub status_in : Loaded → ℕ
+status_in (Count n) = 0
+status_in Long = 0
+status_in (Status s) = s

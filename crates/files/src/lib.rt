@@ -3,7 +3,7 @@
 
 ghost use Rattle.std.specs.Prelude.{◌≡◌, ◌≤◌, negsuc, ◌≤ℤ◌};
 ghost use Rattle.io.specs.Counts.{IsPrefixLen};
-ghost use Rattle.files.specs.Loads.{statusIn};
+ghost use Rattle.files.specs.Loads.{status_in};
 
 use text::Parsed;
 
@@ -31,7 +31,7 @@ fn at_line(i: usize, line: usize, what: &[u8], number: usize) {
 
 // The values of the text in the file that argument i names.
 pub fn parse(i: usize, text: &[u8], values: &mut [u32]) -> Loaded
-    ensures { statusIn result ≤ 2 }
+    ensures { status_in result ≤ 2 }
 {
     match text::values_of(text, values) {
         Parsed::Values(n) => Loaded::Count(n),
@@ -101,7 +101,7 @@ pub fn open(i: usize) -> i32
 
 // The bytes of an open file, which fill the buffer only if there are too many.
 fn read_in(path: &[u8], fd: i32, bytes: &mut [u8]) -> Loaded
-    ensures { statusIn result ≤ 2 }
+    ensures { status_in result ≤ 2 }
 {
     let n = io::read_full(fd, bytes);
     if n == 0 {
@@ -119,7 +119,7 @@ fn read_in(path: &[u8], fd: i32, bytes: &mut [u8]) -> Loaded
 
 // The bytes of the file that argument i names, which is open.
 pub fn fill(i: usize, fd: i32, bytes: &mut [u8]) -> Loaded
-    ensures { statusIn result ≤ 2 }
+    ensures { status_in result ≤ 2 }
 {
     let mut held = io::buffer();
     let n = os::arg(i, &mut held);
@@ -128,7 +128,7 @@ pub fn fill(i: usize, fd: i32, bytes: &mut [u8]) -> Loaded
 
 // The bytes of the file that argument i names.
 pub fn load(i: usize, bytes: &mut [u8]) -> Loaded
-    ensures { statusIn result ≤ 2 }
+    ensures { status_in result ≤ 2 }
 {
     let fd = open(i);
     if fd < 0 {

@@ -8,47 +8,47 @@ use borrow.Author.Count.{below_more}
 use native.Mathlib.Nat.{le_of_suc-le-suc, not-suc-le-zero}
 use lib.Dec.{eqb}
 use lib.ListN.{length, take, drop, length-take, length-drop}
-use Rattle.text.specs.Text.{sameOf}
-use Rattle.finding.specs.Finding.{standsAt, FirstFrom}
+use Rattle.text.specs.Text.{same_of}
+use Rattle.finding.specs.Finding.{stands_at, FirstFrom}
 
 abbrev is_false : Bool → Type 0
 is_false true = ⊥
 is_false false = Unit
 
-false-is-not-true : false ≡ true → ⊥
-false-is-not-true p = subst is_false p tt
+false_is_not_true : false ≡ true → ⊥
+false_is_not_true p = subst is_false p tt
 
 either_way : (t : Bool) {s : Bool} → false ≡ s → false ≡ cond t s false
 either_way true e = e
 either_way false e = refl
 
 -- a text is not the same as a longer one
-same-longer : (xs ys : List ℕ) → length xs < length ys → false ≡ sameOf xs ys
-unfolding sameOf
-same-longer [] [] less = absurd (not-suc-le-zero less)
-same-longer [] (y ∷ ys) less = refl
-same-longer (x ∷ xs) [] less = absurd (not-suc-le-zero less)
-same-longer (x ∷ xs) (y ∷ ys) less = either_way (eqb x y) (same-longer xs ys (le_of_suc-le-suc less))
+same_longer : (xs ys : List ℕ) → length xs < length ys → false ≡ same_of xs ys
+unfolding same_of
+same_longer [] [] less = absurd (not-suc-le-zero less)
+same_longer [] (y ∷ ys) less = refl
+same_longer (x ∷ xs) [] less = absurd (not-suc-le-zero less)
+same_longer (x ∷ xs) (y ∷ ys) less = either_way (eqb x y) (same_longer xs ys (le_of_suc-le-suc less))
 
-pub too_short : (bytes : List ℕ) (at : ℕ) (word : List ℕ) → length bytes - at < length word → false ≡ standsAt bytes at word
-too_short bytes at word less = same-longer (take (length word) (drop at bytes)) word (omega (arith, less, length-take (length word) (drop at bytes), length-drop at bytes))
+pub too_short : (bytes : List ℕ) (at : ℕ) (word : List ℕ) → length bytes - at < length word → false ≡ stands_at bytes at word
+too_short bytes at word less = same_longer (take (length word) (drop at bytes)) word (omega (arith, less, length-take (length word) (drop at bytes), length-drop at bytes))
 
 -- as code takes the part
-pub stands-part : (bytes : List ℕ) (at past : ℕ) (word : List ℕ) {r : Bool} → past ≡ at + length word → r ≡ sameOf (take (past - at) (drop at bytes)) word → r ≡ standsAt bytes at word
-stands-part bytes at past word is e = let n : past - at ≡ length word = omega arith in e ∙ ap (λ (k : ℕ). sameOf (take k (drop at bytes)) word) n
+pub stands_part : (bytes : List ℕ) (at past : ℕ) (word : List ℕ) {r : Bool} → past ≡ at + length word → r ≡ same_of (take (past - at) (drop at bytes)) word → r ≡ stands_at bytes at word
+stands_part bytes at past word is e = let n : past - at ≡ length word = omega arith in e ∙ ap (λ (k : ℕ). same_of (take k (drop at bytes)) word) n
 
 -- the word is at no place from the start on and before this one
 pub record Missing (bytes : List ℕ) (start : ℕ) (word : List ℕ) (at : ℕ) : Type 0 where
-  pub so_far : (k : ℕ) → k < at → start ≤ k → standsAt bytes k word ≡ true → ⊥
+  pub so_far : (k : ℕ) → k < at → start ≤ k → stands_at bytes k word ≡ true → ⊥
 
 module _ {bytes word : List ℕ} {start : ℕ} where
-  pub missing-none : Missing bytes start word start
-  missing-none = record { so_far = λ k less from is. absurd (omega (arith, less, from)) }
+  pub missing_none : Missing bytes start word start
+  missing_none = record { so_far = λ k less from is. absurd (omega (arith, less, from)) }
 
-  pub missing-more : {at : ℕ} {r : Bool} → Missing bytes start word at → r ≡ standsAt bytes at word → r ≡ false → Missing bytes start word (at + 1)
-  missing-more {at} m e not = record { so_far = below_more (λ k. start ≤ k → standsAt bytes k word ≡ true → ⊥) at m.so_far (λ from is. false-is-not-true (sym not ∙ e ∙ is)) }
+  pub missing_more : {at : ℕ} {r : Bool} → Missing bytes start word at → r ≡ stands_at bytes at word → r ≡ false → Missing bytes start word (at + 1)
+  missing_more {at} m e not = record { so_far = below_more (λ k. start ≤ k → stands_at bytes k word ≡ true → ⊥) at m.so_far (λ from is. false_is_not_true (sym not ∙ e ∙ is)) }
 
-  pub found : {at : ℕ} {r : Bool} → Missing bytes start word at → r ≡ standsAt bytes at word → r ≡ true → FirstFrom bytes start word at
+  pub found : {at : ℕ} {r : Bool} → Missing bytes start word at → r ≡ stands_at bytes at word → r ≡ true → FirstFrom bytes start word at
   found m e is = record { before = λ k from less. m.so_far k less from; there = λ _. sym e ∙ is }
 
   pub nowhere : {at : ℕ} → Missing bytes start word at → length bytes ≤ at → FirstFrom bytes start word at

@@ -2,12 +2,12 @@
 #![tactic(auto)]
 
 ghost use Rattle.std.specs.Prelude.{◌≡◌, ◌+◌, ◌≤◌, ◌<◌, length};
-ghost use Rattle.finding.specs.Finding.{standsAt, FirstFrom};
+ghost use Rattle.finding.specs.Finding.{stands_at, FirstFrom};
 
 // Whether a word stands at a place.
 fn stands(bytes: &[u8], at: usize, word: &[u8]) -> bool
     requires { at ≤ length bytes.now }
-    ensures { result ≡ standsAt bytes.now at word.now }
+    ensures { result ≡ stands_at bytes.now at word.now }
 {
     if bytes.len() - at < word.len() {
         return false;

@@ -2,12 +2,12 @@
 use Rattle.std.specs.Prelude.{Bool, cond, ◌&&◌, List, ℕ, ◌*◌, ◌/◌, leb, ltb, length, get_or, Float}
 use Rattle.numbers.specs.Arith.{f}
 use Rattle.segments.specs.declared.Segment.{Segment}
-use Rattle.segments.specs.Segment.{segmentAt}
+use Rattle.segments.specs.Segment.{segment_at}
 use Rattle.flat_records.specs.declared.SegmentRecord.{SegmentRecord}
 
 -- a segment and its owner as a record
-abbrev pub joinedOf : Segment → ℕ → SegmentRecord
-joinedOf s owner = record {
+abbrev pub joined_of : Segment → ℕ → SegmentRecord
+joined_of s owner = record {
   center_x = s.center_x;
   center_y = s.center_y;
   maximum_distance = s.maximum_distance;
@@ -20,8 +20,8 @@ joinedOf s owner = record {
 }
 
 -- the record of zeros
-unfoldable pub zeroRecord : SegmentRecord
-zeroRecord = record {
+unfoldable pub zero_record : SegmentRecord
+zero_record = record {
   center_x = f 0;
   center_y = f 0;
   maximum_distance = f 0;
@@ -34,9 +34,9 @@ zeroRecord = record {
 }
 
 -- record k of the first c segments of a flat list with their owners: zeros from c on, and where a list is too short
-unfoldable pub recordOf : List Float → List ℕ → ℕ → ℕ → SegmentRecord
-recordOf xs us c k = cond (ltb k c && (ltb k (length xs / 8) && ltb k (length us))) (joinedOf (segmentAt xs k) (get_or us k 0)) zeroRecord
+unfoldable pub record_of : List Float → List ℕ → ℕ → ℕ → SegmentRecord
+record_of xs us c k = cond (ltb k c && (ltb k (length xs / 8) && ltb k (length us))) (joined_of (segment_at xs k) (get_or us k 0)) zero_record
 
 -- a number is known when it is below the count, and the count fits the floats
-unfoldable pub isKnown : List Float → ℕ → ℕ → Bool
-isKnown xs c i = ltb i c && leb (8 * c) (length xs)
+unfoldable pub is_known : List Float → ℕ → ℕ → Bool
+is_known xs c i = ltb i c && leb (8 * c) (length xs)

@@ -2,7 +2,7 @@
 #![tactic(auto)]
 
 ghost use Rattle.std.specs.Prelude.{◌≡◌};
-ghost use Rattle.flat_records.specs.Records.{joinedOf, zeroRecord, recordOf, isKnown};
+ghost use Rattle.flat_records.specs.Records.{joined_of, zero_record, record_of, is_known};
 
 use segments::Segment;
 
@@ -22,7 +22,7 @@ pub struct SegmentRecord {
 
 // A segment and its owner as a record.
 fn joined(segment: Segment, owner: u64) -> SegmentRecord
-    ensures { result ≡ joinedOf segment owner }
+    ensures { result ≡ joined_of segment owner }
 {
     SegmentRecord {
         center_x: segment.center_x,
@@ -39,7 +39,7 @@ fn joined(segment: Segment, owner: u64) -> SegmentRecord
 
 // The record of zeros.
 pub fn zero_record() -> SegmentRecord
-    ensures { result ≡ zeroRecord }
+    ensures { result ≡ zero_record }
 {
     SegmentRecord {
         center_x: 0.0,
@@ -56,7 +56,7 @@ pub fn zero_record() -> SegmentRecord
 
 // Record k of the first `count` segments of a flat slice with their owners, or zeros.
 pub fn record_of(flat: &[f32], owners: &[u64], count: usize, k: usize) -> SegmentRecord
-    ensures { result ≡ recordOf flat.now owners.now count k }
+    ensures { result ≡ record_of flat.now owners.now count k }
 {
     if count <= k {
         return zero_record();
@@ -73,7 +73,7 @@ pub fn record_of(flat: &[f32], owners: &[u64], count: usize, k: usize) -> Segmen
 
 // Whether a number is below the count, and the count fits the floats.
 pub fn is_known(flat: &[f32], count: usize, i: usize) -> bool
-    ensures { result ≡ isKnown flat.now count i }
+    ensures { result ≡ is_known flat.now count i }
 {
     if count <= i {
         return false;

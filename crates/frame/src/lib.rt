@@ -3,7 +3,7 @@
 
 ghost use Rattle.std.specs.Prelude.{◌≡◌, ◌+◌, ◌<◌, ◌≤◌, min, length, get_or};
 ghost use Rattle.io.specs.Counts.{IsPrefixLen};
-ghost use Rattle.frame.specs.Frame.{word_at, Words, sum_of, end_of, settled_of, frameSays, IsWhole, held_of};
+ghost use Rattle.frame.specs.Frame.{word_at, Words, sum_of, end_of, settled_of, frame_says, IsWhole, held_of};
 
 const MAGIC: u32 = 1448364865;
 
@@ -121,7 +121,7 @@ fn end_of_cases(words: &[u32]) -> End
 
 // What is right or wrong with a file of these words.
 pub fn judge(words: &[u32]) -> Verdict
-    ensures { result ≡ frameSays words.now }
+    ensures { result ≡ frame_says words.now }
 {
     if words.len() < 4 {
         return Verdict::Short;

@@ -2,12 +2,12 @@
 use Rattle.std.specs.Prelude.{Bool, true, false, cond, ◌||◌, List, [], ◌∷◌, ℕ, zero, suc, ◌^◌, leb, Float}
 use Rattle.codes.specs.Codes.{number_of}
 use Rattle.codes.specs.declared.Code.{Code}
-use Rattle.segments.specs.Segment.{segmentAt}
-use Rattle.segments.specs.Ranges.{hasColumn}
+use Rattle.segments.specs.Segment.{segment_at}
+use Rattle.segments.specs.Ranges.{has_column}
 use Rattle.segments.specs.declared.Range.{Range}
-use Rattle.desks.specs.Desks.{Sight, deskGood}
-use Rattle.checks.specs.Tables.{Table, shownOf}
-use Rattle.checks.specs.Checks.{orFault, judgeRow}
+use Rattle.desks.specs.Desks.{Sight, desk_good}
+use Rattle.checks.specs.Tables.{Table, shown_of}
+use Rattle.checks.specs.Checks.{or_fault, judge_row}
 use Rattle.checks.specs.declared.Verdict.{Verdict}
 use Rattle.checks.specs.declared.Verdict.TheVariants.{Fine, Fault}
 use Rattle.joins.specs.Joins.{joined}
@@ -29,10 +29,10 @@ hull test (suc x) = cond (test x) (joined (hull test x) (record { first = x; pas
 -- drawing the listed segments touches column x: one of them has it
 abbrev pub touched : List Float → List ℕ → ℕ → Bool
 touched segments [] x = false
-touched segments (i ∷ listed) x = hasColumn (segmentAt segments i) x || touched segments listed x
+touched segments (i ∷ listed) x = has_column (segment_at segments i) x || touched segments listed x
 
-abbrev pub reachOver : List Float → ℕ → List ℕ → Range
-reachOver segments W listed = hull (touched segments listed) W
+abbrev pub reach_over : List Float → ℕ → List ℕ → Range
+reach_over segments W listed = hull (touched segments listed) W
 
 -- ---- the call
 
@@ -43,17 +43,17 @@ pub record ReachTold : Type 0 where
   pub first : ℕ
   pub past : ℕ
 
-abbrev pub toldOf : ReachAnswer → ReachTold
-toldOf (Done a e) = record { number = 0; place = 0; first = a; past = e }
-toldOf (Refused c p) = record { number = number_of c; place = p; first = 0; past = 0 }
+abbrev pub told_of : ReachAnswer → ReachTold
+told_of (Done a e) = record { number = 0; place = 0; first = a; past = e }
+told_of (Refused c p) = record { number = number_of c; place = p; first = 0; past = 0 }
 
 -- the desk, the width, then the checks of drawing but for the span
-unfoldable pub judgeReachOf : Table → Sight → ℕ → ℕ → Verdict
-judgeReachOf t s y W = orFault (deskGood s) Code.Desk (orFault (leb W (2 ^ 23)) Code.Size (judgeRow t s y true))
+unfoldable pub judge_reach_of : Table → Sight → ℕ → ℕ → Verdict
+judge_reach_of t s y W = or_fault (desk_good s) Code.Desk (or_fault (leb W (2 ^ 23)) Code.Size (judge_row t s y true))
 
-abbrev pub reachAnswer : Verdict → Range → ReachAnswer
-reachAnswer Fine r = Done r.first r.past
-reachAnswer (Fault c) r = Refused c 0
+abbrev pub reach_answer : Verdict → Range → ReachAnswer
+reach_answer Fine r = Done r.first r.past
+reach_answer (Fault c) r = Refused c 0
 
 -- the answer and what it tells
 pub record ReachOutcome : Type 0 where
@@ -61,8 +61,8 @@ pub record ReachOutcome : Type 0 where
   pub told : ReachTold
 
 abbrev pub tells : ReachAnswer → ReachOutcome
-tells r = record { answer = r; told = toldOf r }
+tells r = record { answer = r; told = told_of r }
 
 -- what `reach` answers
-unfoldable pub reachOf : Table → Sight → ℕ → ℕ → ReachOutcome
-reachOf t s y W = tells (reachAnswer (judgeReachOf t s y W) (reachOver t.segments W (shownOf t s y)))
+unfoldable pub reach_of : Table → Sight → ℕ → ℕ → ReachOutcome
+reach_of t s y W = tells (reach_answer (judge_reach_of t s y W) (reach_over t.segments W (shown_of t s y)))

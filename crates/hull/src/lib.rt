@@ -3,12 +3,12 @@
 
 ghost use Rattle.std.specs.Prelude.{◌≡◌, true, cond, [], ◌∷◌, ◌+◌, ◌*◌, ◌^◌, ◌<◌, ◌≤◌, length, get_or};
 ghost use Rattle.std.proofs.Math.Seq.{slice};
-ghost use Rattle.segments.specs.Segment.{segmentAt};
-ghost use Rattle.desks.specs.Desks.{sight_of, hiddenIn, shown, allOwned};
+ghost use Rattle.segments.specs.Segment.{segment_at};
+ghost use Rattle.desks.specs.Desks.{sight_of, hidden_in, shown, all_owned};
 ghost use Rattle.checks.specs.Tables.{table_of};
 ghost use Rattle.checks.specs.Checks.{all_below};
-ghost use Rattle.joins.specs.Joins.{joined, columnsBelow};
-ghost use Rattle.hull.specs.Reach.{reachOver, judgeReachOf, tells, reachOf};
+ghost use Rattle.joins.specs.Joins.{joined, columns_below};
+ghost use Rattle.hull.specs.Reach.{reach_over, judge_reach_of, tells, reach_of};
 
 use checks::Verdict;
 use codes::Code;
@@ -33,7 +33,7 @@ fn with_shown(
     width: u32,
 ) -> Range
     requires { (8 * i + 8 ≤ length segments.now) × (i < length owners.now) × (get_or owners.now i 0 < length bits.now) × (desk < 2) }
-    ensures { result ≡ cond (hiddenIn (sight_of owners.now splines bits.now desk) i) found (joined found (columnsBelow width (segmentAt segments.now i))) }
+    ensures { result ≡ cond (hidden_in (sight_of owners.now splines bits.now desk) i) found (joined found (columns_below width (segment_at segments.now i))) }
 {
     let hides = desks::hidden(owners, splines, bits, desk, i);
     if hides {
@@ -57,8 +57,8 @@ fn reach_entries(
     width: u32,
 ) -> Range
     requires b_le_e { (b ≤ e) × (e ≤ length entries.now) × (8 * segment_count ≤ length segments.now) × (width ≤ 2 ^ 23) × (segment_count ≤ length owners.now) × (splines ≤ length bits.now) × (desk < 2) }
-    requires entries_value { (all_below segment_count (slice b e entries.now) ≡ true) × (allOwned owners.now splines (slice b e entries.now) ≡ true) }
-    ensures { result ≡ reachOver segments.now width (shown (sight_of owners.now splines bits.now desk) (slice b e entries.now)) }
+    requires entries_value { (all_below segment_count (slice b e entries.now) ≡ true) × (all_owned owners.now splines (slice b e entries.now) ≡ true) }
+    ensures { result ≡ reach_over segments.now width (shown (sight_of owners.now splines bits.now desk) (slice b e entries.now)) }
 {
     let mut found = Range { first: 0, past: 0 };
     let mut j = b;
@@ -85,7 +85,7 @@ fn judge_reach(
     y: u32,
     width: u32,
 ) -> Verdict
-    ensures { result ≡ judgeReachOf (table_of segments.now segment_count entries.now entry_count row_starts.now height) (sight_of owners.now splines bits.now desk) y width }
+    ensures { result ≡ judge_reach_of (table_of segments.now segment_count entries.now entry_count row_starts.now height) (sight_of owners.now splines bits.now desk) y width }
 {
     if 2 <= desk {
         return Verdict::Fault(Code::Desk);
@@ -124,7 +124,7 @@ pub fn reach(
     y: u32,
     width: u32,
 ) -> ReachAnswer
-    ensures { tells result ≡ reachOf (table_of segments.now segment_count entries.now entry_count row_starts.now height) (sight_of owners.now splines bits.now desk) y width }
+    ensures { tells result ≡ reach_of (table_of segments.now segment_count entries.now entry_count row_starts.now height) (sight_of owners.now splines bits.now desk) y width }
 {
     match judge_reach(
         segments,

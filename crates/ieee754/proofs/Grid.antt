@@ -43,8 +43,8 @@ pub record Sides (under over : ℕ → Type 0) (Y r v : ℕ) : Type 0 where
   pub above : v < Y → over (Y + v)
   pub even : (Y ≡ v → ⊥) → under (Y + v) → over (Y + v) → r % 2 ≡ 0
 
-sum-le : (a b c : ℕ) → a ≤ b → a + c ≤ b + c
-sum-le a b c h = omega arith
+sum_le : (a b c : ℕ) → a ≤ b → a + c ≤ b + c
+sum_le a b c h = omega arith
 
 sum_lt : (a b c : ℕ) → a < b → a + c < b + c
 sum_lt a b c h = omega arith
@@ -67,9 +67,9 @@ module _ (under over : ℕ → Type 0) (less : (a b : ℕ) → a ≤ b → under
   abbrev mid : ℕ
   mid = q * u + (q + 1) * u
 
-  at-q : over mid → (under mid → q % 2 ≡ 0) → Sides under over Y q (q * u)
-  at-q m e = record {
-    below = λ h. less (Y + q * u) (q * u + q * u) (sum-le Y (q * u) (q * u) (le_of_lt h)) lo;
+  at_q : over mid → (under mid → q % 2 ≡ 0) → Sides under over Y q (q * u)
+  at_q m e = record {
+    below = λ h. less (Y + q * u) (q * u + q * u) (sum_le Y (q * u) (q * u) (le_of_lt h)) lo;
     above = λ h. greater mid (Y + q * u) (next_le q u Y (next_up u t q Y reach g h)) m;
     even = λ n a b. elim (either Y (q * u) n) [
       | inl h ↦ absurd (apart (Y + q * u) (q * u + q * u) (sum_lt Y (q * u) (q * u) h) b lo)
@@ -79,16 +79,16 @@ module _ (under over : ℕ → Type 0) (less : (a b : ℕ) → a ≤ b → under
 
   at_next : under mid → (over mid → (q + 1) % 2 ≡ 0) → Sides under over Y (q + 1) ((q + 1) * u)
   at_next m e = record {
-    below = λ h. less (Y + (q + 1) * u) mid (sum-le Y (q * u) ((q + 1) * u) (next_down u t q Y reach g h)) m;
-    above = λ h. greater ((q + 1) * u + (q + 1) * u) (Y + (q + 1) * u) (sum-le ((q + 1) * u) Y ((q + 1) * u) (le_of_lt h)) hi;
+    below = λ h. less (Y + (q + 1) * u) mid (sum_le Y (q * u) ((q + 1) * u) (next_down u t q Y reach g h)) m;
+    above = λ h. greater ((q + 1) * u + (q + 1) * u) (Y + (q + 1) * u) (sum_le ((q + 1) * u) Y ((q + 1) * u) (le_of_lt h)) hi;
     even = λ n a b. elim (either Y ((q + 1) * u) n) [
-      | inl h ↦ e (greater (Y + (q + 1) * u) mid (sum-le Y (q * u) ((q + 1) * u) (next_down u t q Y reach g h)) b)
+      | inl h ↦ e (greater (Y + (q + 1) * u) mid (sum_le Y (q * u) ((q + 1) * u) (next_down u t q Y reach g h)) b)
       | inr h ↦ absurd (apart ((q + 1) * u + (q + 1) * u) (Y + (q + 1) * u) (sum_lt ((q + 1) * u) Y ((q + 1) * u) h) hi a)
     ];
   }
 
   tie : (r : ℕ) → (r ≡ 0) ⊎ (r ≡ 1) → q % 2 ≡ r → under mid → over mid → Sides under over Y (q + r) ((q + r) * u)
-  tie r (inl e) p a b = subst (λ (z : ℕ). Sides under over Y z (z * u)) (go q r e) (at-q b (λ _. p ∙ e))
+  tie r (inl e) p a b = subst (λ (z : ℕ). Sides under over Y z (z * u)) (go q r e) (at_q b (λ _. p ∙ e))
     where
       go : (q r : ℕ) → r ≡ 0 → q ≡ q + r
       go q r e = omega arith
@@ -100,14 +100,14 @@ module _ (under over : ℕ → Type 0) (less : (a b : ℕ) → a ≤ b → under
       go2 : (q : ℕ) → q % 2 ≡ 1 → (q + 1) % 2 ≡ 0
       go2 q e = omega arith
 
-  zero-or-one : (r : ℕ) → r < 2 → (r ≡ 0) ⊎ (r ≡ 1)
-  zero-or-one zero h = inl refl
-  zero-or-one (suc zero) h = inr refl
-  zero-or-one (suc (suc r)) h = absurd (omega arith)
+  zero_or_one : (r : ℕ) → r < 2 → (r ≡ 0) ⊎ (r ≡ 1)
+  zero_or_one zero h = inl refl
+  zero_or_one (suc zero) h = inr refl
+  zero_or_one (suc (suc r)) h = absurd (omega arith)
 
   pub picked : (o : Ordering) → Beside o (under (q * u + (q + 1) * u)) (over (q * u + (q + 1) * u)) → Sides under over Y (nearest q o) (nearest q o * u)
-  picked Ordering.lt c = at-q c.1 (λ a. absurd (c.0 a))
-  picked Ordering.eq c = tie (q % 2) (zero-or-one (q % 2) (mod-lt q (zero-lt-suc 1))) refl c.0 c.1
+  picked Ordering.lt c = at_q c.1 (λ a. absurd (c.0 a))
+  picked Ordering.eq c = tie (q % 2) (zero_or_one (q % 2) (mod-lt q (zero-lt-suc 1))) refl c.0 c.1
   picked Ordering.gt c = subst (λ (z : ℕ). Sides under over Y z (z * u)) (add-one q) (at_next c.0 (λ b. absurd (c.1 b)))
 
 -- Assumes nothing.

@@ -14,8 +14,8 @@ use lib.Ieee.Exact.{HasValue, units_val}
 use lib.Ieee.Nearest.{nearest-ge}
 use lib.Ieee.Order.{round_mono}
 use Rattle.numbers.proofs.Order.{Cmp, cmp}
-use Rattle.numbers.proofs.Units.{neg-round}
-use Rattle.ieee754.specs.Ieee754.{NearestEven, NearestFraction, tooLarge}
+use Rattle.numbers.proofs.Units.{neg_round}
+use Rattle.ieee754.specs.Ieee754.{NearestEven, NearestFraction, too_large}
 use Rattle.ieee754.proofs.Grid.{Beside, Sides, picked}
 use Rattle.ieee754.proofs.Values as values
 
@@ -32,14 +32,14 @@ module _ (f : Format) (s : Bool) (under over : ℕ → Type 0) (less : (a b : �
   sides : (y : Float) (Y : ℕ) → T (fits f y) → HasValue y s Y (2 ^ low f) → Sides under over Y (nearest q o) (nearest q o * 2 ^ k)
   sides y Y F v = picked under over less greater apart q (2 ^ k) (values.leading k (2 ^ (prec f - 1)) * 2 ^ k) lo hi (values.reach f k q full) Y (values.grid f k y s Y F v) o beside
 
-  pub nearest-kept : NearestEven f s under over (units f s (nearest q o) k)
-  nearest-kept = record {
-    held = values.units-held f s (nearest q o) k few fine;
+  pub nearest_kept : NearestEven f s under over (units f s (nearest q o) k)
+  nearest_kept = record {
+    held = values.units_held f s (nearest q o) k few fine;
     size = nearest q o * 2 ^ k;
     is = units_val f s (nearest q o) k fine;
     below = λ y Y F v. (sides y Y F v).below;
     above = λ y Y F v. (sides y Y F v).above;
-    even = λ y Y F v n a b. values.last-digit f s (nearest q o) k few fine all_digits ∙ (sides y Y F v).even n a b;
+    even = λ y Y F v n a b. values.last_digit f s (nearest q o) k few fine all_digits ∙ (sides y Y F v).even n a b;
   }
 
 -- ---- a fraction a / c, in units n / c
@@ -109,13 +109,13 @@ module _ (f : Format) (s : Bool) (n c : ℕ) (C : 0 < c) where
 
       yes : (p r n u : ℕ) → p + r ≡ n → r * 2 < u → 2 * n ≤ 2 * p + u
       yes p r n u e h = omega arith
-  beside Ordering.eq h = (subst (λ (z : ℕ). z ≤ 2 * n) (sym middle) (low-side (q * U) (n % U) n U sum h), subst (λ (z : ℕ). 2 * n ≤ z) (sym middle) (high-side (q * U) (n % U) n U sum h))
+  beside Ordering.eq h = (subst (λ (z : ℕ). z ≤ 2 * n) (sym middle) (low_side (q * U) (n % U) n U sum h), subst (λ (z : ℕ). 2 * n ≤ z) (sym middle) (high_side (q * U) (n % U) n U sum h))
     where
-      low-side : (p r n u : ℕ) → p + r ≡ n → r * 2 ≡ u → 2 * p + u ≤ 2 * n
-      low-side p r n u e h = omega arith
+      low_side : (p r n u : ℕ) → p + r ≡ n → r * 2 ≡ u → 2 * p + u ≤ 2 * n
+      low_side p r n u e h = omega arith
 
-      high-side : (p r n u : ℕ) → p + r ≡ n → r * 2 ≡ u → 2 * n ≤ 2 * p + u
-      high-side p r n u e h = omega arith
+      high_side : (p r n u : ℕ) → p + r ≡ n → r * 2 ≡ u → 2 * n ≤ 2 * p + u
+      high_side p r n u e h = omega arith
   beside Ordering.gt h = (subst (λ (z : ℕ). z ≤ 2 * n) (sym middle) (yes (q * U) (n % U) n U sum h), λ g. no (q * U) (n % U) n U sum h (subst (λ (z : ℕ). 2 * n ≤ z) middle g))
     where
       yes : (p r n u : ℕ) → p + r ≡ n → u < r * 2 → 2 * p + u ≤ 2 * n
@@ -136,8 +136,8 @@ module _ (f : Format) (s : Bool) (n c : ℕ) (C : 0 < c) where
   small : q < 2 ^ prec f
   small = lt_of_le_of_lt (le_of_eq cut) (kept-lt (prec f) (n / c))
 
-  pub kept-nearest : nearest q o * 2 ^ k < 2 ^ (low f + suc (emax f)) → NearestEven f s (λ (M : ℕ). M * c ≤ 2 * n) (λ (M : ℕ). 2 * n ≤ M * c) (units f s (nearest q o) k)
-  kept-nearest fine = nearest-kept f s under over (λ a b h g. le_trans (mul-le-mul_right c h) g) (λ a b h g. le_trans g (mul-le-mul_right c h))
+  pub kept_nearest : nearest q o * 2 ^ k < 2 ^ (low f + suc (emax f)) → NearestEven f s (λ (M : ℕ). M * c ≤ 2 * n) (λ (M : ℕ). 2 * n ≤ M * c) (units f s (nearest q o) k)
+  kept_nearest fine = nearest_kept f s under over (λ a b h g. le_trans (mul-le-mul_right c h) g) (λ a b h g. le_trans g (mul-le-mul_right c h))
       (λ a b h g l. lt_irrefl (a * c) (lt_of_lt_of_le (mul-lt-mul_of_pos_right h C) (le_trans l g))) q k lo hi full small o (beside o (cmp (n % U * 2) U)) fine
 
   -- below half a step past the largest value it stays finite
@@ -152,56 +152,56 @@ module _ (f : Format) (s : Bool) (n c : ℕ) (C : 0 < c) where
       go binary64 z h = omega arith
 
   -- the step up from the largest kept number is taken only from half a step on
-  step-up : (w : Ordering) → Cmp w (n % U * 2) U → suc q ≤ nearest q w → U ≤ n % U * 2
-  step-up Ordering.lt h l = absurd (go q l)
+  step_up : (w : Ordering) → Cmp w (n % U * 2) U → suc q ≤ nearest q w → U ≤ n % U * 2
+  step_up Ordering.lt h l = absurd (go q l)
     where
       go : (q : ℕ) → suc q ≤ q → ⊥
       go q l = omega arith
-  step-up Ordering.eq h l = le_of_eq (sym h)
-  step-up Ordering.gt h l = le_of_lt h
+  step_up Ordering.eq h l = le_of_eq (sym h)
+  step_up Ordering.gt h l = le_of_lt h
 
-  module _ (below : n < tooLarge f * 2 ^ low f * c) where
+  module _ (below : n < too_large f * 2 ^ low f * c) where
     abbrev E : ℕ
     E = low f + suc (emax f)
 
-    last-place : (g : Format) → low g + suc (emax g) - prec g ≡ suc (emax g - prec g + low g)
-    last-place binary32 = refl
-    last-place binary64 = refl
+    last_place : (g : Format) → low g + suc (emax g) - prec g ≡ suc (emax g - prec g + low g)
+    last_place binary32 = refl
+    last_place binary64 = refl
 
-    in-range : (g : Format) → tooLarge g * 2 ^ low g ≤ 2 ^ (low g + suc (emax g))
-    in-range binary32 = lit≤ tt
-    in-range binary64 = lit≤ tt
+    in_range_lem : (g : Format) → too_large g * 2 ^ low g ≤ 2 ^ (low g + suc (emax g))
+    in_range_lem binary32 = lit≤ tt
+    in_range_lem binary64 = lit≤ tt
 
     covered : (g : Format) → prec g + (low g + suc (emax g) - prec g) ≡ low g + suc (emax g)
     covered binary32 = refl
     covered binary64 = refl
 
     digits_le : size (n / c) ≤ E
-    digits_le = size-le (n / c) E ((div-lt_iff_lt-mul C).1 (lt_of_lt_of_le below (mul-le-mul_right c (in-range f))))
+    digits_le = size-le (n / c) E ((div-lt_iff_lt-mul C).1 (lt_of_lt_of_le below (mul-le-mul_right c (in_range_lem f))))
 
     top : size (n / c) ≡ E → 2 ^ E ≤ nearest q o * 2 ^ k → ⊥
     top e g =
         let h = 2 ^ (emax f - prec f + low f) in
         let P = 2 ^ prec f in
         let ke : k ≡ E - prec f = ap (λ (z : ℕ). z - prec f) e in
-        let two-h : 2 ^ k ≡ h * 2 = ap (λ (z : ℕ). 2 ^ z) (ke ∙ last-place f) ∙ pow-suc 2 (emax f - prec f + low f) in
+        let two-h : 2 ^ k ≡ h * 2 = ap (λ (z : ℕ). 2 ^ z) (ke ∙ last_place f) ∙ pow-suc 2 (emax f - prec f + low f) in
         let all : P * 2 ^ k ≡ 2 ^ E = sym (pow-add 2 (prec f) k) ∙ ap (λ (z : ℕ). 2 ^ z) (ap (λ (z : ℕ). prec f + z) ke ∙ covered f) in
         let reached : P ≤ nearest q o = le_of_mul-le-mul_right (le_trans (le_of_eq all) g) (pow_pos k) in
-        let u : U ≤ n % U * 2 = step-up o (cmp (n % U * 2) U) (le_trans small reached) in
+        let u : U ≤ n % U * 2 = step_up o (cmp (n % U * 2) U) (le_trans small reached) in
         let p : suc q ≡ P = same (suc q) P small (le_trans reached (nearest-le q o)) in
-        let T2 : tooLarge f * 2 ^ low f * c * 2 ≡ 2 * (q * U) + U =
+        let T2 : too_large f * 2 ^ low f * c * 2 ≡ 2 * (q * U) + U =
         ap (λ (z : ℕ). z * c * 2) (mul_assoc (2 ^ suc (prec f) - 1) (2 ^ (emax f - prec f)) (2 ^ low f) ∙ ap (λ (z : ℕ). (2 ^ suc (prec f) - 1) * z) (sym (pow-add 2 (emax f - prec f) (low f))))
-        ∙ ap (λ (z : ℕ). z * h * c * 2) (ap (λ (z : ℕ). z - 1) (pow-suc 2 (prec f)) ∙ odd-one P q p)
+        ∙ ap (λ (z : ℕ). z * h * c * 2) (ap (λ (z : ℕ). z - 1) (pow-suc 2 (prec f)) ∙ odd_one P q p)
         ∙ regroup (2 * q + 1) h c
         ∙ ap (λ (z : ℕ). (2 * q + 1) * (c * z)) (sym two-h)
         ∙ add-mul (2 * q) 1 U ∙ spread q U in
-        clash n (tooLarge f * 2 ^ low f * c) (q * U) (n % U) U sum below T2 u
+        clash n (too_large f * 2 ^ low f * c) (q * U) (n % U) U sum below T2 u
       where
         same : (a b : ℕ) → a ≤ b → b ≤ a → a ≡ b
         same a b h g = omega arith
 
-        odd-one : (P q : ℕ) → suc q ≡ P → P * 2 - 1 ≡ 2 * q + 1
-        odd-one P q e = omega arith
+        odd_one : (P q : ℕ) → suc q ≡ P → P * 2 - 1 ≡ 2 * q + 1
+        odd_one P q e = omega arith
 
         regroup : (a h c : ℕ) → a * h * c * 2 ≡ a * (c * (h * 2))
         regroup a h c = mul_assoc (a * h) c 2 ∙ mul_assoc a h (c * 2) ∙ ap (λ (z : ℕ). a * z) (mul_left_comm h c 2)
@@ -224,10 +224,10 @@ module _ (f : Format) (s : Bool) (n c : ℕ) (C : 0 < c) where
         go : (z a b : ℕ) → z < a + suc b → z ≤ a + b
         go z a b h = omega arith
 
-pub round-nearest : (f : Format) (s : Bool) (a c : ℕ) → 0 < c → a < tooLarge f * c → NearestFraction f s a c (round f s a c)
-round-nearest f s a c C h =
+pub round_nearest : (f : Format) (s : Bool) (a c : ℕ) → 0 < c → a < too_large f * c → NearestFraction f s a c (round f s a c)
+round_nearest f s a c C h =
     let n = a * 2 ^ low f in
-    subst (λ (x : Float). NearestFraction f s a c x) (sym (round_is f s a c)) (kept-nearest f s n c C (fine f s n c C (lt_of_lt_of_le (mul-lt-mul_of_pos_right h (pow_pos (low f))) (le_of_eq (mul_right_comm (tooLarge f) c (2 ^ low f))))))
+    subst (λ (x : Float). NearestFraction f s a c x) (sym (round_is f s a c)) (kept_nearest f s n c C (fine f s n c C (lt_of_lt_of_le (mul-lt-mul_of_pos_right h (pow_pos (low f))) (le_of_eq (mul_right_comm (too_large f) c (2 ^ low f))))))
 
 -- ---- from half a step past the largest value on, an infinity
 infinite : (x : Float) → T (le (inf false) x) → x ≡ inf false
@@ -237,17 +237,17 @@ infinite (inf true) h = absurd h
 infinite (inf false) h = refl
 infinite (fin s m e) h = absurd h
 
-first-infinite : (f : Format) → round f false (tooLarge f) 1 ≡ inf false
+first_infinite : (f : Format) → round f false (too_large f) 1 ≡ inf false
 unfolding round
-first-infinite binary32 = refl
-first-infinite binary64 = refl
+first_infinite binary32 = refl
+first_infinite binary64 = refl
 
-too_large : (f : Format) (a c : ℕ) → 0 < c → tooLarge f * c ≤ a → round f false a c ≡ inf false
-too_large f a c C h = infinite (round f false a c) (subst (λ (x : Float). T (le x (round f false a c))) (first-infinite f) (round_mono f (tooLarge f) 1 a c (zero-lt-suc 0) C (le_trans h (le_of_eq (sym (mul-one a))))))
+too_large_lem : (f : Format) (a c : ℕ) → 0 < c → too_large f * c ≤ a → round f false a c ≡ inf false
+too_large_lem f a c C h = infinite (round f false a c) (subst (λ (x : Float). T (le x (round f false a c))) (first_infinite f) (round_mono f (too_large f) 1 a c (zero-lt-suc 0) C (le_trans h (le_of_eq (sym (mul-one a))))))
 
-pub round-infinite : (f : Format) (s : Bool) (a c : ℕ) → 0 < c → tooLarge f * c ≤ a → round f s a c ≡ inf s
+pub round_infinite : (f : Format) (s : Bool) (a c : ℕ) → 0 < c → too_large f * c ≤ a → round f s a c ≡ inf s
 unfolding neg
-round-infinite f false a c C h = too_large f a c C h
-round-infinite f true a c C h = sym (neg-round f a c) ∙ ap neg (too_large f a c C h)
+round_infinite f false a c C h = too_large_lem f a c C h
+round_infinite f true a c C h = sym (neg_round f a c) ∙ ap neg (too_large_lem f a c C h)
 
 -- Assumes nothing.

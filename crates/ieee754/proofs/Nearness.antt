@@ -12,20 +12,20 @@ use lib.Ieee.Digits.{size-lt, size-le}
 use lib.Ieee.Fits.{two, two-le_pos, nearest-le}
 use lib.Ieee.Exact.{HasValue}
 use lib.Ieee.Positive.{positive}
-use Rattle.roots.specs.Root.{IsRoot, Nearest, root, nearestRootAt, rootOf, rootOfWhole, sqrtOf}
+use Rattle.roots.specs.Root.{IsRoot, Nearest, root, nearest_root_at, root_of, root_of_whole, sqrt_of}
 use Rattle.roots.specs.Length.{squares, length_of}
 use Rattle.numbers.proofs.Order.{Cmp, cmp}
-use Rattle.roots.proofs.Roots.{root_is, twice-square}
-use Rattle.roots.proofs.RootOf.{square, square-back, sqrt-at, root-lt}
-use Rattle.to_f32.proofs.Pattern.{digitsOf, value}
+use Rattle.roots.proofs.Roots.{root_is, twice_square}
+use Rattle.roots.proofs.RootOf.{square, square_back, sqrt_at, root_lt}
+use Rattle.to_f32.proofs.Pattern.{digits_of, value}
 use Rattle.roots.proofs.Laid.{revalue}
-use Rattle.ieee754.proofs.Values.{in-range}
+use Rattle.ieee754.proofs.Values.{in_range_lem}
 use Rattle.ieee754.specs.Ieee754.{NearestRoot, SquareRoot, WholeRoot, Length}
 use Rattle.ieee754.proofs.Grid.{Beside}
-use Rattle.ieee754.proofs.NearestEven.{nearest-kept}
+use Rattle.ieee754.proofs.NearestEven.{nearest_kept}
 
 pub not_more : (a b : ℕ) → b * b ≤ a * a → b ≤ a
-not_more a b h = le_of_suc-le-suc (square-back b (suc a) (lt_of_le_of_lt h (go a)))
+not_more a b h = le_of_suc-le-suc (square_back b (suc a) (lt_of_le_of_lt h (go a)))
   where
     go : (a : ℕ) → a * a < suc a * suc a
     go a = omega arith
@@ -53,7 +53,7 @@ module _ (f : Format) (N : ℕ) where
   hi = lt_of_lt_of_le ((div-lt_iff_lt-mul (pow_pos (2 * k))).0 i.high) (le_of_eq (sym (scale (q + 1))))
 
   four : (C : ℕ) → (C + C) * (C + C) ≡ 4 * (C * C)
-  four C = ap (λ (z : ℕ). z * z) (go C) ∙ twice-square C
+  four C = ap (λ (z : ℕ). z * z) (go C) ∙ twice_square C
     where
       go : (C : ℕ) → C + C ≡ 2 * C
       go C = omega arith
@@ -70,7 +70,7 @@ module _ (f : Format) (N : ℕ) where
 
   -- where digits are dropped, q has all of them
   full : 0 < k → 2 ^ (prec f - 1) ≤ q
-  full h = go (2 ^ (prec f - 1)) q (square-back (2 ^ (prec f - 1)) (q + 1) (lt_of_le_of_lt ((le-div_iff_mul-le (pow_pos (2 * k))).1 reach) i.high))
+  full h = go (2 ^ (prec f - 1)) q (square_back (2 ^ (prec f - 1)) (q + 1) (lt_of_le_of_lt ((le-div_iff_mul-le (pow_pos (2 * k))).1 reach) i.high))
     where
       go : (p r : ℕ) → p < r + 1 → p ≤ r
       go p r h = omega arith
@@ -94,9 +94,9 @@ module _ (f : Format) (N : ℕ) where
       go : (z p : ℕ) → z ≤ p + (z - p)
       go z p = omega arith
 
-  q-lt : q < 2 ^ prec f
-  q-lt = lt_of_not-le (λ (g : 2 ^ prec f ≤ q). lt_irrefl (root N + 1) (lt_of_le_of_lt (go (root N) (2 ^ (prec f + k)) few)
-      (lt_of_le_of_lt (le_trans (le_of_eq (pow-add 2 (prec f) k)) (mul-le-mul_right u g)) (square-back (q * u) (root N + 1) (lt_of_le_of_lt lo (root_is N).high)))))
+  q_lt : q < 2 ^ prec f
+  q_lt = lt_of_not-le (λ (g : 2 ^ prec f ≤ q). lt_irrefl (root N + 1) (lt_of_le_of_lt (go (root N) (2 ^ (prec f + k)) few)
+      (lt_of_le_of_lt (le_trans (le_of_eq (pow-add 2 (prec f) k)) (mul-le-mul_right u g)) (square_back (q * u) (root N + 1) (lt_of_le_of_lt lo (root_is N).high)))))
     where
       go : (r p : ℕ) → r < p → r + 1 ≤ p
       go r p h = omega arith
@@ -105,7 +105,7 @@ module _ (f : Format) (N : ℕ) where
   o = compare (4 * N) ((2 * q + 1) * (2 * q + 1) * 2 ^ (2 * k))
 
   fine : size (root N) ≤ low f + emax f → nearest q o * u < 2 ^ (low f + suc (emax f))
-  fine h = lt_of_le_of_lt (mul-le-mul_right u (le_trans (nearest-le q o) q-lt)) (lt_of_le_of_lt (le_of_eq (sym (pow-add 2 (prec f) k))) (pow-lt (go f (size (root N)) h)))
+  fine h = lt_of_le_of_lt (mul-le-mul_right u (le_trans (nearest-le q o) q_lt)) (lt_of_le_of_lt (le_of_eq (sym (pow-add 2 (prec f) k))) (pow-lt (go f (size (root N)) h)))
     where
       go : (g : Format) (z : ℕ) → z ≤ low g + emax g → prec g + (z - prec g) < low g + suc (emax g)
       go binary32 z h = omega arith
@@ -116,44 +116,44 @@ module _ (f : Format) (N : ℕ) where
   beside Ordering.eq m h = (le_of_eq (sym h), le_of_eq h)
   beside Ordering.gt m h = (le_of_lt h, λ g. lt_irrefl m (lt_of_lt_of_le h g))
 
-  pub root-nearest : size (root N) ≤ low f + emax f → NearestRoot f N (rootOf f N)
-  unfolding rootOf nearestRootAt
-  root-nearest h = nearest-kept f false (λ (M : ℕ). M * M ≤ 4 * N) (λ (M : ℕ). 4 * N ≤ M * M) (λ a b h g. le_trans (mul-le-mul h h) g) (λ a b h g. le_trans g (mul-le-mul h h))
+  pub root_nearest : size (root N) ≤ low f + emax f → NearestRoot f N (root_of f N)
+  unfolding root_of nearest_root_at
+  root_nearest h = nearest_kept f false (λ (M : ℕ). M * M ≤ 4 * N) (λ (M : ℕ). 4 * N ≤ M * M) (λ a b h g. le_trans (mul-le-mul h h) g) (λ a b h g. le_trans g (mul-le-mul h h))
       (λ a b h g l. lt_irrefl a (lt_of_lt_of_le h (not_more a b (le_trans l g)))) q k
       (le_trans (le_of_eq (four (q * u))) (scaled (q * u * (q * u)) N lo))
       (le_trans (scaled N ((q + 1) * u * ((q + 1) * u)) (le_of_lt hi)) (le_of_eq (sym (four ((q + 1) * u)))))
-      full q-lt o (subst (λ (m : ℕ). Beside o (m ≤ 4 * N) (4 * N ≤ m)) middle (beside o ((2 * q + 1) * (2 * q + 1) * 2 ^ (2 * k)) (cmp (4 * N) ((2 * q + 1) * (2 * q + 1) * 2 ^ (2 * k))))) (fine h)
+      full q_lt o (subst (λ (m : ℕ). Beside o (m ≤ 4 * N) (4 * N ≤ m)) middle (beside o ((2 * q + 1) * (2 * q + 1) * 2 ^ (2 * k)) (cmp (4 * N) ((2 * q + 1) * (2 * q + 1) * 2 ^ (2 * k))))) (fine h)
 
 -- ---- the theorems
-root-digits : (f : Format) (n : ℕ) → n < 2 ^ (suc (emax f) + low f) → size (root (n * 2 ^ low f)) ≤ low f + emax f
-root-digits f n h = size-le (root (n * 2 ^ low f)) (low f + emax f) (square-back (root (n * 2 ^ low f)) (2 ^ (low f + emax f))
+root_digits : (f : Format) (n : ℕ) → n < 2 ^ (suc (emax f) + low f) → size (root (n * 2 ^ low f)) ≤ low f + emax f
+root_digits f n h = size-le (root (n * 2 ^ low f)) (low f + emax f) (square_back (root (n * 2 ^ low f)) (2 ^ (low f + emax f))
     (lt_of_le_of_lt (root_is (n * 2 ^ low f)).low (lt_of_lt_of_le (shl_lt (suc (emax f) + low f) (low f) h) (le_trans (pow_mono (go f)) (le_of_eq (square (low f + emax f)))))))
   where
     go : (g : Format) → suc (emax g) + low g + low g ≤ 2 * (low g + emax g)
     go binary32 = lit≤ tt
     go binary64 = lit≤ tt
 
-above : (f : Format) (x : Float) → T (fits f x) → T (positive x) → (n : ℕ) × HasValue x false n (2 ^ (2 * low f)) × NearestRoot f n (sqrtOf f x)
+above : (f : Format) (x : Float) → T (fits f x) → T (positive x) → (n : ℕ) × HasValue x false n (2 ^ (2 * low f)) × NearestRoot f n (sqrt_of f x)
 above f x F p =
-    let n : ℕ = digitsOf f (to_bits f x / hid f) (to_bits f x % hid f) * 2 ^ (to_bits f x / hid f - 1) in
+    let n : ℕ = digits_of f (to_bits f x / hid f) (to_bits f x % hid f) * 2 ^ (to_bits f x / hid f - 1) in
     let v : HasValue x false n (2 ^ low f) = value f x F p in
     let N : ℕ = n * 2 ^ low f in
     let w : HasValue x false N (2 ^ (2 * low f)) = revalue x false n (2 ^ low f) N (2 ^ (2 * low f)) (pow_pos (low f)) v (ap (λ (z : ℕ). n * z) (square (low f)) ∙ sym (mul_assoc n (2 ^ low f) (2 ^ low f))) in
-    (N, w, subst (λ (z : Float). NearestRoot f N z) (sym (sqrt-at f x N p w)) (root-nearest f N (root-digits f n (in-range f x false n F v))))
+    (N, w, subst (λ (z : Float). NearestRoot f N z) (sym (sqrt_at f x N p w)) (root_nearest f N (root_digits f n (in_range_lem f x false n F v))))
 
 -- no value of the format lies nearer
-pub nearest-root : (f : Format) (x : Float) → T (fits f x) → T (positive x) → Nearest f x (sqrtOf f x)
-nearest-root f x F p =
+pub nearest_root_lem : (f : Format) (x : Float) → T (fits f x) → T (positive x) → Nearest f x (sqrt_of f x)
+nearest_root_lem f x F p =
     let a = above f x F p in
     record { square = a.0; root = a.2.size; of = a.1; is = a.2.is; below = a.2.below; above = a.2.above }
 
-pub square-root : (f : Format) → SquareRoot f
-unfolding sqrtOf
-square-root f = record { above = above f; zero = λ s. refl; below = λ m e. refl; infinity = refl; minus-infinity = refl; no_number = refl }
+pub square_root : (f : Format) → SquareRoot f
+unfolding sqrt_of
+square_root f = record { above = above f; zero = λ s. refl; below = λ m e. refl; infinity = refl; minus_infinity = refl; no_number = refl }
 
-pub whole-root : (f : Format) → WholeRoot f
-unfolding rootOfWhole
-whole-root f n h = root-nearest f (n * 2 ^ (2 * low f)) (size-le (root (n * 2 ^ (2 * low f))) (low f + emax f) (lt_of_lt_of_le (root-lt (n * 2 ^ (2 * low f)) (32 + low f) (lt_of_lt_of_le (shl_lt 64 (2 * low f) h) (pow_mono (go (low f))))) (pow_mono (go2 f))))
+pub whole_root : (f : Format) → WholeRoot f
+unfolding root_of_whole
+whole_root f n h = root_nearest f (n * 2 ^ (2 * low f)) (size-le (root (n * 2 ^ (2 * low f))) (low f + emax f) (lt_of_lt_of_le (root_lt (n * 2 ^ (2 * low f)) (32 + low f) (lt_of_lt_of_le (shl_lt 64 (2 * low f) h) (pow_mono (go (low f))))) (pow_mono (go2 f))))
   where
     go : (l : ℕ) → 64 + 2 * l ≤ 2 * (32 + l)
     go l = omega arith
@@ -162,9 +162,9 @@ whole-root f n h = root-nearest f (n * 2 ^ (2 * low f)) (size-le (root (n * 2 ^ 
     go2 binary32 = lit≤ tt
     go2 binary64 = lit≤ tt
 
-pub length-root : Length
+pub length_root : Length
 unfolding length_of
-length-root x y g h = whole-root binary32 (squares (nat_abs x) (nat_abs y)) (go (nat_abs x * nat_abs x) (nat_abs y * nat_abs y) (mul-le-mul g g) (mul-le-mul h h))
+length_root x y g h = whole_root binary32 (squares (nat_abs x) (nat_abs y)) (go (nat_abs x * nat_abs x) (nat_abs y * nat_abs y) (mul-le-mul g g) (mul-le-mul h h))
   where
     go : (a b : ℕ) → a ≤ 4611686018427387904 → b ≤ 4611686018427387904 → a + b < 18446744073709551616
     go a b g h = omega arith

@@ -13,15 +13,15 @@ use lib.Ieee.Digits.{size-lt, size-le, size_reaches}
 use lib.Ieee.Fits.{two, two-le_pos, and_l, and_r, odd-fits, cond-fits, inf-fits}
 use lib.Ieee.Exact.{HasValue, units_val}
 use Rattle.wholes.proofs.Wholes.{digits, extent}
-use Rattle.numbers.proofs.Powers.{pow-back}
+use Rattle.numbers.proofs.Powers.{pow_back}
 use Rattle.numbers.proofs.Near.{size_is}
 use Rattle.numbers.proofs.Unique.{pattern, bits_are}
 use Rattle.ieee754.proofs.Grid.{Grid}
 
 -- ---- a value that fits is m * 2 ^ j of the smallest ones, with few digits
-low-place : (f : Format) (s : Bool) (m : ℕ) (e : ℤ) → T (fits f (fin s (suc m) e)) → down e ≤ 2 ^ low f
+low_place : (f : Format) (s : Bool) (m : ℕ) (e : ℤ) → T (fits f (fin s (suc m) e)) → down e ≤ 2 ^ low f
 unfolding fits
-low-place f s m e F =
+low_place f s m e F =
     let a : Bool = eqb (suc m % 2) 1 && ltb (suc m) (2 ^ prec f) in
     leb→le (down e) (2 ^ low f) (and_r a (leb (down e) (2 ^ low f)) (and_l (a && leb (down e) (2 ^ low f)) (ltb (suc m * up e) (2 ^ suc (emax f) * down e)) F))
 
@@ -35,17 +35,17 @@ place f (fin s zero (negsuc a)) t Y F v = (0, 0, eq_of_mul-eq-mul_right (2 ^ suc
     go l d = omega arith
 place f (fin s (suc m) (negsuc a)) t Y F v =
     let j = low f - suc a in
-    let e : 2 ^ low f ≡ 2 ^ j * 2 ^ suc a = ap (λ (z : ℕ). 2 ^ z) (go (low f) (suc a) (pow-back (suc a) (low f) (low-place f s m (negsuc a) F))) ∙ pow-add 2 j (suc a) in
+    let e : 2 ^ low f ≡ 2 ^ j * 2 ^ suc a = ap (λ (z : ℕ). 2 ^ z) (go (low f) (suc a) (pow_back (suc a) (low f) (low_place f s m (negsuc a) F))) ∙ pow-add 2 j (suc a) in
     (suc m, j, eq_of_mul-eq-mul_right (2 ^ suc a) (pow_pos (suc a)) Y (suc m * 2 ^ j) (sym v.1 ∙ ap (λ (z : ℕ). z * 2 ^ low f) (mul-one (suc m)) ∙ ap (λ (z : ℕ). suc m * z) e ∙ sym (mul_assoc (suc m) (2 ^ j) (2 ^ suc a))), digits f s (suc m) (negsuc a) F)
   where
     go : (l b : ℕ) → b ≤ l → l ≡ l - b + b
     go l b h = omega arith
 
 -- and below the format's end
-pub in-range : (f : Format) (x : Float) (s : Bool) (n : ℕ) → T (fits f x) → HasValue x s n (2 ^ low f) → n < 2 ^ (suc (emax f) + low f)
-in-range f nan t n F v = absurd v
-in-range f (inf s) t n F v = absurd v
-in-range f (fin s m e) t n F v =
+pub in_range_lem : (f : Format) (x : Float) (s : Bool) (n : ℕ) → T (fits f x) → HasValue x s n (2 ^ low f) → n < 2 ^ (suc (emax f) + low f)
+in_range_lem f nan t n F v = absurd v
+in_range_lem f (inf s) t n F v = absurd v
+in_range_lem f (fin s m e) t n F v =
     lt_of_not-le (λ (g : 2 ^ (suc (emax f) + low f) ≤ n). lt_irrefl (n * down e) (lt_of_lt_of_le (lt_of_le_of_lt (le_of_eq (sym v.1)) (mul-lt-mul_of_pos_right (extent f s m e F) (pow_pos (low f))))
     (le_trans (le_of_eq (mul_right_comm (2 ^ suc (emax f)) (down e) (2 ^ low f) ∙ ap (λ (z : ℕ). z * down e) (sym (pow-add 2 (suc (emax f)) (low f))))) (mul-le-mul_right (down e) g))))
 
@@ -94,8 +94,8 @@ normal f y s Y F v = go (size Y - prec f) refl
           full = λ h. le_of_mul-le-mul_right (le_trans (le_of_eq (sym (pow-add 2 (prec f - 1) k))) (le_trans (size_reaches Y (prec f - 1 + k) (before (prec f) k (size Y) (two-le_pos (prec f) (two f)) z)) (le_of_eq w))) (pow_pos k);
         }
 
-on-grid : (f : Format) (k m j : ℕ) → m < 2 ^ prec f → Grid (2 ^ k) (2 ^ (prec f - 1) * 2 ^ k) (m * 2 ^ j)
-on-grid f k m j h = go (leb k j) (leb→le k j) (nleb→lt k j)
+on_grid : (f : Format) (k m j : ℕ) → m < 2 ^ prec f → Grid (2 ^ k) (2 ^ (prec f - 1) * 2 ^ k) (m * 2 ^ j)
+on_grid f k m j h = go (leb k j) (leb→le k j) (nleb→lt k j)
   where
     back : (k j : ℕ) → k ≤ j → j ≡ j - k + k
     back k j h = omega arith
@@ -124,13 +124,13 @@ pub grid : (f : Format) (k : ℕ) (y : Float) (s : Bool) (Y : ℕ) → T (fits f
 grid f zero y s Y F v = inl (Y, sym (mul-one Y))
 grid f (suc j) y s Y F v =
     let p = place f y s Y F v in
-    subst (λ (z : ℕ). Grid (2 ^ suc j) (2 ^ (prec f - 1) * 2 ^ suc j) z) (sym p.2) (on-grid f (suc j) p.0 p.1 p.3)
+    subst (λ (z : ℕ). Grid (2 ^ suc j) (2 ^ (prec f - 1) * 2 ^ suc j) z) (sym p.2) (on_grid f (suc j) p.0 p.1 p.3)
 
 -- ---- a number of 2 ^ k units, as a value
 module _ (f : Format) (s : Bool) (q k : ℕ) (few : q ≤ 2 ^ prec f) (fine : q * 2 ^ k < 2 ^ (low f + suc (emax f))) where
-  pub units-held : T (fits f (units f s q k))
+  pub units_held : T (fits f (units f s q k))
   unfolding units
-  units-held = cond-fits f (ltb (q * 2 ^ k) (2 ^ (low f + suc (emax f)))) (odd (suc (prec f)) s q k (low f)) (inf s) (odd-fits f (suc (prec f)) s q k (lt_of_le_of_lt few (pow-lt (go (prec f)))) few fine) (inf-fits f s)
+  units_held = cond-fits f (ltb (q * 2 ^ k) (2 ^ (low f + suc (emax f)))) (odd (suc (prec f)) s q k (low f)) (inf s) (odd-fits f (suc (prec f)) s q k (lt_of_le_of_lt few (pow-lt (go (prec f)))) few fine) (inf-fits f s)
     where
       go : (p : ℕ) → p < suc p
       go p = omega arith
@@ -194,25 +194,25 @@ module _ (f : Format) (s : Bool) (q k : ℕ) (few : q ≤ 2 ^ prec f) (fine : q 
         go2 : (n : ℕ) → n < suc n
         go2 n = omega arith
 
-    top-half : q ≡ 2 ^ prec f → q * 2 ^ k ≡ 2 ^ (prec f - 1) * 2 ^ suc k
-    top-half e = ap (λ (z : ℕ). z * 2 ^ k) e ∙ sym (pow-add 2 (prec f) k) ∙ ap (λ (z : ℕ). 2 ^ z) (go (prec f) k (two-le_pos (prec f) (two f))) ∙ pow-add 2 (prec f - 1) (suc k)
+    top_half : q ≡ 2 ^ prec f → q * 2 ^ k ≡ 2 ^ (prec f - 1) * 2 ^ suc k
+    top_half e = ap (λ (z : ℕ). z * 2 ^ k) e ∙ sym (pow-add 2 (prec f) k) ∙ ap (λ (z : ℕ). 2 ^ z) (go (prec f) k (two-le_pos (prec f) (two f))) ∙ pow-add 2 (prec f - 1) (suc k)
       where
         go : (p k : ℕ) → 0 < p → p + k ≡ p - 1 + suc k
         go p k h = omega arith
 
     -- 2 ^ prec and its half are even
-    powers-even : (g : Format) → 2 ^ (prec g - 1) % 2 ≡ 2 ^ prec g % 2
-    powers-even binary32 = refl
-    powers-even binary64 = refl
+    powers_even : (g : Format) → 2 ^ (prec g - 1) % 2 ≡ 2 ^ prec g % 2
+    powers_even binary32 = refl
+    powers_even binary64 = refl
 
-    kept-digit : kept % 2 ≡ q % 2
-    kept-digit = elim (eq-or-lt_of_le few) [
-      | inl e ↦ ap (λ (z : ℕ). z % 2) (at (suc k) (2 ^ (prec f - 1)) (all e) (top-half e)) ∙ powers-even f ∙ ap (λ (z : ℕ). z % 2) (sym e)
+    kept_digit : kept % 2 ≡ q % 2
+    kept_digit = elim (eq-or-lt_of_le few) [
+      | inl e ↦ ap (λ (z : ℕ). z % 2) (at (suc k) (2 ^ (prec f - 1)) (all e) (top_half e)) ∙ powers_even f ∙ ap (λ (z : ℕ). z % 2) (sym e)
       | inr l ↦ ap (λ (z : ℕ). z % 2) (at k q (none k refl l full) refl)
     ]
 
     -- the last digit of the pattern is that of q
-    pub last-digit : to_bits f (units f s q k) % 2 ≡ q % 2
-    last-digit = ap (λ (z : ℕ). z % 2) bits ∙ weights f s (size (q * 2 ^ k) - prec f) kept ∙ kept-digit
+    pub last_digit : to_bits f (units f s q k) % 2 ≡ q % 2
+    last_digit = ap (λ (z : ℕ). z % 2) bits ∙ weights f s (size (q * 2 ^ k) - prec f) kept ∙ kept_digit
 
 -- Assumes nothing.

@@ -6,11 +6,11 @@ use Rattle.std.specs.Float.{nan, inf, fin, Format, binary32}
 use Rattle.std.specs.Float.Ieee.{prec, emax, low, up, down, fits, to_bits, of_int, to_signed, to_unsigned}
 use Rattle.std.specs.Float.Ieee.Exact.{HasValue}
 use Rattle.std.specs.Float.Ieee.Positive.{positive}
-use Rattle.roots.specs.Root.{sqrtOf, rootOfWhole}
+use Rattle.roots.specs.Root.{sqrt_of, root_of_whole}
 use Rattle.roots.specs.Length.{squares, length_of}
-use Rattle.wholes.specs.Whole.{floorOf, ceilOf, roundOf}
+use Rattle.wholes.specs.Whole.{floor_of, ceil_of, round_of}
 use Rattle.to_f32.specs.Narrow.{narrow}
-use Rattle.kinds.specs.Kind.{cutI64, cutI32, cutU64}
+use Rattle.kinds.specs.Kind.{cut_i64, cut_i32, cut_u64}
 use Rattle.kinds.specs.declared.KindI64.TheVariants as I64
 use Rattle.kinds.specs.declared.KindI32.TheVariants as I32
 use Rattle.kinds.specs.declared.KindU64.TheVariants as U64
@@ -43,23 +43,23 @@ pub record OneNearest (f : Format) : Type 0 where
   pub root : (n : ℕ) (r t : Float) → NearestRoot f n r → NearestRoot f n t → r ≡ t
 
 -- half a step past the format's largest value: from there on a number has no nearest value, and an infinity stands for it
-abbrev pub tooLarge : Format → ℕ
-tooLarge f = (2 ^ suc (prec f) - 1) * 2 ^ (emax f - prec f)
+abbrev pub too_large : Format → ℕ
+too_large f = (2 ^ suc (prec f) - 1) * 2 ^ (emax f - prec f)
 
 -- ---- the root
 
 -- The square root of every value of the format. A value above zero is n squares of the smallest value, and its root is the nearest value; either zero keeps its sign; below zero there is no number.
 pub record SquareRoot (f : Format) : Type 0 where
-  pub above : (x : Float) → T (fits f x) → T (positive x) → (n : ℕ) × HasValue x false n (2 ^ (2 * low f)) × NearestRoot f n (sqrtOf f x)
-  pub zero : (s : Bool) → sqrtOf f (fin s 0 (pos 0)) ≡ fin s 0 (pos 0)
-  pub below : (m : ℕ) (e : ℤ) → sqrtOf f (fin true (suc m) e) ≡ nan
-  pub infinity : sqrtOf f (inf false) ≡ inf false
-  pub minus-infinity : sqrtOf f (inf true) ≡ nan
-  pub no_number : sqrtOf f nan ≡ nan
+  pub above : (x : Float) → T (fits f x) → T (positive x) → (n : ℕ) × HasValue x false n (2 ^ (2 * low f)) × NearestRoot f n (sqrt_of f x)
+  pub zero : (s : Bool) → sqrt_of f (fin s 0 (pos 0)) ≡ fin s 0 (pos 0)
+  pub below : (m : ℕ) (e : ℤ) → sqrt_of f (fin true (suc m) e) ≡ nan
+  pub infinity : sqrt_of f (inf false) ≡ inf false
+  pub minus_infinity : sqrt_of f (inf true) ≡ nan
+  pub no_number : sqrt_of f nan ≡ nan
 
 -- the root of a whole number of 64 bits is the nearest value
 abbrev pub WholeRoot : Format → Type 0
-WholeRoot f = (n : ℕ) → n < 2 ^ 64 → NearestRoot f (n * 2 ^ (2 * low f)) (rootOfWhole f n)
+WholeRoot f = (n : ℕ) → n < 2 ^ 64 → NearestRoot f (n * 2 ^ (2 * low f)) (root_of_whole f n)
 
 -- The length of a difference of whole numbers: the f32 nearest to the root of x² + y², the exact sum.
 abbrev pub Length : Type 0
@@ -76,31 +76,31 @@ pub record Floor (s : Bool) (m : ℕ) (e : ℤ) (r : Float) : Type 0 where
   pub size : ℕ
   pub is : HasValue r s size 1
   pub at_most : (signed s size *ℤ pos (down e)) ≤ℤ signed s (m * up e)
-  pub within-one : signed s (m * up e) <ℤ ((signed s size +ℤ pos 1) *ℤ pos (down e))
+  pub within_one : signed s (m * up e) <ℤ ((signed s size +ℤ pos 1) *ℤ pos (down e))
 
 -- its ceiling: r - 1 < x ≤ r
 pub record Ceiling (s : Bool) (m : ℕ) (e : ℤ) (r : Float) : Type 0 where
   pub size : ℕ
   pub is : HasValue r s size 1
   pub at_least : signed s (m * up e) ≤ℤ (signed s size *ℤ pos (down e))
-  pub within-one : ((signed s size -ℤ pos 1) *ℤ pos (down e)) <ℤ signed s (m * up e)
+  pub within_one : ((signed s size -ℤ pos 1) *ℤ pos (down e)) <ℤ signed s (m * up e)
 
 -- R of it, by the magnitude, since the sign stays: x is at most r and a half, r is at most x and a half, and where x is a whole number j and a half, r is j + 1, the one away from zero
 pub record Round (s : Bool) (m : ℕ) (e : ℤ) (r : Float) : Type 0 where
   pub size : ℕ
   pub is : HasValue r s size 1
-  pub x-within : 2 * (m * up e) ≤ (2 * size + 1) * down e
-  pub r-within : 2 * size * down e ≤ 2 * (m * up e) + down e
+  pub x_within : 2 * (m * up e) ≤ (2 * size + 1) * down e
+  pub r_within : 2 * size * down e ≤ 2 * (m * up e) + down e
   pub away : (j : ℕ) → 2 * (m * up e) ≡ (2 * j + 1) * down e → size ≡ j + 1
 
 -- The three of every value of the format: again values of the format; an infinity and a NaN stay.
 pub record WholeParts (f : Format) : Type 0 where
-  pub floor : (s : Bool) (m : ℕ) (e : ℤ) → T (fits f (fin s m e)) → Floor s m e (floorOf f (fin s m e))
-  pub ceil : (s : Bool) (m : ℕ) (e : ℤ) → T (fits f (fin s m e)) → Ceiling s m e (ceilOf f (fin s m e))
-  pub round : (s : Bool) (m : ℕ) (e : ℤ) → T (fits f (fin s m e)) → Round s m e (roundOf f (fin s m e))
-  pub held : (x : Float) → T (fits f (floorOf f x)) × T (fits f (ceilOf f x)) × T (fits f (roundOf f x))
-  pub infinity : (s : Bool) → (floorOf f (inf s) ≡ inf s) × (ceilOf f (inf s) ≡ inf s) × (roundOf f (inf s) ≡ inf s)
-  pub no_number : (floorOf f nan ≡ nan) × (ceilOf f nan ≡ nan) × (roundOf f nan ≡ nan)
+  pub floor : (s : Bool) (m : ℕ) (e : ℤ) → T (fits f (fin s m e)) → Floor s m e (floor_of f (fin s m e))
+  pub ceil : (s : Bool) (m : ℕ) (e : ℤ) → T (fits f (fin s m e)) → Ceiling s m e (ceil_of f (fin s m e))
+  pub round : (s : Bool) (m : ℕ) (e : ℤ) → T (fits f (fin s m e)) → Round s m e (round_of f (fin s m e))
+  pub held : (x : Float) → T (fits f (floor_of f x)) × T (fits f (ceil_of f x)) × T (fits f (round_of f x))
+  pub infinity : (s : Bool) → (floor_of f (inf s) ≡ inf s) × (ceil_of f (inf s) ≡ inf s) × (round_of f (inf s) ≡ inf s)
+  pub no_number : (floor_of f nan ≡ nan) × (ceil_of f nan ≡ nan) × (round_of f nan ≡ nan)
 
 -- ---- conversions
 
@@ -116,7 +116,7 @@ pub record ToSigned {K : Type 0} (exact : ℤ → K) (notNumber below above : K)
   pub over : (m : ℕ) (e : ℤ) (n : ℕ) → Cut m e n → 2 ^ h ≤ n → k (fin false m e) ≡ above
   pub under : (m : ℕ) (e : ℤ) (n : ℕ) → Cut m e n → 2 ^ h < n → k (fin true m e) ≡ below
   pub infinity : k (inf false) ≡ above
-  pub minus-infinity : k (inf true) ≡ below
+  pub minus_infinity : k (inf true) ≡ below
   pub no_number : k nan ≡ notNumber
 
 -- the same of the range from 0 to 2 ^ w - 1: what is above -1 has nothing left of it to be below
@@ -126,29 +126,29 @@ pub record ToUnsigned {K : Type 0} (exact : ℕ → K) (notNumber below above : 
   pub over : (m : ℕ) (e : ℤ) (n : ℕ) → Cut m e n → 2 ^ w ≤ n → k (fin false m e) ≡ above
   pub under : (m : ℕ) (e : ℤ) (n : ℕ) → Cut m e n → 0 < n → k (fin true m e) ≡ below
   pub infinity : k (inf false) ≡ above
-  pub minus-infinity : k (inf true) ≡ below
+  pub minus_infinity : k (inf true) ≡ below
   pub no_number : k nan ≡ notNumber
 
 -- To floats, over the format: `of_int` of lib.Ieee, which u32, u64, i32 and i64 to f32 are, and an f64 made an f32. To whole numbers: Rust's `as`, which is to_signed and to_unsigned of lib.Ieee and saturates,
 -- and the answers by kind.
 pub record Conversions : Type 0 where
   pub whole : (f : Format) (z : ℤ) → nat_abs z ≤ 2 ^ 64 → NearestFraction f (lt_z z (pos 0)) (nat_abs z) 1 (of_int f z)
-  pub narrowed : (f : Format) (s : Bool) (m : ℕ) (e : ℤ) → m * up e < tooLarge f * down e → NearestFraction f s (m * up e) (down e) (narrow f (fin s m e))
-  pub narrowed-large : (f : Format) (s : Bool) (m : ℕ) (e : ℤ) → tooLarge f * down e ≤ m * up e → narrow f (fin s m e) ≡ inf s
-  pub narrowed-infinity : (f : Format) (s : Bool) → narrow f (inf s) ≡ inf s
-  pub narrowed-no-number : (f : Format) → narrow f nan ≡ nan
-  pub as-i64 : ToSigned (λ (z : ℤ). z) (pos 0) (neg_ℤ (pos (2 ^ 63))) (pos (2 ^ 63 - 1)) 63 (to_signed 63)
-  pub as-i32 : ToSigned (λ (z : ℤ). z) (pos 0) (neg_ℤ (pos (2 ^ 31))) (pos (2 ^ 31 - 1)) 31 (to_signed 31)
-  pub as-u64 : ToUnsigned (λ (n : ℕ). n) 0 0 (2 ^ 64 - 1) 64 (to_unsigned 64)
-  pub kind-i64 : ToSigned I64.Exact I64.NotNumber I64.Below I64.Above 63 cutI64
-  pub kind-i32 : ToSigned I32.Exact I32.NotNumber I32.Below I32.Above 31 cutI32
-  pub kind-u64 : ToUnsigned U64.Exact U64.NotNumber U64.Below U64.Above 64 cutU64
+  pub narrowed : (f : Format) (s : Bool) (m : ℕ) (e : ℤ) → m * up e < too_large f * down e → NearestFraction f s (m * up e) (down e) (narrow f (fin s m e))
+  pub narrowed_large : (f : Format) (s : Bool) (m : ℕ) (e : ℤ) → too_large f * down e ≤ m * up e → narrow f (fin s m e) ≡ inf s
+  pub narrowed_infinity : (f : Format) (s : Bool) → narrow f (inf s) ≡ inf s
+  pub narrowed_no_number : (f : Format) → narrow f nan ≡ nan
+  pub as_i64_lem : ToSigned (λ (z : ℤ). z) (pos 0) (neg_ℤ (pos (2 ^ 63))) (pos (2 ^ 63 - 1)) 63 (to_signed 63)
+  pub as_i32 : ToSigned (λ (z : ℤ). z) (pos 0) (neg_ℤ (pos (2 ^ 31))) (pos (2 ^ 31 - 1)) 31 (to_signed 31)
+  pub as_u64 : ToUnsigned (λ (n : ℕ). n) 0 0 (2 ^ 64 - 1) 64 (to_unsigned 64)
+  pub kind_i64 : ToSigned I64.Exact I64.NotNumber I64.Below I64.Above 63 cut_i64
+  pub kind_i32 : ToSigned I32.Exact I32.NotNumber I32.Below I32.Above 31 cut_i32
+  pub kind_u64 : ToUnsigned U64.Exact U64.NotNumber U64.Below U64.Above 64 cut_u64
 
 -- ---- all of it
 pub record Ieee754 : Type 0 where
   pub one : (f : Format) → OneNearest f
   pub roots : (f : Format) → SquareRoot f
-  pub whole-roots : (f : Format) → WholeRoot f
+  pub whole_roots : (f : Format) → WholeRoot f
   pub lengths : Length
   pub parts : (f : Format) → WholeParts f
   pub conversions : Conversions

@@ -1,6 +1,6 @@
 -- Two ranges of columns joined, and the columns of a segment as a range. Definitions only.
 use Rattle.std.specs.Prelude.{cond, ℕ, min, max, ltb}
-use Rattle.segments.specs.Ranges.{columnFirst, columnPast}
+use Rattle.segments.specs.Ranges.{column_first, column_past}
 use Rattle.segments.specs.declared.Segment.{Segment}
 use Rattle.segments.specs.declared.Range.{Range}
 
@@ -12,5 +12,5 @@ joined a b =
     a
 
 -- the columns of a segment as a range, cut at W; it may have none
-abbrev pub columnsBelow : ℕ → Segment → Range
-columnsBelow W s = record { first = columnFirst s; past = min W (columnPast s) }
+abbrev pub columns_below : ℕ → Segment → Range
+columns_below W s = record { first = column_first s; past = min W (column_past s) }

@@ -2,7 +2,7 @@
 #![tactic(auto)]
 
 ghost use Rattle.std.specs.Prelude.{◌≡◌, ◌<◌, min, max};
-ghost use Rattle.joins.specs.Joins.{joined, columnsBelow};
+ghost use Rattle.joins.specs.Joins.{joined, columns_below};
 
 use segments::{Range, Segment};
 
@@ -34,7 +34,7 @@ fn join(found: Range, first: u32, past: u32) -> Range
 
 // The least range that holds what was found and the segment's columns below the width; a segment without such columns is skipped.
 pub fn with_segment(found: Range, segment: Segment, width: u32) -> Range
-    ensures { result ≡ joined found (columnsBelow width segment) }
+    ensures { result ≡ joined found (columns_below width segment) }
 {
     let first = segments::column_first(segment.center_x - segment.maximum_distance);
     let last = segments::column_past(segment.center_x + segment.maximum_distance);

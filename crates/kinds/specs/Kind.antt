@@ -14,40 +14,40 @@ use Rattle.kinds.specs.declared.KindU64.TheVariants as U64
 abbrev pub within : {K : Type 0} → (ℤ → K) → K → K → ℤ → ℤ → ℤ → K
 within exact below above least most z = cond (int_lt most z) above (cond (int_lt z least) below (exact z))
 
-unfoldable pub kindBy : {K : Type 0} → (ℤ → K) → K → K → K → ℤ → ℤ → Float → K
-kindBy exact notNumber below above least most nan = notNumber
-kindBy exact notNumber below above least most (inf s) = cond s below above
-kindBy exact notNumber below above least most (fin s m e) = let n = m * up e / down e in within exact below above least most (cond s (neg_ℤ (pos n)) (pos n))
+unfoldable pub kind_by : {K : Type 0} → (ℤ → K) → K → K → K → ℤ → ℤ → Float → K
+kind_by exact notNumber below above least most nan = notNumber
+kind_by exact notNumber below above least most (inf s) = cond s below above
+kind_by exact notNumber below above least most (fin s m e) = let n = m * up e / down e in within exact below above least most (cond s (neg_ℤ (pos n)) (pos n))
 
 -- ---- the three ranges in use
-abbrev pub cutI64 : Float → KindI64
-cutI64 x = kindBy I64.Exact I64.NotNumber I64.Below I64.Above (neg_ℤ (pos (2 ^ 63))) (pos (2 ^ 63 - 1)) x
+abbrev pub cut_i64 : Float → KindI64
+cut_i64 x = kind_by I64.Exact I64.NotNumber I64.Below I64.Above (neg_ℤ (pos (2 ^ 63))) (pos (2 ^ 63 - 1)) x
 
-abbrev pub cutI32 : Float → KindI32
-cutI32 x = kindBy I32.Exact I32.NotNumber I32.Below I32.Above (neg_ℤ (pos (2 ^ 31))) (pos (2 ^ 31 - 1)) x
+abbrev pub cut_i32 : Float → KindI32
+cut_i32 x = kind_by I32.Exact I32.NotNumber I32.Below I32.Above (neg_ℤ (pos (2 ^ 31))) (pos (2 ^ 31 - 1)) x
 
-abbrev pub cutU64 : Float → KindU64
-cutU64 x = kindBy (λ z. U64.Exact (unsigned_abs z)) U64.NotNumber U64.Below U64.Above (pos 0) (pos (2 ^ 64 - 1)) x
+abbrev pub cut_u64 : Float → KindU64
+cut_u64 x = kind_by (λ z. U64.Exact (unsigned_abs z)) U64.NotNumber U64.Below U64.Above (pos 0) (pos (2 ^ 64 - 1)) x
 
 -- a whole number against the range of an i32
-abbrev pub withinI32 : ℤ → KindI32
-withinI32 z = within I32.Exact I32.Below I32.Above (negsuc 2147483647) (pos 2147483647) z
+abbrev pub within_i32 : ℤ → KindI32
+within_i32 z = within I32.Exact I32.Below I32.Above (negsuc 2147483647) (pos 2147483647) z
 
 -- what Rust's `as` makes of each kind
-abbrev pub saturatedI64 : KindI64 → ℤ
-saturatedI64 (I64.Exact z) = z
-saturatedI64 I64.NotNumber = pos 0
-saturatedI64 I64.Below = neg_ℤ (pos (2 ^ 63))
-saturatedI64 I64.Above = pos (2 ^ 63 - 1)
+abbrev pub saturated_i64 : KindI64 → ℤ
+saturated_i64 (I64.Exact z) = z
+saturated_i64 I64.NotNumber = pos 0
+saturated_i64 I64.Below = neg_ℤ (pos (2 ^ 63))
+saturated_i64 I64.Above = pos (2 ^ 63 - 1)
 
-abbrev pub saturatedI32 : KindI32 → ℤ
-saturatedI32 (I32.Exact z) = z
-saturatedI32 I32.NotNumber = pos 0
-saturatedI32 I32.Below = neg_ℤ (pos (2 ^ 31))
-saturatedI32 I32.Above = pos (2 ^ 31 - 1)
+abbrev pub saturated_i32 : KindI32 → ℤ
+saturated_i32 (I32.Exact z) = z
+saturated_i32 I32.NotNumber = pos 0
+saturated_i32 I32.Below = neg_ℤ (pos (2 ^ 31))
+saturated_i32 I32.Above = pos (2 ^ 31 - 1)
 
-abbrev pub saturatedU64 : KindU64 → ℕ
-saturatedU64 (U64.Exact n) = n
-saturatedU64 U64.NotNumber = 0
-saturatedU64 U64.Below = 0
-saturatedU64 U64.Above = 2 ^ 64 - 1
+abbrev pub saturated_u64 : KindU64 → ℕ
+saturated_u64 (U64.Exact n) = n
+saturated_u64 U64.NotNumber = 0
+saturated_u64 U64.Below = 0
+saturated_u64 U64.Above = 2 ^ 64 - 1

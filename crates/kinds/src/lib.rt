@@ -7,8 +7,8 @@
 ghost use Rattle.std.specs.Prelude.{◌≡◌};
 ghost use Rattle.std.specs.Float.Ieee as Ieee;
 ghost use Rattle.std.specs.Float.{binary32};
-ghost use Rattle.wholes.specs.Whole.{roundOf};
-ghost use Rattle.kinds.specs.Kind.{cutI64, cutI32, cutU64, withinI32};
+ghost use Rattle.wholes.specs.Whole.{round_of};
+ghost use Rattle.kinds.specs.Kind.{cut_i64, cut_i32, cut_u64, within_i32};
 
 // ---- by kind
 
@@ -37,7 +37,7 @@ pub enum KindU64 {
 }
 
 pub fn cut_to_i64(x: f32) -> KindI64
-    ensures { result ≡ cutI64 x }
+    ensures { result ≡ cut_i64 x }
 {
     if x >= -9223372036854775808.0 {
         if x < 9223372036854775808.0 {
@@ -54,7 +54,7 @@ pub fn cut_to_i64(x: f32) -> KindI64
 
 // A whole number in the range of an i32, or beyond it.
 fn within_i32(z: i64) -> KindI32
-    ensures { result ≡ withinI32 z }
+    ensures { result ≡ within_i32 z }
 {
     if z > 2147483647 {
         KindI32::Above
@@ -66,7 +66,7 @@ fn within_i32(z: i64) -> KindI32
 }
 
 pub fn cut_to_i32(x: f32) -> KindI32
-    ensures { result ≡ cutI32 x }
+    ensures { result ≡ cut_i32 x }
 {
     match cut_to_i64(x) {
         KindI64::Exact(z) => within_i32(z),
@@ -77,7 +77,7 @@ pub fn cut_to_i32(x: f32) -> KindI32
 }
 
 pub fn cut_to_u64(x: f32) -> KindU64
-    ensures { result ≡ cutU64 x }
+    ensures { result ≡ cut_u64 x }
 {
     if x > -1.0 {
         if x < 18446744073709551616.0 {
@@ -94,7 +94,7 @@ pub fn cut_to_u64(x: f32) -> KindU64
 
 // After R, the rounding half away from zero. A number above 0 and below 2^23 needs no float in between.
 pub fn rounded_to_i64(x: f32) -> KindI64
-    ensures { result ≡ cutI64 (roundOf binary32 x) }
+    ensures { result ≡ cut_i64 (round_of binary32 x) }
 {
     if x > 0.0 {
         if x < 8388608.0 {
@@ -105,13 +105,13 @@ pub fn rounded_to_i64(x: f32) -> KindI64
 }
 
 pub fn rounded_to_i32(x: f32) -> KindI32
-    ensures { result ≡ cutI32 (roundOf binary32 x) }
+    ensures { result ≡ cut_i32 (round_of binary32 x) }
 {
     cut_to_i32(wholes::round(x))
 }
 
 pub fn rounded_to_u64(x: f32) -> KindU64
-    ensures { result ≡ cutU64 (roundOf binary32 x) }
+    ensures { result ≡ cut_u64 (round_of binary32 x) }
 {
     if x > 0.0 {
         if x < 8388608.0 {

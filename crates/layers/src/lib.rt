@@ -3,17 +3,17 @@
 #![tactic(auto)]
 
 ghost use Rattle.std.specs.Prelude.{true, ◌≡◌, leb, length};
-ghost use Rattle.dequantize.specs.Coefficients.{invAdjustedQuant};
-ghost use Rattle.control_points.specs.ControlPoints.{startingPoint, validPointPos};
-ghost use Rattle.dequantize.specs.Dequantize.{dequantizeOf};
-ghost use Rattle.dequantize.specs.Judge.{descriptionOf};
-ghost use Rattle.dequantize.specs.Limits.{splineAreaLimit};
-ghost use Rattle.walk.specs.Walk.{walkIn, walkRoom, walkLength};
-ghost use Rattle.transform.specs.Transform.{sumsOf};
-ghost use Rattle.points.specs.Points.{segmentRoom, addSegmentsFromPoints, FilledOn};
-ghost use Rattle.segments.specs.Segment.{addSegment, segmentAt};
-ghost use Rattle.segments.specs.Ranges.{rows_of, columnsOf};
-ghost use Rattle.layers.specs.Exported.{ranOf, ranLeaves, tracedFrom, given_of, dequantizedLeaves, dequantizedExport, judgedOf, toldJudged, judgedLeaves, refusedWith, countedLeaves, countedPath, pathLeaves, pathFrom, curvedFrom, countedWalk, walkedAlong, WalkLeft, lengthLeaves, lengthFrom, splineOfRows, fourOf, eightIn, eightLeaves, twoOf, countedSegments, filledAlong};
+ghost use Rattle.dequantize.specs.Coefficients.{inv_adjusted_quant};
+ghost use Rattle.control_points.specs.ControlPoints.{starting_point, valid_point_pos};
+ghost use Rattle.dequantize.specs.Dequantize.{dequantize_of};
+ghost use Rattle.dequantize.specs.Judge.{description_of};
+ghost use Rattle.dequantize.specs.Limits.{spline_area_limit};
+ghost use Rattle.walk.specs.Walk.{walk_in, walk_room, walk_length};
+ghost use Rattle.transform.specs.Transform.{sums_of};
+ghost use Rattle.points.specs.Points.{segment_room, add_segments_from_points, FilledOn};
+ghost use Rattle.segments.specs.Segment.{add_segment, segment_at};
+ghost use Rattle.segments.specs.Ranges.{rows_of, columns_of};
+ghost use Rattle.layers.specs.Exported.{ran_of, ran_leaves, traced_from, given_of, dequantized_leaves, dequantized_export, judged_of, told_judged, judged_leaves, refused_with, counted_leaves, counted_path, path_leaves, path_from, curved_from, counted_walk, walked_along, WalkLeft, length_leaves, length_from, spline_of_rows, four_of, eight_in, eight_leaves, two_of, counted_segments, filled_along};
 
 use codes::Code;
 use control_points::{Pair, Start, Traced};
@@ -29,14 +29,14 @@ use walk::Walked;
 
 #[unsafe(no_mangle)]
 pub extern "C" fn layers_spline_area_limit(level10: bool, area: u64) -> u64
-    ensures { result ≡ splineAreaLimit level10 area }
+    ensures { result ≡ spline_area_limit level10 area }
 {
     dequantize::limits::spline_area_limit(level10, area)
 }
 
 #[unsafe(no_mangle)]
 pub extern "C" fn layers_inv_adjusted_quant(adjustment: i32) -> f32
-    ensures { result ≡ invAdjustedQuant adjustment }
+    ensures { result ≡ inv_adjusted_quant adjustment }
 {
     dequantize::coefficients::inv_adjusted_quant(adjustment)
 }
@@ -51,7 +51,7 @@ struct Ran {
 }
 
 fn ran_on(traced: Traced) -> Ran
-    ensures { result ≡ ranOf traced }
+    ensures { result ≡ ran_of traced }
 {
     match traced {
         Traced::On(run) => Ran {
@@ -70,7 +70,7 @@ fn ran_on(traced: Traced) -> Ran
 }
 
 fn traced_from(start_x: f32, start_y: f32, deltas: &[i32], limit: u64) -> Traced
-    ensures { result ≡ tracedFrom limit deltas.now (startingPoint start_x start_y) }
+    ensures { result ≡ traced_from limit deltas.now (starting_point start_x start_y) }
 {
     match control_points::starting_point(start_x, start_y) {
         Start::Out => Traced::Stop(Code::Position),
@@ -89,8 +89,8 @@ pub extern "C" fn layers_trace(
     y: &mut i32,
     manhattan: &mut u64,
 ) -> u32
-    ensures { ranLeaves result x.new y.new manhattan.new
-        ≡ ranOf (tracedFrom limit deltas.now (startingPoint start_x start_y)) }
+    ensures { ran_leaves result x.new y.new manhattan.new
+        ≡ ran_of (traced_from limit deltas.now (starting_point start_x start_y)) }
 {
     let ran = ran_on(traced_from(start_x, start_y, deltas, limit));
     let last_x = ran.x;
@@ -119,8 +119,8 @@ pub extern "C" fn layers_dequantize(
     estimate: &mut u64,
     coincide: &mut bool,
 ) -> u32
-    ensures { dequantizedLeaves result x.new y.new b.new sigma.new estimate.new coincide.new
-        ≡ dequantizedExport (dequantizeOf start_x start_y deltas.now coefficients.now (given_of adjustment y_to_x y_to_b limit)) }
+    ensures { dequantized_leaves result x.new y.new b.new sigma.new estimate.new coincide.new
+        ≡ dequantized_export (dequantize_of start_x start_y deltas.now coefficients.now (given_of adjustment y_to_x y_to_b limit)) }
 {
     let given = Given {
         adjustment,
@@ -152,7 +152,7 @@ struct JudgedTold {
 }
 
 fn told_judged(judged: Judged) -> JudgedTold
-    ensures { result ≡ toldJudged judged }
+    ensures { result ≡ told_judged judged }
 {
     match judged {
         Judged::Fine(estimate) => JudgedTold {
@@ -176,7 +176,7 @@ fn judged_of(
     coefficients: &[i32],
     given: Given,
 ) -> Judged
-    ensures { result ≡ judgedOf (descriptionOf counts.now starts.now deltas.now coefficients.now) given }
+    ensures { result ≡ judged_of (description_of counts.now starts.now deltas.now coefficients.now) given }
 {
     if !shape::shape_good(counts, starts, deltas, coefficients) {
         return Judged::Refused(Code::Shape, 0);
@@ -198,8 +198,8 @@ pub extern "C" fn layers_judge(
     place: &mut usize,
     estimate: &mut u64,
 ) -> u32
-    ensures { judgedLeaves result place.new estimate.new
-        ≡ toldJudged (judgedOf (descriptionOf counts.now starts.now deltas.now coefficients.now) (given_of adjustment y_to_x y_to_b limit)) }
+    ensures { judged_leaves result place.new estimate.new
+        ≡ told_judged (judged_of (description_of counts.now starts.now deltas.now coefficients.now) (given_of adjustment y_to_x y_to_b limit)) }
 {
     let given = Given {
         adjustment,
@@ -223,7 +223,7 @@ struct Counted {
 }
 
 fn refused_with(code: Code) -> Counted
-    ensures { result ≡ refusedWith code }
+    ensures { result ≡ refused_with code }
 {
     Counted {
         number: codes::number_of(code),
@@ -232,7 +232,7 @@ fn refused_with(code: Code) -> Counted
 }
 
 fn counted_path(curved: Curved) -> Counted
-    ensures { result ≡ countedPath curved }
+    ensures { result ≡ counted_path curved }
 {
     match curved {
         Curved::Points(count) => Counted { number: 0, count },
@@ -242,8 +242,8 @@ fn counted_path(curved: Curved) -> Counted
 
 // The path from a start that is in range: the trace of its control points comes first, at no limit to their distance.
 fn path_from(start: Pair, deltas: &[i32], path: &mut [f32]) -> Counted
-    requires { validPointPos start ≡ true }
-    ensures { pathLeaves result path.new ≡ pathFrom start deltas.now path.old }
+    requires { valid_point_pos start ≡ true }
+    ensures { path_leaves result path.new ≡ path_from start deltas.now path.old }
 {
     match control_points::trace(start, deltas, 18446744073709551615) {
         Traced::Stop(code) => refused_with(code),
@@ -252,7 +252,7 @@ fn path_from(start: Pair, deltas: &[i32], path: &mut [f32]) -> Counted
 }
 
 fn curved_from(start_x: f32, start_y: f32, deltas: &[i32], path: &mut [f32]) -> Counted
-    ensures { pathLeaves result path.new ≡ curvedFrom (startingPoint start_x start_y) deltas.now path.old }
+    ensures { path_leaves result path.new ≡ curved_from (starting_point start_x start_y) deltas.now path.old }
 {
     match control_points::starting_point(start_x, start_y) {
         Start::Out => refused_with(Code::Position),
@@ -269,7 +269,7 @@ pub extern "C" fn layers_curve(
     path: &mut [f32],
     count: &mut usize,
 ) -> u32
-    ensures { pathLeaves (countedLeaves result count.new) path.new ≡ curvedFrom (startingPoint start_x start_y) deltas.now path.old }
+    ensures { path_leaves (counted_leaves result count.new) path.new ≡ curved_from (starting_point start_x start_y) deltas.now path.old }
 {
     let counted = curved_from(start_x, start_y, deltas, path);
     *count = counted.count;
@@ -277,7 +277,7 @@ pub extern "C" fn layers_curve(
 }
 
 fn counted_walk(walked: Walked) -> Counted
-    ensures { result ≡ countedWalk walked }
+    ensures { result ≡ counted_walk walked }
 {
     match walked {
         Walked::Points(count) => Counted { number: 0, count },
@@ -287,8 +287,8 @@ fn counted_walk(walked: Walked) -> Counted
 
 // A path has one point or more.
 fn walked_along(path: &[f32], walk: &mut [f32]) -> Counted
-    ensures { (result ≡ walkedAlong (leb 2 (length path.now)) (walkIn (walkRoom (length walk.old)) path.now))
-        × WalkLeft (leb 2 (length path.now)) (walkIn (walkRoom (length walk.old)) path.now) walk.old walk.new }
+    ensures { (result ≡ walked_along (leb 2 (length path.now)) (walk_in (walk_room (length walk.old)) path.now))
+        × WalkLeft (leb 2 (length path.now)) (walk_in (walk_room (length walk.old)) path.now) walk.old walk.new }
 {
     if path.len() < 2 {
         return refused_with(Code::Shape);
@@ -299,8 +299,8 @@ fn walked_along(path: &[f32], walk: &mut [f32]) -> Counted
 // The walk along a path: its code's number, and how many points there are.
 #[unsafe(no_mangle)]
 pub extern "C" fn layers_walk(path: &[f32], walk: &mut [f32], count: &mut usize) -> u32
-    ensures { (countedLeaves result count.new ≡ walkedAlong (leb 2 (length path.now)) (walkIn (walkRoom (length walk.old)) path.now))
-        × WalkLeft (leb 2 (length path.now)) (walkIn (walkRoom (length walk.old)) path.now) walk.old walk.new }
+    ensures { (counted_leaves result count.new ≡ walked_along (leb 2 (length path.now)) (walk_in (walk_room (length walk.old)) path.now))
+        × WalkLeft (leb 2 (length path.now)) (walk_in (walk_room (length walk.old)) path.now) walk.old walk.new }
 {
     let counted = walked_along(path, walk);
     *count = counted.count;
@@ -310,7 +310,7 @@ pub extern "C" fn layers_walk(path: &[f32], walk: &mut [f32], count: &mut usize)
 // The length of a walk of n points, by the last one's multiplier, and its code's number: a walk has two points or more, and 2^23 at most.
 #[unsafe(no_mangle)]
 pub extern "C" fn layers_length_of(n: usize, last: f32, length: &mut f32) -> u32
-    ensures { lengthLeaves result length.new ≡ lengthFrom n last length.old }
+    ensures { length_leaves result length.new ≡ length_from n last length.old }
 {
     if n < 2 {
         return codes::number_of(Code::Shape);
@@ -325,14 +325,14 @@ pub extern "C" fn layers_length_of(n: usize, last: f32, length: &mut f32) -> u32
 // ---- the transform
 
 fn four(sums: Sums) -> [f32; 4]
-    ensures { result ≡ fourOf sums }
+    ensures { result ≡ four_of sums }
 {
     [sums.x, sums.y, sums.b, sums.sigma]
 }
 
 // A spline of these rows; its other fields do not enter the sums.
 fn spline_of(x: [f32; 32], y: [f32; 32], b: [f32; 32], sigma: [f32; 32]) -> Spline
-    ensures { result ≡ splineOfRows x y b sigma }
+    ensures { result ≡ spline_of_rows x y b sigma }
 {
     Spline {
         code: Code::Done,
@@ -355,7 +355,7 @@ pub extern "C" fn layers_sums_at(
     t: f32,
     sums: &mut [f32; 4],
 )
-    ensures { sums.new ≡ fourOf (sumsOf (splineOfRows x.now y.now b.now sigma.now) t) }
+    ensures { sums.new ≡ four_of (sums_of (spline_of_rows x.now y.now b.now sigma.now) t) }
 {
     let spline = spline_of(*x, *y, *b, *sigma);
     let numbers = four(transform::sums_at(spline, t));
@@ -372,7 +372,7 @@ struct Eight {
 }
 
 fn in_eight(added: Added) -> Eight
-    ensures { result ≡ eightIn added }
+    ensures { result ≡ eight_in added }
 {
     match added {
         Added::Made(segment) => Eight {
@@ -408,7 +408,7 @@ pub extern "C" fn layers_add_segment(
     high_precision: bool,
     segment: &mut [f32; 8],
 ) -> bool
-    ensures { eightLeaves result segment.new ≡ eightIn (addSegment center_x center_y intensity c0 c1 c2 sigma high_precision) }
+    ensures { eight_leaves result segment.new ≡ eight_in (add_segment center_x center_y intensity c0 c1 c2 sigma high_precision) }
 {
     let added = in_eight(segments::add_segment(
         center_x,
@@ -426,7 +426,7 @@ pub extern "C" fn layers_add_segment(
 }
 
 fn two(range: Range) -> [u32; 2]
-    ensures { result ≡ twoOf range }
+    ensures { result ≡ two_of range }
 {
     [range.first, range.past]
 }
@@ -434,7 +434,7 @@ fn two(range: Range) -> [u32; 2]
 // The rows of a segment of eight floats: the first, and one past the last.
 #[unsafe(no_mangle)]
 pub extern "C" fn layers_rows(segment: &[f32; 8], ends: &mut [u32; 2])
-    ensures { ends.new ≡ twoOf (rows_of (segmentAt segment.now 0)) }
+    ensures { ends.new ≡ two_of (rows_of (segment_at segment.now 0)) }
 {
     let numbers = two(Segment::at(segment, 0).rows());
     *ends = numbers;
@@ -443,7 +443,7 @@ pub extern "C" fn layers_rows(segment: &[f32; 8], ends: &mut [u32; 2])
 // The columns of a segment of eight floats: the first, and one past the last.
 #[unsafe(no_mangle)]
 pub extern "C" fn layers_columns(segment: &[f32; 8], ends: &mut [u32; 2])
-    ensures { ends.new ≡ twoOf (columnsOf (segmentAt segment.now 0)) }
+    ensures { ends.new ≡ two_of (columns_of (segment_at segment.now 0)) }
 {
     let numbers = two(Segment::at(segment, 0).columns());
     *ends = numbers;
@@ -452,7 +452,7 @@ pub extern "C" fn layers_columns(segment: &[f32; 8], ends: &mut [u32; 2])
 // ---- the segments of a walk
 
 fn counted_segments(filled: Filled) -> Counted
-    ensures { result ≡ countedSegments filled }
+    ensures { result ≡ counted_segments filled }
 {
     match filled {
         Filled::Count(count) => Counted { number: 0, count },
@@ -468,8 +468,8 @@ fn filled_along(
     high_precision: bool,
     segments: &mut [f32],
 ) -> Filled
-    ensures { (result ≡ filledAlong walk.now (segmentRoom (length segments.old)) (addSegmentsFromPoints spline walk.now walk_length high_precision))
-        × FilledOn result 0 (addSegmentsFromPoints spline walk.now walk_length high_precision) segments.old segments.new }
+    ensures { (result ≡ filled_along walk.now (segment_room (length segments.old)) (add_segments_from_points spline walk.now walk_length high_precision))
+        × FilledOn result 0 (add_segments_from_points spline walk.now walk_length high_precision) segments.old segments.new }
 {
     if walk.len() / 3 > 8388608 {
         return Filled::Room;
@@ -490,8 +490,8 @@ pub extern "C" fn layers_add_segments_from_points(
     segments: &mut [f32],
     count: &mut usize,
 ) -> u32
-    ensures { (countedLeaves result count.new ≡ countedSegments (filledAlong walk.now (segmentRoom (length segments.old)) (addSegmentsFromPoints (splineOfRows x.now y.now b.now sigma.now) walk.now walk_length high_precision)))
-        × FilledOn (filledAlong walk.now (segmentRoom (length segments.old)) (addSegmentsFromPoints (splineOfRows x.now y.now b.now sigma.now) walk.now walk_length high_precision)) 0 (addSegmentsFromPoints (splineOfRows x.now y.now b.now sigma.now) walk.now walk_length high_precision) segments.old segments.new }
+    ensures { (counted_leaves result count.new ≡ counted_segments (filled_along walk.now (segment_room (length segments.old)) (add_segments_from_points (spline_of_rows x.now y.now b.now sigma.now) walk.now walk_length high_precision)))
+        × FilledOn (filled_along walk.now (segment_room (length segments.old)) (add_segments_from_points (spline_of_rows x.now y.now b.now sigma.now) walk.now walk_length high_precision)) 0 (add_segments_from_points (spline_of_rows x.now y.now b.now sigma.now) walk.now walk_length high_precision) segments.old segments.new }
 {
     let spline = spline_of(*x, *y, *b, *sigma);
     let counted = counted_segments(filled_along(

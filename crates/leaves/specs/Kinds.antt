@@ -7,20 +7,20 @@ use Rattle.kinds.specs.declared.KindI32.TheVariants as I32
 use Rattle.kinds.specs.declared.KindU64.{KindU64}
 use Rattle.kinds.specs.declared.KindU64.TheVariants as U64
 
-abbrev pub numberI64 : KindI64 → ℕ
-numberI64 (I64.Exact z) = 0
-numberI64 I64.NotNumber = 1
-numberI64 I64.Below = 2
-numberI64 I64.Above = 3
+abbrev pub number_i64 : KindI64 → ℕ
+number_i64 (I64.Exact z) = 0
+number_i64 I64.NotNumber = 1
+number_i64 I64.Below = 2
+number_i64 I64.Above = 3
 
-abbrev pub numberI32 : KindI32 → ℕ
-numberI32 (I32.Exact z) = 0
-numberI32 I32.NotNumber = 1
-numberI32 I32.Below = 2
-numberI32 I32.Above = 3
+abbrev pub number_i32 : KindI32 → ℕ
+number_i32 (I32.Exact z) = 0
+number_i32 I32.NotNumber = 1
+number_i32 I32.Below = 2
+number_i32 I32.Above = 3
 
-abbrev pub numberU64 : KindU64 → ℕ
-numberU64 (U64.Exact n) = 0
-numberU64 U64.NotNumber = 1
-numberU64 U64.Below = 2
-numberU64 U64.Above = 3
+abbrev pub number_u64 : KindU64 → ℕ
+number_u64 (U64.Exact n) = 0
+number_u64 U64.NotNumber = 1
+number_u64 U64.Below = 2
+number_u64 U64.Above = 3

@@ -4,36 +4,36 @@
 ghost use Rattle.std.specs.Prelude.{◌≡◌, pos};
 ghost use Rattle.std.specs.Float.Ieee as Ieee;
 ghost use Rattle.std.specs.Float.{binary32};
-ghost use Rattle.wholes.specs.Whole.{floorOf, ceilOf, roundOf};
+ghost use Rattle.wholes.specs.Whole.{floor_of, ceil_of, round_of};
 ghost use Rattle.to_f32.specs.Narrow.{narrow};
-ghost use Rattle.roots.specs.Root.{sqrtOf};
+ghost use Rattle.roots.specs.Root.{sqrt_of};
 ghost use Rattle.roots.specs.Length.{length_of};
-ghost use Rattle.numbers.specs.Magnitude.{absOf, sign_of, top_of, minOf, max_of, isInfinite};
-ghost use Rattle.approximations.specs.Cos.{fastCos};
-ghost use Rattle.approximations.specs.Erf.{fastErff};
-ghost use Rattle.numbers.specs.Saturating.{satAdd, satMul, ceilLog2};
-ghost use Rattle.kinds.specs.Kind.{cutI64, cutI32, cutU64};
-ghost use Rattle.leaves.specs.Kinds.{numberI64, numberI32, numberU64};
+ghost use Rattle.numbers.specs.Magnitude.{abs_of, sign_of, top_of, min_of, max_of, is_infinite};
+ghost use Rattle.approximations.specs.Cos.{fast_cos};
+ghost use Rattle.approximations.specs.Erf.{fast_erff};
+ghost use Rattle.numbers.specs.Saturating.{sat_add, sat_mul, ceil_log2};
+ghost use Rattle.kinds.specs.Kind.{cut_i64, cut_i32, cut_u64};
+ghost use Rattle.leaves.specs.Kinds.{number_i64, number_i32, number_u64};
 
 use kinds::{KindI32, KindI64, KindU64};
 
 #[unsafe(no_mangle)]
 pub extern "C" fn leaves_floor(x: f32) -> f32
-    ensures { result ≡ floorOf binary32 x }
+    ensures { result ≡ floor_of binary32 x }
 {
     wholes::floor(x)
 }
 
 #[unsafe(no_mangle)]
 pub extern "C" fn leaves_ceil(x: f32) -> f32
-    ensures { result ≡ ceilOf binary32 x }
+    ensures { result ≡ ceil_of binary32 x }
 {
     wholes::ceil(x)
 }
 
 #[unsafe(no_mangle)]
 pub extern "C" fn leaves_round(x: f32) -> f32
-    ensures { result ≡ roundOf binary32 x }
+    ensures { result ≡ round_of binary32 x }
 {
     wholes::round(x)
 }
@@ -62,7 +62,7 @@ pub extern "C" fn leaves_saturating_f32_to_u64(x: f32) -> u64
 // The kind of each conversion, by its number.
 #[unsafe(no_mangle)]
 pub extern "C" fn leaves_kind_i64(x: f32) -> u32
-    ensures { result ≡ numberI64 (cutI64 x) }
+    ensures { result ≡ number_i64 (cut_i64 x) }
 {
     match kinds::cut_to_i64(x) {
         KindI64::Exact(_) => 0,
@@ -74,7 +74,7 @@ pub extern "C" fn leaves_kind_i64(x: f32) -> u32
 
 #[unsafe(no_mangle)]
 pub extern "C" fn leaves_kind_i32(x: f32) -> u32
-    ensures { result ≡ numberI32 (cutI32 x) }
+    ensures { result ≡ number_i32 (cut_i32 x) }
 {
     match kinds::cut_to_i32(x) {
         KindI32::Exact(_) => 0,
@@ -86,7 +86,7 @@ pub extern "C" fn leaves_kind_i32(x: f32) -> u32
 
 #[unsafe(no_mangle)]
 pub extern "C" fn leaves_kind_u64(x: f32) -> u32
-    ensures { result ≡ numberU64 (cutU64 x) }
+    ensures { result ≡ number_u64 (cut_u64 x) }
 {
     match kinds::cut_to_u64(x) {
         KindU64::Exact(_) => 0,
@@ -133,14 +133,14 @@ pub extern "C" fn leaves_nearest_f64_to_f32(x: f64) -> f32
 
 #[unsafe(no_mangle)]
 pub extern "C" fn leaves_root(x: f32) -> f32
-    ensures { result ≡ sqrtOf binary32 x }
+    ensures { result ≡ sqrt_of binary32 x }
 {
     roots::root(x)
 }
 
 #[unsafe(no_mangle)]
 pub extern "C" fn leaves_abs(x: f32) -> f32
-    ensures { result ≡ absOf x }
+    ensures { result ≡ abs_of x }
 {
     numbers::abs(x)
 }
@@ -161,7 +161,7 @@ pub extern "C" fn leaves_top(a: f32, b: f32) -> f32
 
 #[unsafe(no_mangle)]
 pub extern "C" fn leaves_min(a: f32, b: f32) -> f32
-    ensures { result ≡ minOf a b }
+    ensures { result ≡ min_of a b }
 {
     numbers::min(a, b)
 }
@@ -175,42 +175,42 @@ pub extern "C" fn leaves_max(a: f32, b: f32) -> f32
 
 #[unsafe(no_mangle)]
 pub extern "C" fn leaves_is_infinite(x: f32) -> bool
-    ensures { result ≡ isInfinite x }
+    ensures { result ≡ is_infinite x }
 {
     numbers::is_infinite(x)
 }
 
 #[unsafe(no_mangle)]
 pub extern "C" fn leaves_fast_cos(x: f32) -> f32
-    ensures { result ≡ fastCos x }
+    ensures { result ≡ fast_cos x }
 {
     approximations::fast_cos(x)
 }
 
 #[unsafe(no_mangle)]
 pub extern "C" fn leaves_fast_erff(x: f32) -> f32
-    ensures { result ≡ fastErff x }
+    ensures { result ≡ fast_erff x }
 {
     approximations::fast_erff(x)
 }
 
 #[unsafe(no_mangle)]
 pub extern "C" fn leaves_saturating_add(a: u64, b: u64) -> u64
-    ensures { result ≡ satAdd a b }
+    ensures { result ≡ sat_add a b }
 {
     numbers::saturating_add(a, b)
 }
 
 #[unsafe(no_mangle)]
 pub extern "C" fn leaves_saturating_mul(a: u64, b: u64) -> u64
-    ensures { result ≡ satMul a b }
+    ensures { result ≡ sat_mul a b }
 {
     numbers::saturating_mul(a, b)
 }
 
 #[unsafe(no_mangle)]
 pub extern "C" fn leaves_ceil_log2(n: u64) -> u64
-    ensures { result ≡ ceilLog2 n }
+    ensures { result ≡ ceil_log2 n }
 {
     numbers::ceil_log2(n)
 }
@@ -218,7 +218,7 @@ pub extern "C" fn leaves_ceil_log2(n: u64) -> u64
 // With the table that drawing lends.
 #[unsafe(no_mangle)]
 pub extern "C" fn leaves_root_by(x: f32) -> f32
-    ensures { result ≡ sqrtOf binary32 x }
+    ensures { result ≡ sqrt_of binary32 x }
 {
     let table = roots::ROOTS;
     roots::root_by(x, &table)

@@ -8,10 +8,10 @@ use native.Mathlib.Omega.{arith}
 use lib.ListN.{length}
 use lib.IntN.{ℤ, pos}
 use borrow.Author.Tests.{le-ltb}
-use Rattle.list.specs.List.{packSigned, ListRooms, got, splines, described, splinesOf, afterStarts, read_of, startsList, splinesList, list_of, Valid}
-use Rattle.list.proofs.Signed.{unpack-pack}
+use Rattle.list.specs.List.{pack_signed, ListRooms, got, splines, described, splines_of, after_starts, read_of, starts_list, splines_list, list_of, Valid}
+use Rattle.list.proofs.Signed.{unpack_pack}
 use Rattle.list.proofs.Accepted.{list_read}
-use Rattle.list.proofs.Written.{starts-written, splines-written}
+use Rattle.list.proofs.Written.{starts_written, splines_written}
 
 -- rooms that hold a description
 pub record Holds (rooms : ListRooms) (zs : List ℤ) (ns : List ℕ) (ds cs : List ℤ) : Type 0 where
@@ -21,16 +21,16 @@ pub record Holds (rooms : ListRooms) (zs : List ℤ) (ns : List ℕ) (ds cs : Li
   pub coefficients : length cs ≤ rooms.coefficients
 
 -- what is written is read
-pub written-is-read : (limit : ℕ) (rooms : ListRooms) (a : ℤ) (zs : List ℤ) (ns : List ℕ) (ds cs : List ℤ) → Valid limit zs ns ds cs → Holds rooms zs ns ds cs
+pub written_is_read : (limit : ℕ) (rooms : ListRooms) (a : ℤ) (zs : List ℤ) (ns : List ℕ) (ds cs : List ℤ) → Valid limit zs ns ds cs → Holds rooms zs ns ds cs
     → read_of limit rooms (list_of (described a zs ns ds cs)) ≡ got (described a zs ns ds cs) []
-unfolding read_of afterStarts
-written-is-read limit rooms a zs ns ds cs v h =
+unfolding read_of after_starts
+written_is_read limit rooms a zs ns ds cs v h =
     let s = length ns in
-    let t = length ((s - 1) ∷ (startsList true (pos 0) (pos 0) zs ++ (packSigned a ∷ splinesList ns ds cs))) in
+    let t = length ((s - 1) ∷ (starts_list true (pos 0) (pos 0) zs ++ (pack_signed a ∷ splines_list ns ds cs))) in
     let one : s - 1 + 1 ≡ s = omega (arith, v.some) in
-    let x = starts-written t true (pos 0) (pos 0) s zs (packSigned a ∷ splinesList ns ds cs) v.starts v.near in
-    let y : splinesOf t limit rooms.deltas s (splinesList ns ds cs) ≡ got (splines ns ds cs) []
-    = rw append-nil at (splines-written t limit rooms.deltas ns ds cs [] v.total (omega (arith, v.deltas, h.deltas)) v.deltas v.coefficients v.tame) in
+    let x = starts_written t true (pos 0) (pos 0) s zs (pack_signed a ∷ splines_list ns ds cs) v.starts v.near in
+    let y : splines_of t limit rooms.deltas s (splines_list ns ds cs) ≡ got (splines ns ds cs) []
+    = rw append-nil at (splines_written t limit rooms.deltas ns ds cs [] v.total (omega (arith, v.deltas, h.deltas)) v.deltas v.coefficients v.tame) in
     rw (
       one,
       le-ltb limit s v.count,
@@ -39,17 +39,17 @@ written-is-read limit rooms a zs ns ds cs v h =
       le-ltb rooms.coefficients (128 * s) (omega (arith, v.coefficients, h.coefficients)),
       x,
       y,
-      unpack-pack a,
+      unpack_pack a,
     )
 
 -- what is read is written
-pub read-is-written : (limit : ℕ) (rooms : ListRooms) (l : List ℕ) (a : ℤ) (zs : List ℤ) (ns : List ℕ) (ds cs : List ℤ) (r : List ℕ)
+pub read_is_written : (limit : ℕ) (rooms : ListRooms) (l : List ℕ) (a : ℤ) (zs : List ℤ) (ns : List ℕ) (ds cs : List ℤ) (r : List ℕ)
     → read_of limit rooms l ≡ got (described a zs ns ds cs) r → list_of (described a zs ns ds cs) ≡ l
-read-is-written limit rooms l a zs ns ds cs r e = sym (list_read limit rooms l a zs ns ds cs r e).is
+read_is_written limit rooms l a zs ns ds cs r e = sym (list_read limit rooms l a zs ns ds cs r e).is
 
 -- and can be written under the same limit
-pub read-is-valid : (limit : ℕ) (rooms : ListRooms) (l : List ℕ) (a : ℤ) (zs : List ℤ) (ns : List ℕ) (ds cs : List ℤ) (r : List ℕ)
+pub read_is_valid : (limit : ℕ) (rooms : ListRooms) (l : List ℕ) (a : ℤ) (zs : List ℤ) (ns : List ℕ) (ds cs : List ℤ) (r : List ℕ)
     → read_of limit rooms l ≡ got (described a zs ns ds cs) r → Valid limit zs ns ds cs
-read-is-valid limit rooms l a zs ns ds cs r e = (list_read limit rooms l a zs ns ds cs r e).valid
+read_is_valid limit rooms l a zs ns ds cs r e = (list_read limit rooms l a zs ns ds cs r e).valid
 
 -- Assumes nothing.

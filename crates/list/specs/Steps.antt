@@ -11,8 +11,8 @@ next_of [] = End
 next_of (a ∷ l) = Value a
 
 -- a whole number as an f32
-unfoldable pub f32Of : ℤ → Float
-f32Of z = of_int binary32 z
+unfoldable pub f32_of : ℤ → Float
+f32_of z = of_int binary32 z
 
-abbrev pub zeroF32 : Float
-zeroF32 = of_int binary32 (pos 0)
+abbrev pub zero_f32 : Float
+zero_f32 = of_int binary32 (pos 0)

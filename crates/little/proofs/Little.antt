@@ -10,14 +10,14 @@ use lib.ListN.{length, get_or, length-append}
 use lib.IntN.{ℤ, pos, negsuc}
 use lib.Signed.{mag}
 use borrow.Author.Tests.{lt-ltb, le-ltb, ltb-true, ltb-false}
-use Rattle.little.specs.Little.{fourOf, bytes_of, numbersIn, unsignedOf, signedIn, Bytes, Numbers}
+use Rattle.little.specs.Little.{four_of, bytes_of, numbers_in, unsigned_of, signed_in, Bytes, Numbers}
 
 -- ---- one number
 
 -- number i is made of the four bytes from 4 * i on
 pub number_is : (l : List ℕ) (i : ℕ) → 4 * i + 4 ≤ length l
-    → get_or (numbersIn l) i 0 ≡ get_or l (4 * i) 0 + 256 * get_or l (4 * i + 1) 0 + 65536 * (get_or l (4 * i + 2) 0 + 256 * get_or l (4 * i + 3) 0)
-unfolding numbersIn
+    → get_or (numbers_in l) i 0 ≡ get_or l (4 * i) 0 + 256 * get_or l (4 * i + 1) 0 + 65536 * (get_or l (4 * i + 2) 0 + 256 * get_or l (4 * i + 3) 0)
+unfolding numbers_in
 number_is [] i h = absurd (omega arith)
 number_is (a ∷ []) i h = absurd (omega arith)
 number_is (a ∷ b ∷ []) i h = absurd (omega arith)
@@ -31,16 +31,16 @@ number_is (a ∷ b ∷ c ∷ d ∷ l) (suc i) h =
     rw (q1, q2, q3, p) (number_is l i (omega arith))
 
 -- there are a fourth as many numbers as bytes
-pub numbers-length : (l : List ℕ) → length (numbersIn l) ≡ length l / 4
-unfolding numbersIn
-numbers-length [] = refl
-numbers-length (a ∷ []) = refl
-numbers-length (a ∷ b ∷ []) = refl
-numbers-length (a ∷ b ∷ c ∷ []) = refl
-numbers-length (a ∷ b ∷ c ∷ d ∷ l) = ap suc (numbers-length l) ∙ omega arith
+pub numbers_length : (l : List ℕ) → length (numbers_in l) ≡ length l / 4
+unfolding numbers_in
+numbers_length [] = refl
+numbers_length (a ∷ []) = refl
+numbers_length (a ∷ b ∷ []) = refl
+numbers_length (a ∷ b ∷ c ∷ []) = refl
+numbers_length (a ∷ b ∷ c ∷ d ∷ l) = ap suc (numbers_length l) ∙ omega arith
 
-pub number_small : (l : List ℕ) (i : ℕ) → Bytes l → get_or (numbersIn l) i 0 < 2 ^ 32
-unfolding numbersIn
+pub number_small : (l : List ℕ) (i : ℕ) → Bytes l → get_or (numbers_in l) i 0 < 2 ^ 32
+unfolding numbers_in
 number_small [] i h = omega arith
 number_small (a ∷ []) i h = omega arith
 number_small (a ∷ b ∷ []) i h = omega arith
@@ -50,18 +50,18 @@ number_small (a ∷ b ∷ c ∷ d ∷ l) (suc i) h = number_small l i h.1.1.1.1
 
 -- ---- bytes and numbers give each other back
 
-pub bytes-length : (ns : List ℕ) → length (bytes_of ns) ≡ 4 * length ns
+pub bytes_length : (ns : List ℕ) → length (bytes_of ns) ≡ 4 * length ns
 unfolding bytes_of
-bytes-length [] = refl
-bytes-length (n ∷ ns) = ap (λ (k : ℕ). suc (suc (suc (suc k)))) (bytes-length ns) ∙ omega arith
+bytes_length [] = refl
+bytes_length (n ∷ ns) = ap (λ (k : ℕ). suc (suc (suc (suc k)))) (bytes_length ns) ∙ omega arith
 
-pub bytes-append : (ms ns : List ℕ) → bytes_of (ms ++ ns) ≡ bytes_of ms ++ bytes_of ns
+pub bytes_append : (ms ns : List ℕ) → bytes_of (ms ++ ns) ≡ bytes_of ms ++ bytes_of ns
 unfolding bytes_of
-bytes-append [] ns = refl
-bytes-append (m ∷ ms) ns = ap (λ (l : List ℕ). fourOf m ++ l) (bytes-append ms ns)
+bytes_append [] ns = refl
+bytes_append (m ∷ ms) ns = ap (λ (l : List ℕ). four_of m ++ l) (bytes_append ms ns)
 
-four-back : (n : ℕ) → n < 2 ^ 32 → n % 256 + 256 * (n / 256 % 256) + 65536 * (n / 65536 % 256 + 256 * (n / 16777216 % 256)) ≡ n
-four-back n h =
+four_back : (n : ℕ) → n < 2 ^ 32 → n % 256 + 256 * (n / 256 % 256) + 65536 * (n / 65536 % 256 + 256 * (n / 16777216 % 256)) ≡ n
+four_back n h =
     let q = n / 256 in
     let r = n / 65536 in
     let s = n / 16777216 in
@@ -74,52 +74,52 @@ four-back n h =
     joined : (n q r s a b c d : ℕ) → n ≡ a + 256 * q → q ≡ b + 256 * r → r ≡ c + 256 * s → s ≡ d → a + 256 * b + 65536 * (c + 256 * d) ≡ n
     joined n q r s a b c d e f g h = omega arith
 
-pub numbers-back : (ns : List ℕ) → Numbers ns → numbersIn (bytes_of ns) ≡ ns
-unfolding bytes_of numbersIn
-numbers-back [] h = refl
-numbers-back (n ∷ ns) h = rw (four-back n h.0, numbers-back ns h.1)
+pub numbers_back : (ns : List ℕ) → Numbers ns → numbers_in (bytes_of ns) ≡ ns
+unfolding bytes_of numbers_in
+numbers_back [] h = refl
+numbers_back (n ∷ ns) h = rw (four_back n h.0, numbers_back ns h.1)
 
 low_byte : (a b c d : ℕ) → a < 256 → b < 256 → c < 256 → d < 256 → (a + 256 * b + 65536 * (c + 256 * d)) % 256 ≡ a
 low_byte a b c d h g k j = omega arith
 
-second-byte : (a b c d : ℕ) → a < 256 → b < 256 → c < 256 → d < 256 → (a + 256 * b + 65536 * (c + 256 * d)) / 256 % 256 ≡ b
-second-byte a b c d h g k j = omega arith
+second_byte : (a b c d : ℕ) → a < 256 → b < 256 → c < 256 → d < 256 → (a + 256 * b + 65536 * (c + 256 * d)) / 256 % 256 ≡ b
+second_byte a b c d h g k j = omega arith
 
-third-byte : (a b c d : ℕ) → a < 256 → b < 256 → c < 256 → d < 256 → (a + 256 * b + 65536 * (c + 256 * d)) / 65536 % 256 ≡ c
-third-byte a b c d h g k j = omega arith
+third_byte : (a b c d : ℕ) → a < 256 → b < 256 → c < 256 → d < 256 → (a + 256 * b + 65536 * (c + 256 * d)) / 65536 % 256 ≡ c
+third_byte a b c d h g k j = omega arith
 
 high_byte : (a b c d : ℕ) → a < 256 → b < 256 → c < 256 → d < 256 → (a + 256 * b + 65536 * (c + 256 * d)) / 16777216 % 256 ≡ d
 high_byte a b c d h g k j = omega arith
 
-pub bytes_back : (l : List ℕ) (k : ℕ) → length l ≡ 4 * k → Bytes l → bytes_of (numbersIn l) ≡ l
-unfolding bytes_of numbersIn
+pub bytes_back : (l : List ℕ) (k : ℕ) → length l ≡ 4 * k → Bytes l → bytes_of (numbers_in l) ≡ l
+unfolding bytes_of numbers_in
 bytes_back [] k e h = refl
 bytes_back (a ∷ []) k e h = absurd (omega arith)
 bytes_back (a ∷ b ∷ []) k e h = absurd (omega arith)
 bytes_back (a ∷ b ∷ c ∷ []) k e h = absurd (omega arith)
 bytes_back (a ∷ b ∷ c ∷ d ∷ l) zero e h = absurd (omega arith)
 bytes_back (a ∷ b ∷ c ∷ d ∷ l) (suc k) e h =
-    rw (low_byte a b c d h.0 h.1.0 h.1.1.0 h.1.1.1.0, second-byte a b c d h.0 h.1.0 h.1.1.0 h.1.1.1.0, third-byte a b c d h.0 h.1.0 h.1.1.0 h.1.1.1.0, high_byte a b c d h.0 h.1.0 h.1.1.0 h.1.1.1.0, bytes_back l k (omega arith) h.1.1.1.1)
+    rw (low_byte a b c d h.0 h.1.0 h.1.1.0 h.1.1.1.0, second_byte a b c d h.0 h.1.0 h.1.1.0 h.1.1.1.0, third_byte a b c d h.0 h.1.0 h.1.1.0 h.1.1.1.0, high_byte a b c d h.0 h.1.0 h.1.1.0 h.1.1.1.0, bytes_back l k (omega arith) h.1.1.1.1)
 
 -- ---- signed numbers
 
-pub signed-unsigned : (z : ℤ) → mag z < 2 ^ 31 → signedIn (unsignedOf z) ≡ z
-signed-unsigned (pos n) h = rw (lt-ltb n (2 ^ 31) h)
-signed-unsigned (negsuc n) h = rw (le-ltb (2 ^ 32 - suc n) (2 ^ 31) (omega arith)) (ap negsuc (omega arith))
+pub signed_unsigned : (z : ℤ) → mag z < 2 ^ 31 → signed_in (unsigned_of z) ≡ z
+signed_unsigned (pos n) h = rw (lt-ltb n (2 ^ 31) h)
+signed_unsigned (negsuc n) h = rw (le-ltb (2 ^ 32 - suc n) (2 ^ 31) (omega arith)) (ap negsuc (omega arith))
 
-pub unsigned_signed : (u : ℕ) → u < 2 ^ 32 → unsignedOf (signedIn u) ≡ u
+pub unsigned_signed : (u : ℕ) → u < 2 ^ 32 → unsigned_of (signed_in u) ≡ u
 unsigned_signed u h = go (ltb u (2 ^ 31)) refl
   where
-    go : (t : Bool) → ltb u (2 ^ 31) ≡ t → unsignedOf (cond t (pos u) (negsuc (2 ^ 32 - suc u))) ≡ u
+    go : (t : Bool) → ltb u (2 ^ 31) ≡ t → unsigned_of (cond t (pos u) (negsuc (2 ^ 32 - suc u))) ≡ u
     go true e = refl
     go false e = omega arith
 
-pub unsigned_small : (z : ℤ) → mag z < 2 ^ 31 → unsignedOf z < 2 ^ 32
+pub unsigned_small : (z : ℤ) → mag z < 2 ^ 31 → unsigned_of z < 2 ^ 32
 unsigned_small (pos n) h = omega arith
 unsigned_small (negsuc n) h = omega arith
 
-pub signed-small : (u : ℕ) → u < 2 ^ 32 → mag (signedIn u) < 2 ^ 31
-signed-small u h = go (ltb u (2 ^ 31)) refl
+pub signed_small : (u : ℕ) → u < 2 ^ 32 → mag (signed_in u) < 2 ^ 31
+signed_small u h = go (ltb u (2 ^ 31)) refl
   where
     go : (t : Bool) → ltb u (2 ^ 31) ≡ t → mag (cond t (pos u) (negsuc (2 ^ 32 - suc u))) < 2 ^ 31
     go true e = ltb-true u (2 ^ 31) e

@@ -5,32 +5,32 @@ use Rattle.std.specs.Int.Signed.{mag}
 -- ---- numbers and bytes
 
 -- the bytes of a number below 2^32
-abbrev pub fourOf : ℕ → List ℕ
-fourOf n = n % 256 ∷ n / 256 % 256 ∷ n / 65536 % 256 ∷ n / 16777216 % 256 ∷ []
+abbrev pub four_of : ℕ → List ℕ
+four_of n = n % 256 ∷ n / 256 % 256 ∷ n / 65536 % 256 ∷ n / 16777216 % 256 ∷ []
 
 -- the bytes of numbers, one after the other
 unfoldable pub bytes_of : List ℕ → List ℕ
 bytes_of [] = []
-bytes_of (n ∷ ns) = fourOf n ++ bytes_of ns
+bytes_of (n ∷ ns) = four_of n ++ bytes_of ns
 
 -- the numbers that stand in bytes; up to three bytes that are left make none
-unfoldable pub numbersIn : List ℕ → List ℕ
-numbersIn (a ∷ b ∷ c ∷ d ∷ l) = (a + 256 * b + 65536 * (c + 256 * d)) ∷ numbersIn l
-numbersIn (a ∷ b ∷ c ∷ []) = []
-numbersIn (a ∷ b ∷ []) = []
-numbersIn (a ∷ []) = []
-numbersIn [] = []
+unfoldable pub numbers_in : List ℕ → List ℕ
+numbers_in (a ∷ b ∷ c ∷ d ∷ l) = (a + 256 * b + 65536 * (c + 256 * d)) ∷ numbers_in l
+numbers_in (a ∷ b ∷ c ∷ []) = []
+numbers_in (a ∷ b ∷ []) = []
+numbers_in (a ∷ []) = []
+numbers_in [] = []
 
 -- ---- signed numbers
 
 -- the number that stands for a signed one: a negative one is told by what it is with 2^32 added
-abbrev pub unsignedOf : ℤ → ℕ
-unsignedOf (pos n) = n
-unsignedOf (negsuc n) = 2 ^ 32 - suc n
+abbrev pub unsigned_of : ℤ → ℕ
+unsigned_of (pos n) = n
+unsigned_of (negsuc n) = 2 ^ 32 - suc n
 
 -- the signed number that a number stands for
-abbrev pub signedIn : ℕ → ℤ
-signedIn u = cond (ltb u (2 ^ 31)) (pos u) (negsuc (2 ^ 32 - suc u))
+abbrev pub signed_in : ℕ → ℤ
+signed_in u = cond (ltb u (2 ^ 31)) (pos u) (negsuc (2 ^ 32 - suc u))
 
 -- ---- what can be lent
 

@@ -3,7 +3,7 @@
 
 ghost use Rattle.std.specs.Prelude.{◌≡◌, ◌+◌, ◌*◌, ◌≤◌, ◌<◌, length, get_or};
 ghost use Rattle.std.proofs.lemmas.List.Edits.{sets};
-ghost use Rattle.little.specs.Little.{fourOf, numbersIn, unsignedOf, signedIn};
+ghost use Rattle.little.specs.Little.{four_of, numbers_in, unsigned_of, signed_in};
 
 fn wide(byte: u8) -> u32
     ensures { (result ≡ byte) × (result < 256) }
@@ -14,7 +14,7 @@ fn wide(byte: u8) -> u32
 // The number of index i: its bytes begin at 4 * i.
 pub fn number_at(bytes: &[u8], i: usize) -> u32
     requires { 4 * i + 4 ≤ length bytes.now }
-    ensures { result ≡ get_or (numbersIn bytes.now) i 0 }
+    ensures { result ≡ get_or (numbers_in bytes.now) i 0 }
 {
     let at = 4 * i;
     let low = wide(bytes[at]) + 256 * wide(bytes[at + 1]);
@@ -24,7 +24,7 @@ pub fn number_at(bytes: &[u8], i: usize) -> u32
 
 // A number as a signed one: from 2^31 on it stands for itself less 2^32.
 pub fn signed(number: u32) -> i32
-    ensures { result ≡ signedIn number }
+    ensures { result ≡ signed_in number }
 {
     if number < 2147483648 {
         number as i32
@@ -35,7 +35,7 @@ pub fn signed(number: u32) -> i32
 
 // A signed number as the number that stands for it.
 pub fn unsigned(signed: i32) -> u32
-    ensures { result ≡ unsignedOf signed }
+    ensures { result ≡ unsigned_of signed }
 {
     if signed < 0 {
         4294967295 - ((-1 - signed) as u32)
@@ -46,7 +46,7 @@ pub fn unsigned(signed: i32) -> u32
 
 pub fn put_number(bytes: &mut [u8], i: usize, number: u32)
     requires { 4 * i + 4 ≤ length bytes.old }
-    ensures { bytes.new ≡ sets bytes.old (4 * i) (fourOf number) }
+    ensures { bytes.new ≡ sets bytes.old (4 * i) (four_of number) }
 {
     let at = 4 * i;
     bytes[at] = (number % 256) as u8;

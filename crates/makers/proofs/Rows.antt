@@ -15,12 +15,12 @@ use borrow.Author.Tests.{le-leb, leb-true, lt-ltb, ltb-true, eq-eqb, eqb-true}
 use Rattle.segments.specs.declared.Segment.{Segment}
 use Rattle.segments.specs.declared.Range.{Range}
 use Rattle.segments.specs.Ranges.{has_row, rows_of}
-use Rattle.segments.proofs.Ranges.{has-row}
-use Rattle.rows.specs.Rows.{only, listed, entriesBetween}
+use Rattle.segments.proofs.Ranges.{has_row_lem}
+use Rattle.rows.specs.Rows.{only, listed, entries_between}
 use Rattle.rows.specs.Steps.{cnt}
 use Rattle.rows.proofs.Counts.{three}
-use Rattle.makers.specs.Check.{same_list, startsGood, rowRight, RowRight, wrongFrom}
-use Rattle.makers.specs.Steps.{rising, rowFits}
+use Rattle.makers.specs.Check.{same_list, starts_good, row_right, RowRight, wrong_from}
+use Rattle.makers.specs.Steps.{rising, row_fits}
 
 -- ---- tests
 
@@ -43,24 +43,24 @@ pub is_false : (b : Bool) → (b ≡ true → ⊥) → b ≡ false
 is_false true h = absurd (h refl)
 is_false false h = refl
 
-pub true-or-false : (b : Bool) → (b ≡ true) ⊎ (b ≡ false)
-true-or-false true = inl refl
-true-or-false false = inr refl
+pub true_or_false : (b : Bool) → (b ≡ true) ⊎ (b ≡ false)
+true_or_false true = inl refl
+true_or_false false = inr refl
 
-pub false-not-true : (b : Bool) → b ≡ false → b ≡ true → ⊥
-false-not-true b p q = apart (sym p ∙ q)
+pub false_not_true : (b : Bool) → b ≡ false → b ≡ true → ⊥
+false_not_true b p q = apart (sym p ∙ q)
   where
-    is-no : Bool → Type 0
-    is-no true = ⊥
-    is-no false = Unit
+    is_no : Bool → Type 0
+    is_no true = ⊥
+    is_no false = Unit
 
     apart : false ≡ true → ⊥
-    apart e = subst is-no e tt
+    apart e = subst is_no e tt
 
 pub same_true : (xs ys : List ℕ) → same_list xs ys ≡ true → xs ≡ ys
 same_true [] [] h = refl
-same_true [] (b ∷ ys) h = absurd (false-not-true false refl h)
-same_true (a ∷ xs) [] h = absurd (false-not-true false refl h)
+same_true [] (b ∷ ys) h = absurd (false_not_true false refl h)
+same_true (a ∷ xs) [] h = absurd (false_not_true false refl h)
 same_true (a ∷ xs) (b ∷ ys) h =
     rw (eqb-true a b (and_left (eqb a b) (same_list xs ys) h), same_true xs ys (and_right (eqb a b) (same_list xs ys) h))
 
@@ -78,13 +78,13 @@ pub record First (right : ℕ → Bool) (y m w : ℕ) : Type 0 where
   pub wrong : w < y + m → right w ≡ false
 
 module _ (right : ℕ → Bool) where
-  pub first-is : (y m : ℕ) → First right y m (wrongFrom right y m)
-  unfolding wrongFrom
-  first-is y zero = record { from = omega arith; within = omega arith; before = λ z a b. absurd (omega arith); wrong = λ h. absurd (omega arith) }
-  first-is y (suc m) =
+  pub first_is : (y m : ℕ) → First right y m (wrong_from right y m)
+  unfolding wrong_from
+  first_is y zero = record { from = omega arith; within = omega arith; before = λ z a b. absurd (omega arith); wrong = λ h. absurd (omega arith) }
+  first_is y (suc m) =
       ⊎_elim
       (λ e.
-      let f = first-is (suc y) m in
+      let f = first_is (suc y) m in
       rw e (record {
         from = omega (arith, f.from);
         within = omega (arith, f.within);
@@ -92,31 +92,31 @@ module _ (right : ℕ → Bool) where
         wrong = λ h. f.wrong (omega (arith, h));
       }))
       (λ e. rw e (record { from = omega arith; within = omega arith; before = λ z a b. absurd (omega arith); wrong = λ h. e }))
-      (true-or-false (right y))
+      (true_or_false (right y))
 
   -- there is one only
   pub first_one : (y m w v : ℕ) → First right y m w → First right y m v → w ≡ v
   first_one y m w v f g =
       three (w ≡ v) w v
-      (λ l. absurd (false-not-true (right w) (f.wrong (omega (arith, l, g.within))) (g.before w f.from l)))
+      (λ l. absurd (false_not_true (right w) (f.wrong (omega (arith, l, g.within))) (g.before w f.from l)))
       (λ e. e)
-      (λ l. absurd (false-not-true (right v) (g.wrong (omega (arith, l, f.within))) (f.before v g.from l)))
+      (λ l. absurd (false_not_true (right v) (g.wrong (omega (arith, l, f.within))) (f.before v g.from l)))
 
   -- the scan begins; a turn of it, its stop and its end
-  pub first-begin : (H : ℕ) → wrongFrom right 0 H ≡ wrongFrom right 0 (H - 0)
-  first-begin H = let k : H - 0 ≡ H = omega arith in rw k
+  pub first_begin : (H : ℕ) → wrong_from right 0 H ≡ wrong_from right 0 (H - 0)
+  first_begin H = let k : H - 0 ≡ H = omega arith in rw k
 
-  pub first_next : (y H : ℕ) → y < H → right y ≡ true → wrongFrom right y (H - y) ≡ wrongFrom right (y + 1) (H - (y + 1))
-  unfolding wrongFrom
+  pub first_next : (y H : ℕ) → y < H → right y ≡ true → wrong_from right y (H - y) ≡ wrong_from right (y + 1) (H - (y + 1))
+  unfolding wrong_from
   first_next y H h e = let k : H - y ≡ suc (H - suc y) = omega arith in rw (add-one y, k, e)
 
-  pub first-stop : (y H : ℕ) → y < H → right y ≡ false → wrongFrom right y (H - y) ≡ y
-  unfolding wrongFrom
-  first-stop y H h e = let k : H - y ≡ suc (H - suc y) = omega arith in rw (k, e)
+  pub first_stop : (y H : ℕ) → y < H → right y ≡ false → wrong_from right y (H - y) ≡ y
+  unfolding wrong_from
+  first_stop y H h e = let k : H - y ≡ suc (H - suc y) = omega arith in rw (k, e)
 
-  pub first-end : (y H : ℕ) → H ≤ y → wrongFrom right y (H - y) ≡ y
-  unfolding wrongFrom
-  first-end y H h = let k : H - y ≡ 0 = omega arith in rw k
+  pub first_end : (y H : ℕ) → H ≤ y → wrong_from right y (H - y) ≡ y
+  unfolding wrong_from
+  first_end y H h = let k : H - y ≡ 0 = omega arith in rw k
 
 -- ---- lists that ascend
 
@@ -160,70 +160,70 @@ module _ (here : ℕ → Bool) where
         rest = and_right (here i) _ b;
       }
 
-  pub head-made : (S least i : ℕ) (is : List ℕ) → least ≤ i → i < S → here i ≡ true → rising here S least (i ∷ is) ≡ rising here S (suc i) is
+  pub head_made : (S least i : ℕ) (is : List ℕ) → least ≤ i → i < S → here i ≡ true → rising here S least (i ∷ is) ≡ rising here S (suc i) is
   unfolding rising
-  head-made S least i is a b p = rw (le-leb least i a, lt-ltb i S b, p)
+  head_made S least i is a b p = rw (le-leb least i a, lt-ltb i S b, p)
 
   lower : (S a b : ℕ) (l : List ℕ) → a ≤ b → rising here S b l ≡ true → rising here S a l ≡ true
   unfolding rising
   lower S a b [] h r = refl
-  lower S a b (i ∷ is) h r = let k = head_of S b i is r in head-made S a i is (omega (arith, k.low)) k.below k.passes ∙ k.rest
+  lower S a b (i ∷ is) h r = let k = head_of S b i is r in head_made S a i is (omega (arith, k.low)) k.below k.passes ∙ k.rest
 
   -- no longer than the row's own list, and as long only if it is that
   record Fewer (l full : List ℕ) : Type 0 where
     short : length l ≤ length full
     whole : length full ≤ length l → l ≡ full
 
-  fewer-more : {a i : ℕ} {l full : List ℕ} → a ≡ i → Fewer l full → Fewer (i ∷ l) (a ∷ full)
-  fewer-more {a} {i} {l} {full} q f = record {
+  fewer_more : {a i : ℕ} {l full : List ℕ} → a ≡ i → Fewer l full → Fewer (i ∷ l) (a ∷ full)
+  fewer_more {a} {i} {l} {full} q f = record {
     short = omega (arith, f.short);
     whole = λ h. ap (λ (xs : List ℕ). i ∷ xs) (f.whole (omega (arith, h))) ∙ ap (λ (v : ℕ). v ∷ full) (sym q);
   }
 
-  fewer-less : {a : ℕ} {l full : List ℕ} → Fewer l full → Fewer l (a ∷ full)
-  fewer-less f = record { short = omega (arith, f.short); whole = λ h. absurd (omega (arith, f.short, h)) }
+  fewer_less : {a : ℕ} {l full : List ℕ} → Fewer l full → Fewer l (a ∷ full)
+  fewer_less f = record { short = omega (arith, f.short); whole = λ h. absurd (omega (arith, f.short, h)) }
 
-  nil-of : (xs : List ℕ) → length xs ≤ 0 → [] ≡ xs
-  nil-of [] h = refl
-  nil-of (x ∷ xs) h = absurd (omega arith)
+  nil_of : (xs : List ℕ) → length xs ≤ 0 → [] ≡ xs
+  nil_of [] h = refl
+  nil_of (x ∷ xs) h = absurd (omega arith)
 
   fewer : (S a n : ℕ) (l : List ℕ) → S ≡ a + n → rising here S a l ≡ true → Fewer l (from here a n)
   unfolding from rising
   fewer S a zero [] e r = record { short = omega arith; whole = λ h. refl }
   fewer S a zero (i ∷ is) e r = let k = head_of S a i is r in absurd (omega (arith, k.low, k.below))
-  fewer S a (suc n) [] e r = record { short = omega arith; whole = λ h. nil-of (from here a (suc n)) h }
+  fewer S a (suc n) [] e r = record { short = omega arith; whole = λ h. nil_of (from here a (suc n)) h }
   fewer S a (suc n) (i ∷ is) e r =
       let k : Head S a i is = head_of S a i is r in
       ⊎_elim
       (λ (q : a ≡ i).
       let p : here a ≡ true = rw q k.passes in
       let f : Fewer is (from here (suc a) n) = fewer S (suc a) n is (omega arith) (rw q k.rest) in
-      rw (from_in a n p) (fewer-more q f))
+      rw (from_in a n p) (fewer_more q f))
       (λ (l : suc a ≤ i).
-      let f : Fewer (i ∷ is) (from here (suc a) n) = fewer S (suc a) n (i ∷ is) (omega arith) (head-made S (suc a) i is l k.below k.passes ∙ k.rest) in
-      ⊎_elim (λ p. rw (from_in a n p) (fewer-less f)) (λ p. rw (from_out a n p) f) (true-or-false (here a)))
+      let f : Fewer (i ∷ is) (from here (suc a) n) = fewer S (suc a) n (i ∷ is) (omega arith) (head_made S (suc a) i is l k.below k.passes ∙ k.rest) in
+      ⊎_elim (λ p. rw (from_in a n p) (fewer_less f)) (λ p. rw (from_out a n p) f) (true_or_false (here a)))
       (eq-or-lt_of_le k.low)
 
-  from-rises : (S a n : ℕ) → S ≡ a + n → rising here S a (from here a n) ≡ true
+  from_rises : (S a n : ℕ) → S ≡ a + n → rising here S a (from here a n) ≡ true
   unfolding from rising
-  from-rises S a zero e = refl
-  from-rises S a (suc n) e =
-      let r = from-rises S (suc a) n (omega arith) in
+  from_rises S a zero e = refl
+  from_rises S a (suc n) e =
+      let r = from_rises S (suc a) n (omega arith) in
       ⊎_elim
-      (λ p. rw (from_in a n p) (head-made S a a (from here (suc a) n) (omega arith) (omega arith) p ∙ r))
+      (λ p. rw (from_in a n p) (head_made S a a (from here (suc a) n) (omega arith) (omega arith) p ∙ r))
       (λ p. rw (from_out a n p) (lower S a (suc a) (from here (suc a) n) (omega arith) r))
-      (true-or-false (here a))
+      (true_or_false (here a))
 
   -- a turn of the scan of a row
-  pub rising-next : (S least j e : ℕ) (l : List ℕ) → j < e → e ≤ length l
+  pub rising_next : (S least j e : ℕ) (l : List ℕ) → j < e → e ≤ length l
       → rising here S least (slice j e l) ≡ leb least (get_or l j 0) && (ltb (get_or l j 0) S && (here (get_or l j 0) && rising here S (get_or l j 0 + 1) (slice (j + 1) e l)))
   unfolding rising
-  rising-next S least j e l h k = rw (add-one j, add-one (get_or l j 0), slice-cons j e l 0 h k)
+  rising_next S least j e l h k = rw (add-one j, add-one (get_or l j 0), slice-cons j e l 0 h k)
 
-  pub rising-turn : (S least j e : ℕ) (l : List ℕ) {v : ℕ} → j < e → e ≤ length l → least ≤ get_or l j 0 → get_or l j 0 < S → here (get_or l j 0) ≡ true → get_or l j 0 + 1 ≡ v
+  pub rising_turn : (S least j e : ℕ) (l : List ℕ) {v : ℕ} → j < e → e ≤ length l → least ≤ get_or l j 0 → get_or l j 0 < S → here (get_or l j 0) ≡ true → get_or l j 0 + 1 ≡ v
       → rising here S least (slice j e l) ≡ rising here S v (slice (j + 1) e l)
-  rising-turn S least j e l h k a b p q =
-      rising-next S least j e l h k ∙ rw (le-leb least (get_or l j 0) a, lt-ltb (get_or l j 0) S b, p, q)
+  rising_turn S least j e l h k a b p q =
+      rising_next S least j e l h k ∙ rw (le-leb least (get_or l j 0) a, lt-ltb (get_or l j 0) S b, p, q)
 
   pub rising_none : (S least j e : ℕ) (l : List ℕ) → j ≤ e → e ≤ j → rising here S least (slice j e l) ≡ true
   unfolding rising
@@ -232,74 +232,74 @@ module _ (here : ℕ → Bool) where
 -- ---- a row
 
 -- the rows of a segment as a range
-pub has-by : (s : Segment) (y : ℕ) {r : Range} → r ≡ rows_of s → y < 2 ^ 24 → has_row s y ≡ leb r.first y && ltb y r.past
+pub has_by : (s : Segment) (y : ℕ) {r : Range} → r ≡ rows_of s → y < 2 ^ 24 → has_row s y ≡ leb r.first y && ltb y r.past
 unfolding rows_of
-has-by s y e h = has-row s y h ∙ ap (λ (r : Range). leb r.first y && ltb y r.past) (sym e)
+has_by s y e h = has_row_lem s y h ∙ ap (λ (r : Range). leb r.first y && ltb y r.past) (sym e)
 
 module _ (has : ℕ → ℕ → Bool) where
-  from-listed : (y S : ℕ) → from (λ i. has i y) 0 S ≡ listed has y S
+  from_listed : (y S : ℕ) → from (λ i. has i y) 0 S ≡ listed has y S
   unfolding from listed
-  from-listed y zero = refl
-  from-listed y (suc S) =
+  from_listed y zero = refl
+  from_listed y (suc S) =
       let e : 0 + S ≡ S = omega arith in
       let m : from (λ i. has i y) 0 (suc S) ≡ from (λ i. has i y) 0 S ++ only (has S y) S = rw e at (from_more (λ i. has i y) 0 S) in
-      m ∙ ap (λ (l : List ℕ). l ++ only (has S y) S) (from-listed y S)
+      m ∙ ap (λ (l : List ℕ). l ++ only (has S y) S) (from_listed y S)
 
-  pub listed-rises : (y S : ℕ) → rising (λ i. has i y) S 0 (listed has y S) ≡ true
-  listed-rises y S = rw (← from-listed y S) (from-rises (λ i. has i y) S 0 S (omega arith))
+  pub listed_rises : (y S : ℕ) → rising (λ i. has i y) S 0 (listed has y S) ≡ true
+  listed_rises y S = rw (← from_listed y S) (from_rises (λ i. has i y) S 0 S (omega arith))
 
   pub no_longer : (y S : ℕ) (l : List ℕ) → rising (λ i. has i y) S 0 l ≡ true → length l ≤ cnt has y S
-  no_longer y S l r = rw (← from-listed y S) (fewer (λ i. has i y) S 0 S l (omega arith) r).short
+  no_longer y S l r = rw (← from_listed y S) (fewer (λ i. has i y) S 0 S l (omega arith) r).short
 
   pub as_long : (y S : ℕ) (l : List ℕ) → rising (λ i. has i y) S 0 l ≡ true → cnt has y S ≤ length l → l ≡ listed has y S
-  as_long y S l r h = (fewer (λ i. has i y) S 0 S l (omega arith) r).whole (rw (from-listed y S) h) ∙ from-listed y S
+  as_long y S l r h = (fewer (λ i. has i y) S 0 S l (omega arith) r).whole (rw (from_listed y S) h) ∙ from_listed y S
 
   module _ (S : ℕ) (starts entries : List ℕ) (n : ℕ) where
     -- the parts of a row's test
-    pub right-facts : (y : ℕ) → rowRight has S starts entries n y ≡ true → RowRight has S starts entries n y
-    unfolding rowRight
-    right-facts y h =
-        let a = and_left (startsGood starts n y) _ h in
+    pub right_facts : (y : ℕ) → row_right has S starts entries n y ≡ true → RowRight has S starts entries n y
+    unfolding row_right
+    right_facts y h =
+        let a = and_left (starts_good starts n y) _ h in
         record {
           rises = leb-true _ _ (and_left (leb (get_or starts y 0) (get_or starts (suc y) 0)) _ a);
           ends = leb-true _ _ (and_right (leb (get_or starts y 0) (get_or starts (suc y) 0)) _ a);
-          lists = same_true _ _ (and_right (startsGood starts n y) _ h);
+          lists = same_true _ _ (and_right (starts_good starts n y) _ h);
         }
 
-    pub right-made : (y : ℕ) → RowRight has S starts entries n y → rowRight has S starts entries n y ≡ true
-    unfolding rowRight
-    right-made y f =
+    pub right_made : (y : ℕ) → RowRight has S starts entries n y → row_right has S starts entries n y ≡ true
+    unfolding row_right
+    right_made y f =
         rw (le-leb (get_or starts y 0) (get_or starts (suc y) 0) f.rises, le-leb (get_or starts (suc y) 0) n f.ends, f.lists) (same_self (listed has y S))
 
     pub record RowFits (y : ℕ) : Type 0 where
       pub rises : get_or starts y 0 ≤ get_or starts (suc y) 0
       pub ends : get_or starts (suc y) 0 ≤ n
-      pub ascends : rising (λ i. has i y) S 0 (entriesBetween starts entries y) ≡ true
+      pub ascends : rising (λ i. has i y) S 0 (entries_between starts entries y) ≡ true
 
-    pub fit-facts : (y : ℕ) → rowFits has S starts entries n y ≡ true → RowFits y
-    unfolding rowFits
-    fit-facts y h =
-        let a = and_left (startsGood starts n y) _ h in
+    pub fit_facts : (y : ℕ) → row_fits has S starts entries n y ≡ true → RowFits y
+    unfolding row_fits
+    fit_facts y h =
+        let a = and_left (starts_good starts n y) _ h in
         record {
           rises = leb-true _ _ (and_left (leb (get_or starts y 0) (get_or starts (suc y) 0)) _ a);
           ends = leb-true _ _ (and_right (leb (get_or starts y 0) (get_or starts (suc y) 0)) _ a);
-          ascends = and_right (startsGood starts n y) _ h;
+          ascends = and_right (starts_good starts n y) _ h;
         }
 
-    fit-made : (y : ℕ) → RowFits y → rowFits has S starts entries n y ≡ true
-    unfolding rowFits
-    fit-made y f = rw (le-leb (get_or starts y 0) (get_or starts (suc y) 0) f.rises, le-leb (get_or starts (suc y) 0) n f.ends, f.ascends)
+    fit_made : (y : ℕ) → RowFits y → row_fits has S starts entries n y ≡ true
+    unfolding row_fits
+    fit_made y f = rw (le-leb (get_or starts y 0) (get_or starts (suc y) 0) f.rises, le-leb (get_or starts (suc y) 0) n f.ends, f.ascends)
 
     -- the test as the code reads it
-    pub fits_by : (y : ℕ) → rowFits has S starts entries n y
+    pub fits_by : (y : ℕ) → row_fits has S starts entries n y
         ≡ ((leb (get_or starts y 0) (get_or starts (y + 1) 0) && leb (get_or starts (y + 1) 0) n) && rising (λ i. has i y) S 0 (slice (get_or starts y 0) (get_or starts (y + 1) 0) entries))
-    unfolding rowFits
+    unfolding row_fits
     fits_by y = rw (add-one y)
 
     -- what is right fits
-    pub right-fits : (y : ℕ) → rowRight has S starts entries n y ≡ true → rowFits has S starts entries n y ≡ true
-    right-fits y h =
-        let f = right-facts y h in
-        fit-made y (record { rises = f.rises; ends = f.ends; ascends = rw f.lists (listed-rises y S) })
+    pub right_fits : (y : ℕ) → row_right has S starts entries n y ≡ true → row_fits has S starts entries n y ≡ true
+    right_fits y h =
+        let f = right_facts y h in
+        fit_made y (record { rises = f.rises; ends = f.ends; ascends = rw f.lists (listed_rises y S) })
 
 -- Assumes nothing.

@@ -9,17 +9,17 @@ use Rattle.makers.specs.Check.{RowRight}
 
 -- every count is within its limit and its buffer
 pub record OfferedCountsFit (segs : List Float) (S : ℕ) (entries : List ℕ) (n : ℕ) : Type 0 where
-  pub few-segments : S ≤ 2 ^ 24
-  pub segments-fit : 8 * S ≤ length segs
-  pub few-entries : n ≤ 2 ^ 30
+  pub few_segments : S ≤ 2 ^ 24
+  pub segments_fit : 8 * S ≤ length segs
+  pub few_entries : n ≤ 2 ^ 30
   pub entries_fit : n ≤ length entries
 
 -- a count that exceeds its limit or overruns its buffer
 pub data OfferedOverrun (segs : List Float) (S : ℕ) (entries : List ℕ) (n : ℕ) : Type 0 where
-  many-segments : 2 ^ 24 < S → OfferedOverrun segs S entries n
-  segments-short : length segs < 8 * S → OfferedOverrun segs S entries n
-  many-entries : 2 ^ 30 < n → OfferedOverrun segs S entries n
-  entries-short : length entries < n → OfferedOverrun segs S entries n
+  many_segments : 2 ^ 24 < S → OfferedOverrun segs S entries n
+  segments_short : length segs < 8 * S → OfferedOverrun segs S entries n
+  many_entries : 2 ^ 30 < n → OfferedOverrun segs S entries n
+  entries_short : length entries < n → OfferedOverrun segs S entries n
 
 module _ (segs : List Float) (S H : ℕ) (starts entries : List ℕ) (n : ℕ) where
   -- the image is not too high, the row starts are one more than the rows, and the counts fit
@@ -44,7 +44,7 @@ module _ (segs : List Float) (S H : ℕ) (starts entries : List ℕ) (n : ℕ) w
   -- where a table is wrong first: the least row that is wrong; in an image without rows a first start other than 0; or the height, where entries are left after the last row
   pub data FirstWrong : ℕ → Type 0 where
     wrong_row : {w : ℕ} → w < H → ((y : ℕ) → y < w → RowGood y) → (RowGood w → ⊥) → FirstWrong w
-    first-start : H ≡ 0 → (get_or starts 0 0 ≡ 0 → ⊥) → FirstWrong H
+    first_start : H ≡ 0 → (get_or starts 0 0 ≡ 0 → ⊥) → FirstWrong H
     left_over : get_or starts 0 0 ≡ 0 → ((y : ℕ) → y < H → RowGood y) → get_or starts H 0 < n → FirstWrong H
 
   -- ---- the answers

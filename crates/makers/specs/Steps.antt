@@ -1,7 +1,7 @@
 -- What the steps of a check tell: cited by contracts of private functions. Definitions only.
 use Rattle.std.specs.Prelude.{◌≡◌, Bool, true, false, ◌&&◌, List, [], ◌∷◌, ℕ, suc, ◌≤◌, ◌<◌, leb, ltb, get_or, length}
-use Rattle.rows.specs.Rows.{entriesBetween}
-use Rattle.makers.specs.Check.{startsGood}
+use Rattle.rows.specs.Rows.{entries_between}
+use Rattle.makers.specs.Check.{starts_good}
 
 -- the numbers are at least `least`, ascend, and each names a segment below S that passes the test
 unfoldable pub rising : (ℕ → Bool) → ℕ → ℕ → List ℕ → Bool
@@ -10,11 +10,11 @@ rising here S least (i ∷ is) = leb least i && (ltb i S && (here i && rising he
 
 module _ (has : ℕ → ℕ → Bool) (S : ℕ) (starts entries : List ℕ) (n : ℕ) where
   -- row y lists no segment that it should not, each once, ascending: some may be missing
-  unfoldable pub rowFits : ℕ → Bool
-  rowFits y = startsGood starts n y && rising (λ i. has i y) S 0 (entriesBetween starts entries y)
+  unfoldable pub row_fits : ℕ → Bool
+  row_fits y = starts_good starts n y && rising (λ i. has i y) S 0 (entries_between starts entries y)
 
   -- the first row starts at 0, and so fit all rows below `bad`
   pub record Fitting (bad : ℕ) : Type 0 where
     pub begins : get_or starts 0 0 ≡ 0
     pub stored : n ≤ length entries
-    pub fits : (y : ℕ) → y < bad → rowFits y ≡ true
+    pub fits : (y : ℕ) → y < bad → row_fits y ≡ true

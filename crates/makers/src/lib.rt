@@ -4,8 +4,8 @@
 ghost use Rattle.std.specs.Prelude.{◌≡◌, ◌+◌, ◌*◌, ◌<◌, ◌≤◌, ◌^◌, length};
 ghost use Rattle.std.proofs.Math.Seq.{slice};
 ghost use Rattle.rows.specs.Rows.{in_row};
-ghost use Rattle.makers.specs.Check.{wrongFrom};
-ghost use Rattle.makers.specs.Steps.{rising, rowFits};
+ghost use Rattle.makers.specs.Check.{wrong_from};
+ghost use Rattle.makers.specs.Steps.{rising, row_fits};
 
 use codes::Code;
 use segments::Segment;
@@ -74,7 +74,7 @@ fn row_fits(
 ) -> bool
     requires entry_count_in_bounds { (entry_count ≤ length entries.now) × (y + 1 < length row_starts.now) }
     requires segment_count_in_bounds { (8 * segment_count ≤ length segments.now) × (segment_count ≤ 2 ^ 24) × (y < 2 ^ 24) }
-    ensures { result ≡ rowFits (in_row segments.now) segment_count row_starts.now entries.now entry_count y }
+    ensures { result ≡ row_fits (in_row segments.now) segment_count row_starts.now entries.now entry_count y }
 {
     let b = row_starts[y] as usize;
     let e = row_starts[y + 1] as usize;
@@ -98,7 +98,7 @@ pub fn first_unfit(
 ) -> usize
     requires entry_count_in_bounds { (entry_count ≤ length entries.now) × (height < length row_starts.now) × (height ≤ 2 ^ 23) }
     requires segment_count_in_bounds { (8 * segment_count ≤ length segments.now) × (segment_count ≤ 2 ^ 24) }
-    ensures { result ≡ wrongFrom (rowFits (in_row segments.now) segment_count row_starts.now entries.now entry_count) 0 height }
+    ensures { result ≡ wrong_from (row_fits (in_row segments.now) segment_count row_starts.now entries.now entry_count) 0 height }
 {
     // Row y lies between the starts y and y + 1.
     let starts = height + 1;

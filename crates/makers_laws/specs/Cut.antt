@@ -3,6 +3,6 @@ use Rattle.std.specs.Prelude.{◌+◌, ◌*◌, take}
 use Rattle.checks.specs.Tables.{Table, table_of}
 
 -- no cell stands behind a count: the check wants one more row start than rows and no other
-abbrev pub cutToCounts : Table → Table
-cutToCounts t =
-    table_of (take (8 * t.segmentCount) t.segments) t.segmentCount (take t.entryCount t.entries) t.entryCount (take (t.height + 1) t.rowStarts) t.height
+abbrev pub cut_to_counts : Table → Table
+cut_to_counts t =
+    table_of (take (8 * t.segment_count) t.segments) t.segment_count (take t.entry_count t.entries) t.entry_count (take (t.height + 1) t.row_starts) t.height

@@ -5,7 +5,7 @@
 ghost use Rattle.std.specs.Prelude.{◌≡◌, ◌+◌, ◌-◌, ◌*◌, ◌<◌, ◌≤◌, ◌^◌, ltb, length, get_or};
 ghost use Rattle.rows.specs.Rows.{start_of, in_row};
 ghost use Rattle.rows.specs.Steps.{first_of, past_of};
-ghost use Rattle.makers.specs.Check.{rowRight, wrongFrom, offeredCountsGood, checkOf};
+ghost use Rattle.makers.specs.Check.{row_right, wrong_from, offered_counts_good, check_of};
 ghost use Rattle.makers.specs.Steps.{Fitting};
 
 use codes::Code;
@@ -65,7 +65,7 @@ fn first_short(
     requires segment_count_in_bounds { (8 * segment_count ≤ length segments.now) × (segment_count ≤ 2 ^ 24) }
     requires bad_bound { (bad ≤ 2 ^ 23) × (bad < length row_starts.now) }
     requires fitting { Fitting (in_row segments.now) segment_count row_starts.now entries.now entry_count bad }
-    ensures { result ≡ wrongFrom (rowRight (in_row segments.now) segment_count row_starts.now entries.now entry_count) 0 bad }
+    ensures { result ≡ wrong_from (row_right (in_row segments.now) segment_count row_starts.now entries.now entry_count) 0 bad }
 {
     let count = segment_count as usize;
     if !short_before(segments, count, row_starts, bad) {
@@ -86,7 +86,7 @@ fn first_short(
 
 // Whether the counts are within their limits and their buffers.
 fn counts_good(segments: &[f32], segment_count: u32, entries: &[u32], entry_count: u32) -> bool
-    ensures { result ≡ offeredCountsGood segments.now segment_count entries.now entry_count }
+    ensures { result ≡ offered_counts_good segments.now segment_count entries.now entry_count }
 {
     if 16777216 < segment_count {
         return false;
@@ -112,7 +112,7 @@ fn first_wrong(
     requires segment_count_in_bounds { (8 * segment_count ≤ length segments.now) × (segment_count ≤ 2 ^ 24) }
     requires entry_count_in_bounds { (entry_count ≤ length entries.now) × (height < length row_starts.now) × (height ≤ 2 ^ 23) }
     requires row_starts_value { get_or row_starts.now 0 0 ≡ 0 }
-    ensures { result ≡ wrongFrom (rowRight (in_row segments.now) segment_count row_starts.now entries.now entry_count) 0 height }
+    ensures { result ≡ wrong_from (row_right (in_row segments.now) segment_count row_starts.now entries.now entry_count) 0 height }
 {
     let bad = makers::first_unfit(
         segments,
@@ -141,7 +141,7 @@ pub fn check(
     entries: &[u32],
     entry_count: u32,
 ) -> CheckAnswer
-    ensures { result ≡ checkOf segments.now segment_count height row_starts.now entries.now entry_count }
+    ensures { result ≡ check_of segments.now segment_count height row_starts.now entries.now entry_count }
 {
     if 8388608 < height {
         return CheckAnswer::Refused(Code::Size, 0);

@@ -11,7 +11,7 @@ use lib.Ieee.{Float, nan, inf, fin, binary32, up, down, round, sum, add, sub, ne
 use lib.Ieee.Fits.{down_pos}
 use lib.Ieee.Exact.{HasValue}
 use lib.Ieee.Scale.{round_same}
-use Rattle.wholes.specs.Whole.{roundOf}
+use Rattle.wholes.specs.Whole.{round_of}
 use Rattle.ieee754.specs.Ieee754.{signed}
 use Rattle.near.proofs.Settled.{settled}
 
@@ -27,7 +27,7 @@ pub record Ends (s : Bool) (h P M Q : ℕ) : Type 0 where
 pub record End (x : Float) (P M Q : ℕ) : Type 0 where
   pub s : Bool
   pub h : ℕ
-  pub value : HasValue (roundOf binary32 x) s h 1
+  pub value : HasValue (round_of binary32 x) s h 1
   pub few : h < 2 ^ 23
   pub ends : Ends s h P M Q
 
@@ -77,22 +77,22 @@ module _ (n P M Q : ℕ) (Q-pos : 0 < Q) where
 -- ---- a sum of ±A / Q and ±B / Q
 
 -- the parts of ±n: above 0 and below
-abbrev pub plusOf : Bool → ℕ → ℕ
-plusOf s n = cond s 0 n
+abbrev pub plus_of : Bool → ℕ → ℕ
+plus_of s n = cond s 0 n
 
-abbrev pub minusOf : Bool → ℕ → ℕ
-minusOf s n = cond s n 0
+abbrev pub minus_of : Bool → ℕ → ℕ
+minus_of s n = cond s n 0
 
-pub sum-end : (A B Q : ℕ) → 0 < Q → A + B ≤ 2 ^ 22 * Q → (s t : Bool) → End (sum binary32 s A t B Q) (plusOf s A + plusOf t B) (minusOf s A + minusOf t B) Q
+pub sum_end : (A B Q : ℕ) → 0 < Q → A + B ≤ 2 ^ 22 * Q → (s t : Bool) → End (sum binary32 s A t B Q) (plus_of s A + plus_of t B) (minus_of s A + minus_of t B) Q
 unfolding sum
-sum-end A B Q Q-pos small false false = end_of (A + B) (A + B) 0 Q Q-pos small false (omega arith)
-sum-end A B Q Q-pos small true true = end_of (A + B) 0 (A + B) Q Q-pos small true (omega arith)
-sum-end A B Q Q-pos small false true = go (ltb A B) (ltb→lt A B) (nltb→le A B)
+sum_end A B Q Q-pos small false false = end_of (A + B) (A + B) 0 Q Q-pos small false (omega arith)
+sum_end A B Q Q-pos small true true = end_of (A + B) 0 (A + B) Q Q-pos small true (omega arith)
+sum_end A B Q Q-pos small false true = go (ltb A B) (ltb→lt A B) (nltb→le A B)
   where
     go : (b : Bool) → (T b → A < B) → (T (not b) → B ≤ A) → End (cond b (round binary32 true (B - A) Q) (round binary32 false (A - B) Q)) (A + 0) (0 + B) Q
     go true f g = let l = f tt in end_of (B - A) (A + 0) (0 + B) Q Q-pos (omega arith) true (omega arith)
     go false f g = let l = g tt in end_of (A - B) (A + 0) (0 + B) Q Q-pos (omega arith) false (omega arith)
-sum-end A B Q Q-pos small true false = go (ltb A B) (ltb→lt A B) (nltb→le A B) (ltb B A) (nltb→le B A)
+sum_end A B Q Q-pos small true false = go (ltb A B) (ltb→lt A B) (nltb→le A B) (ltb B A) (nltb→le B A)
   where
     go : (b : Bool) → (T b → A < B) → (T (not b) → B ≤ A) → (c : Bool) → (T (not c) → A ≤ B)
         → End (cond b (round binary32 false (B - A) Q) (round binary32 (true && c) (A - B) Q)) (0 + B) (A + 0) Q
@@ -110,14 +110,14 @@ sum_is s t a b c = refl
 
 -- fractions of equal value compare alike, and a sum depends on the values only
 module _ (c Q : ℕ) (c_pos : 0 < c) (Q-pos : 0 < Q) where
-  less-too : (a b A B : ℕ) → a * Q ≡ A * c → b * Q ≡ B * c → T (ltb a b) → T (ltb A B)
-  less-too a b A B e f t =
+  less_too : (a b A B : ℕ) → a * Q ≡ A * c → b * Q ≡ B * c → T (ltb a b) → T (ltb A B)
+  less_too a b A B e f t =
       let l : A * c < B * c = rw (← e, ← f) (mul-lt-mul_of_pos_right (ltb→lt a b t) Q-pos) in
       lt→ltb A B (lt_of_mul-lt-mul_right c l)
 
 module _ (a b c A B Q : ℕ) (c_pos : 0 < c) (Q-pos : 0 < Q) (e : a * Q ≡ A * c) (f : b * Q ≡ B * c) where
-  ltb-same : ltb a b ≡ ltb A B
-  ltb-same = go (ltb a b) (ltb A B) (less-too c Q c_pos Q-pos a b A B e f) (less-too Q c Q-pos c_pos A B a b (sym e) (sym f))
+  ltb_same : ltb a b ≡ ltb A B
+  ltb_same = go (ltb a b) (ltb A B) (less_too c Q c_pos Q-pos a b A B e f) (less_too Q c Q-pos c_pos A B a b (sym e) (sym f))
     where
       go : (p q : Bool) → (T p → T q) → (T q → T p) → p ≡ q
       go true true u v = refl
@@ -134,8 +134,8 @@ module _ (a b c A B Q : ℕ) (c_pos : 0 < c) (Q-pos : 0 < Q) (e : a * Q ≡ A * 
 sum_same : (s t : Bool) (a b c A B Q : ℕ) → 0 < c → 0 < Q → a * Q ≡ A * c → b * Q ≡ B * c → sum binary32 s a t b c ≡ sum binary32 s A t B Q
 sum_same s t a b c A B Q C P e f =
     let more : (a + b) * Q ≡ (A + B) * c = omega arith in
-    let ab = ltb-same a b c A B Q C P e f in
-    let ba = ltb-same b a c B A Q C P f e in
+    let ab = ltb_same a b c A B Q C P e f in
+    let ba = ltb_same b a c B A Q C P f e in
     let p = round_same binary32 s (a + b) c (A + B) Q C P more in
     let q = round_same binary32 t (b - a) c (B - A) Q C P (less a b c A B Q C P e f) in
     let r = round_same binary32 (s && ltb B A) (a - b) c (A - B) Q C P (less b a c B A Q C P f e) in
@@ -164,12 +164,12 @@ neg_value nan s A Q v = absurd v
 neg_value (inf u) s A Q v = absurd v
 neg_value (fin u m e) s A Q v = (ap not v.0, v.1)
 
-sub-opened : (x y : Float) → sub binary32 x y ≡ add binary32 x (neg y)
+sub_opened : (x y : Float) → sub binary32 x y ≡ add binary32 x (neg y)
 unfolding sub
-sub-opened x y = refl
+sub_opened x y = refl
 
 -- and a difference
 pub sub_is : (x y : Float) (s t : Bool) (A B Q : ℕ) → 0 < Q → HasValue x s A Q → HasValue y t B Q → sub binary32 x y ≡ sum binary32 s A (not t) B Q
-sub_is x y s t A B Q P v w = sub-opened x y ∙ add_is x (neg y) s (not t) A B Q P v (neg_value y t B Q w)
+sub_is x y s t A B Q P v w = sub_opened x y ∙ add_is x (neg y) s (not t) A B Q P v (neg_value y t B Q w)
 
 -- Assumes nothing.

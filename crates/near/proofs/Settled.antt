@@ -10,10 +10,10 @@ use lib.Pow.{pow_pos}
 use lib.Ieee.{Float, nan, inf, fin, binary32, up, down, round, fits, units}
 use lib.Ieee.Fits.{down_pos}
 use lib.Ieee.Exact.{HasValue, units_val}
-use Rattle.wholes.specs.Whole.{roundOf}
-use Rattle.ieee754.specs.Ieee754.{tooLarge, NearestFraction}
-use Rattle.ieee754.proofs.Values.{units-held}
-use Rattle.ieee754.proofs.NearestEven.{round-nearest}
+use Rattle.wholes.specs.Whole.{round_of}
+use Rattle.ieee754.specs.Ieee754.{too_large, NearestFraction}
+use Rattle.ieee754.proofs.Values.{units_held}
+use Rattle.ieee754.proofs.NearestEven.{round_nearest}
 use Rattle.ieee754.proofs.WholeParts.{whole_parts}
 
 -- ---- R is off by at most a half
@@ -21,7 +21,7 @@ use Rattle.ieee754.proofs.WholeParts.{whole_parts}
 -- R of an f32 of the value v / U, as a whole number
 record Whole (x : Float) (s : Bool) (v U : ℕ) : Type 0 where
   h : ℕ
-  is : HasValue (roundOf binary32 x) s h 1
+  is : HasValue (round_of binary32 x) s h 1
   over : 2 * (h * U) ≤ 2 * v + U
   under : 2 * v ≤ 2 * (h * U) + U
 
@@ -32,9 +32,9 @@ whole_of (fin t m e) s v U F g =
     let r = (whole_parts binary32).round t m e F in
     record {
       h = r.size;
-      is = subst (λ (b : Bool). HasValue (roundOf binary32 (fin t m e)) b r.size 1) g.0 r.is;
-      over = le_of_mul-le-mul_right (over (m * up e) (down e) r.size g.1 (mul-le-mul_right U r.r-within)) (down_pos e);
-      under = le_of_mul-le-mul_right (under (m * up e) (down e) r.size g.1 (mul-le-mul_right U r.x-within)) (down_pos e);
+      is = subst (λ (b : Bool). HasValue (round_of binary32 (fin t m e)) b r.size 1) g.0 r.is;
+      over = le_of_mul-le-mul_right (over (m * up e) (down e) r.size g.1 (mul-le-mul_right U r.r_within)) (down_pos e);
+      under = le_of_mul-le-mul_right (under (m * up e) (down e) r.size g.1 (mul-le-mul_right U r.x_within)) (down_pos e);
     }
   where
     over : (n d h : ℕ) → n * U ≡ v * d → 2 * h * d * U ≤ (2 * n + d) * U → 2 * (h * U) * d ≤ (2 * v + U) * d
@@ -59,13 +59,13 @@ module _ (s : Bool) (n D : ℕ) (D-pos : 0 < D) (small : n ≤ 2 ^ 22 * D) (r : 
     fine = lt_of_le_of_lt (mul-le-mul_right U few) (lit< {m = 2 ^ 24 * U} {n = 2 ^ 277} tt)
 
     below : j * U < v → (j * U + v) * D ≤ 2 * (n * 2 ^ 149)
-    below = near.below (units binary32 s j 147) (j * U) (units-held binary32 s j 147 few fine) (units_val binary32 s j 147 fine)
+    below = near.below (units binary32 s j 147) (j * U) (units_held binary32 s j 147 few fine) (units_val binary32 s j 147 fine)
 
     above : v < j * U → 2 * (n * 2 ^ 149) ≤ (j * U + v) * D
-    above = near.above (units binary32 s j 147) (j * U) (units-held binary32 s j 147 few fine) (units_val binary32 s j 147 fine)
+    above = near.above (units binary32 s j 147) (j * U) (units_held binary32 s j 147 few fine) (units_val binary32 s j 147 fine)
 
-    no-higher : 4 * n ≤ j * D → v ≤ j * U
-    no-higher h = le_of_suc-le-suc (lt_of_not-le (λ (g : j * U < v). go U v (below g) (mul-le-mul_right U h) (mul-lt-mul_of_pos_right g D-pos)))
+    no_higher : 4 * n ≤ j * D → v ≤ j * U
+    no_higher h = le_of_suc-le-suc (lt_of_not-le (λ (g : j * U < v). go U v (below g) (mul-le-mul_right U h) (mul-lt-mul_of_pos_right g D-pos)))
       where
         go : (U v : ℕ) → (j * U + v) * D ≤ 2 * (n * (4 * U)) → 4 * n * U ≤ j * D * U → j * U * D < v * D → ⊥
         go U v a b c = omega arith
@@ -83,7 +83,7 @@ module _ (s : Bool) (n D : ℕ) (D-pos : 0 < D) (small : n ≤ 2 ^ 22 * D) (r : 
   -- between two quarters r is at the nearer, or between them too
   between : (j : ℕ) → suc j ≤ 2 ^ 24 → j * D ≤ 4 * n → 4 * n ≤ suc j * D → Off
   between j few lo hi = (
-    over U v (mul-le-mul_right D (no-higher (suc j) few hi)) (mul-le-mul_right U lo) (ltb (j * U) v) (λ t. below j less (ltb→lt (j * U) v t)) (λ t. mul-le-mul_right D (nltb→le (j * U) v t)),
+    over U v (mul-le-mul_right D (no_higher (suc j) few hi)) (mul-le-mul_right U lo) (ltb (j * U) v) (λ t. below j less (ltb→lt (j * U) v t)) (λ t. mul-le-mul_right D (nltb→le (j * U) v t)),
     under U v (mul-le-mul_right D (no_lower j less lo)) (mul-le-mul_right U hi) (ltb v (suc j * U)) (λ t. above (suc j) few (ltb→lt v (suc j * U) t)) (λ t. mul-le-mul_right D (nltb→le v (suc j * U) t)),
   )
     where
@@ -104,14 +104,14 @@ module _ (s : Bool) (n D : ℕ) (D-pos : 0 < D) (small : n ≤ 2 ^ 22 * D) (r : 
   at_top : 2 ^ 24 * D ≤ 4 * n → Off
   at_top h =
       let hi : 4 * n ≤ 2 ^ 24 * D = omega arith in
-      go U v (mul-le-mul_right D (no-higher (2 ^ 24) (lit≤ tt) hi)) (mul-le-mul_right D (no_lower (2 ^ 24) (lit≤ tt) h)) (mul-le-mul_right U hi) (mul-le-mul_right U h)
+      go U v (mul-le-mul_right D (no_higher (2 ^ 24) (lit≤ tt) hi)) (mul-le-mul_right D (no_lower (2 ^ 24) (lit≤ tt) h)) (mul-le-mul_right U hi) (mul-le-mul_right U h)
     where
       go : (U v : ℕ) → v * D ≤ 16777216 * U * D → 16777216 * U * D ≤ v * D → 4 * n * U ≤ 16777216 * D * U → 16777216 * D * U ≤ 4 * n * U
           → (2 * (v * D) ≤ 2 * (n * (4 * U)) + U * D) × (2 * (n * (4 * U)) ≤ 2 * (v * D) + U * D)
       go U v a b c d = (omega arith, omega arith)
 
-  an-eighth : Off
-  an-eighth =
+  an_eighth : Off
+  an_eighth =
       let lo : 4 * n / D * D ≤ 4 * n = div-mul-le_self (4 * n) D in
       elim (eq-or-lt_of_le (le_of_mul-le-mul_right (le_trans lo most) D-pos)) [
         | inl e ↦ at_top (subst (λ (j : ℕ). j * D ≤ 4 * n) e lo)
@@ -129,16 +129,16 @@ module _ (s : Bool) (n D : ℕ) (D-pos : 0 < D) (small : n ≤ 2 ^ 22 * D) (r : 
 -- x is the f32 nearest to ±n / D, and R of it is ±h
 pub record Settled (s : Bool) (n D : ℕ) (x : Float) : Type 0 where
   pub h : ℕ
-  pub is : HasValue (roundOf binary32 x) s h 1
+  pub is : HasValue (round_of binary32 x) s h 1
   pub over : 8 * (h * D) ≤ 8 * n + 5 * D
   pub under : 8 * n ≤ 8 * (h * D) + 5 * D
 
 pub settled : (s : Bool) (n D : ℕ) → 0 < D → n ≤ 2 ^ 22 * D → Settled s n D (round binary32 s n D)
 settled s n D D-pos small =
     let r = round binary32 s n D in
-    let near = round-nearest binary32 s n D D-pos (lt_of_le_of_lt small (mul-lt-mul_of_pos_right (lit< {m = 2 ^ 22} {n = tooLarge binary32} tt) D-pos)) in
+    let near = round_nearest binary32 s n D D-pos (lt_of_le_of_lt small (mul-lt-mul_of_pos_right (lit< {m = 2 ^ 22} {n = too_large binary32} tt) D-pos)) in
     let w = whole_of r s near.size (2 ^ 149) near.held near.is in
-    let o = an-eighth s n D D-pos small r near in
+    let o = an_eighth s n D D-pos small r near in
     record {
       h = w.h;
       is = w.is;

@@ -6,7 +6,7 @@ use Rattle.std.specs.Float.Ieee.{fits}
 use Rattle.std.specs.Float.Ieee.Exact.{HasValue}
 use Rattle.std.specs.Float.Ieee.Scale.{finite}
 use Rattle.ieee754.specs.Ieee754.{signed}
-use Rattle.segments.specs.Ranges.{has_row, hasColumn}
+use Rattle.segments.specs.Ranges.{has_row, has_column}
 use Rattle.segments.specs.declared.Segment.{Segment}
 
 -- x is finite, and is the fraction z / 2 ^ k; either zero is 0
@@ -18,7 +18,7 @@ pub record Is (x : Float) (z : ℤ) (k : ℕ) : Type 0 where
 
 -- the premises: a centre c and a distance d, finite, with d at least 0 and |c| + d at most 2 ^ 22
 pub record Edge (centre distance : Float) (k : ℕ) (c : ℤ) (d : ℕ) : Type 0 where
-  pub centre-is : Is centre c k
+  pub centre_is : Is centre c k
   pub distance_is : Is distance (pos d) k
   pub small : nat_abs c + d ≤ 2 ^ 22 * 2 ^ k
 
@@ -43,7 +43,7 @@ RowsBy Holds = (s : Segment) (k : ℕ) (c : ℤ) (d : ℕ) → Edge s.center_y s
 -- its columns, where c - d is also at least 1
 abbrev pub ColumnsBy : ((ℕ → Bool) → ℕ → ℤ → ℕ → Type 0) → Type 0
 ColumnsBy Holds =
-    (s : Segment) (k : ℕ) (c : ℤ) (d : ℕ) → Edge s.center_x s.maximum_distance k c d → pos (d + 2 ^ k) ≤ℤ c → Holds (hasColumn s) k c d
+    (s : Segment) (k : ℕ) (c : ℤ) (d : ℕ) → Edge s.center_x s.maximum_distance k c d → pos (d + 2 ^ k) ≤ℤ c → Holds (has_column s) k c d
 
 abbrev pub RowsNear : Type 0
 RowsNear = RowsBy Allowance

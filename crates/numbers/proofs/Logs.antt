@@ -1,4 +1,4 @@
--- `ceilLog2` is the least k with n at most 2 ^ k: n lies from 2 ^ j up to 2 ^ (j + 1), and n and n - 1 share the bit j exactly where n is not 2 ^ j.
+-- `ceil_log2` is the least k with n at most 2 ^ k: n lies from 2 ^ j up to 2 ^ (j + 1), and n and n - 1 share the bit j exactly where n is not 2 ^ j.
 use mathlib.Core.Path.{◌≡◌, sym, ap, ◌∙◌, subst}
 use mathlib.Core.Bool.{Bool, true, false, cond}
 use Prim.Native.Nat.{ℕ, zero, suc, ◌+◌, ◌-◌, ◌*◌, ◌/◌, ◌^◌, ◌≤◌, ◌<◌, zero-le}
@@ -9,8 +9,8 @@ use lib.Count.{count_leading_zeros, leading_top, leading_of_zero}
 use lib.Dec.{T, eqb, eqb→eq}
 use lib.Ieee.Fits.{eq→eqb}
 use lib.Pow.{pow_pos, pow_mono}
-use Rattle.numbers.specs.Saturating.{IsLog, floorLog2, ceilLog2}
-use Rattle.numbers.proofs.Powers.{pow-back}
+use Rattle.numbers.specs.Saturating.{IsLog, floor_log2, ceil_log2}
+use Rattle.numbers.proofs.Powers.{pow_back}
 
 module _ (n j : ℕ) (lo : 2 ^ j ≤ n) (hi : n < 2 ^ suc j) where
   one : (m : ℕ) → 2 ^ j ≤ m → m < 2 ^ suc j → m / 2 ^ j ≡ 1
@@ -37,7 +37,7 @@ module _ (n j : ℕ) (lo : 2 ^ j ≤ n) (hi : n < 2 ^ suc j) where
   alone e = ap (λ (z : ℕ). bit_and z (z - 1)) e ∙ and_mask (2 ^ j) j ∙ mod_self (2 ^ j)
 
   log_is : (t : Bool) → (T t → bit_and n (n - 1) ≡ 0) → (bit_and n (n - 1) ≡ 0 → T t) → IsLog n (cond t j (j + 1))
-  log_is true a b = record { reaches = le_of_eq (single (a tt)); least = λ k h. pow-back j k (le_trans lo h) }
+  log_is true a b = record { reaches = le_of_eq (single (a tt)); least = λ k h. pow_back j k (le_trans lo h) }
   log_is false a b = record { reaches = subst (λ (z : ℕ). n ≤ 2 ^ z) (go j) (le_of_lt hi); least = λ k h. more k h }
     where
       go : (j : ℕ) → suc j ≡ j + 1
@@ -49,10 +49,10 @@ module _ (n j : ℕ) (lo : 2 ^ j ≤ n) (hi : n < 2 ^ suc j) where
       more : (k : ℕ) → n ≤ 2 ^ k → j + 1 ≤ k
       more k h = up j k (lt_of_not-le (λ (g : k ≤ j). b (alone (le_antisymm (le_trans h (pow_mono g)) lo))))
 
-pub ceil-log2-is : (n : ℕ) → n < 2 ^ 64 → IsLog n (ceilLog2 n)
-unfolding ceilLog2 floorLog2
-ceil-log2-is zero h = rw leading_of_zero (record { reaches = zero-le; least = λ k g. zero-le })
-ceil-log2-is (suc n) h =
+pub ceil_log2_is : (n : ℕ) → n < 2 ^ 64 → IsLog n (ceil_log2 n)
+unfolding ceil_log2 floor_log2
+ceil_log2_is zero h = rw leading_of_zero (record { reaches = zero-le; least = λ k g. zero-le })
+ceil_log2_is (suc n) h =
     let t = leading_top 64 (suc n) (zero-lt-suc n) h in
     let e : 64 - count_leading_zeros 64 (suc n) - 1 ≡ t.0 = omega (arith, t.1) in
     rw e (log_is (suc n) t.0 t.2 t.3 (eqb (bit_and (suc n) (suc n - 1)) 0) (eqb→eq (bit_and (suc n) (suc n - 1)) 0) (λ q. eq→eqb q))

@@ -15,39 +15,39 @@ use lib.Ieee.Nearest.{closest, closest_same}
 use Rattle.numbers.proofs.Units.{of_int_is, put}
 use Rattle.numbers.proofs.Powers.{pow_lt_back}
 
-size-gt : (n j : ℕ) → 2 ^ j ≤ n → j < size n
-size-gt n j h = lt_of_not-le (λ (g : size n ≤ j). not-le_of_lt (lt_of_lt_of_le (size-lt n) (pow_mono g)) h)
+size_gt : (n j : ℕ) → 2 ^ j ≤ n → j < size n
+size_gt n j h = lt_of_not-le (λ (g : size n ≤ j). not-le_of_lt (lt_of_lt_of_le (size-lt n) (pow_mono g)) h)
 
 pub size_is : (n j : ℕ) → 2 ^ j ≤ n → n < 2 ^ suc j → size n ≡ suc j
-size_is n j lo hi = le_antisymm (size-le n (suc j) hi) (size-gt n j lo)
+size_is n j lo hi = le_antisymm (size-le n (suc j) hi) (size_gt n j lo)
 
 module _ (f : Format) (n j k : ℕ) (lo : 2 ^ j ≤ n) (hi : n < 2 ^ suc j) (at : suc j ≡ prec f + k) where
   abbrev q : ℕ
   q = closest n (2 ^ k)
 
-  pub q-le : closest n (2 ^ k) ≤ 2 ^ prec f
-  q-le = le_trans (nearest-le (n / 2 ^ k) (compare (n % 2 ^ k * 2) (2 ^ k))) (shr_lt (prec f) k (subst (λ (z : ℕ). n < 2 ^ z) at hi))
+  pub q_le : closest n (2 ^ k) ≤ 2 ^ prec f
+  q_le = le_trans (nearest-le (n / 2 ^ k) (compare (n % 2 ^ k * 2) (2 ^ k))) (shr_lt (prec f) k (subst (λ (z : ℕ). n < 2 ^ z) at hi))
 
-  scaled-lo : 2 ^ (j + low f) ≤ n * 2 ^ low f / 1
-  scaled-lo = le_trans (le_of_eq (pow-add 2 j (low f))) (le_trans (mul-le-mul_right (2 ^ low f) lo) (le_of_eq (sym (div-one (n * 2 ^ low f)))))
+  scaled_lo : 2 ^ (j + low f) ≤ n * 2 ^ low f / 1
+  scaled_lo = le_trans (le_of_eq (pow-add 2 j (low f))) (le_trans (mul-le-mul_right (2 ^ low f) lo) (le_of_eq (sym (div-one (n * 2 ^ low f)))))
 
-  scaled-hi : n * 2 ^ low f / 1 < 2 ^ suc (j + low f)
-  scaled-hi = lt_of_le_of_lt (le_of_eq (div-one (n * 2 ^ low f))) (subst (λ (z : ℕ). n * 2 ^ low f < 2 ^ z) (suc-add j (low f)) (shl_lt (suc j) (low f) hi))
+  scaled_hi : n * 2 ^ low f / 1 < 2 ^ suc (j + low f)
+  scaled_hi = lt_of_le_of_lt (le_of_eq (div-one (n * 2 ^ low f))) (subst (λ (z : ℕ). n * 2 ^ low f < 2 ^ z) (suc-add j (low f)) (shl_lt (suc j) (low f) hi))
 
   dropped : size (n * 2 ^ low f / 1) - prec f ≡ k + low f
-  dropped = ap (λ (z : ℕ). z - prec f) (size_is (n * 2 ^ low f / 1) (j + low f) scaled-lo scaled-hi) ∙ go j k (prec f) (low f) at
+  dropped = ap (λ (z : ℕ). z - prec f) (size_is (n * 2 ^ low f / 1) (j + low f) scaled_lo scaled_hi) ∙ go j k (prec f) (low f) at
     where
       go : (j k p l : ℕ) → suc j ≡ p + k → suc (j + l) - p ≡ k + l
       go j k p l e = omega arith
 
-  kept-is : closest (n * 2 ^ low f) (1 * 2 ^ (k + low f)) ≡ q
-  kept-is = closest_same (n * 2 ^ low f) (1 * 2 ^ (k + low f)) n (2 ^ k) (mul-pos (zero-lt-suc 0) (pow_pos (k + low f))) (pow_pos k)
+  kept_is : closest (n * 2 ^ low f) (1 * 2 ^ (k + low f)) ≡ q
+  kept_is = closest_same (n * 2 ^ low f) (1 * 2 ^ (k + low f)) n (2 ^ k) (mul-pos (zero-lt-suc 0) (pow_pos (k + low f))) (pow_pos k)
       (mul_assoc n (2 ^ low f) (2 ^ k) ∙ ap (λ (z : ℕ). n * z) (mul_comm (2 ^ low f) (2 ^ k) ∙ sym (pow-add 2 k (low f)) ∙ sym (one-mul (2 ^ (k + low f)))))
 
   -- n is its leading digits, at the place of the last of them
   pub leading : units f false (closest n (2 ^ k)) (k + low f) ≡ of_int f (pos n)
   leading =
-      sym (ap (λ (z : ℕ). units f false z (k + low f)) kept-is)
+      sym (ap (λ (z : ℕ). units f false z (k + low f)) kept_is)
       ∙ sym (ap (λ (z : ℕ). units f false (closest (n * 2 ^ low f) (1 * 2 ^ z)) z) dropped)
       ∙ sym (round_is f false n 1)
       ∙ sym (of_int_is f n)
@@ -82,9 +82,9 @@ module _ (n z : ℕ) (d : Sized n z) where
       go k = omega arith
 
   pub few : closest n (2 ^ (40 - z)) ≤ 2 ^ 24
-  few = q-le binary32 n (23 + (40 - z)) (40 - z) d.top d.over at
+  few = q_le binary32 n (23 + (40 - z)) (40 - z) d.top d.over at
 
-  pub whole-64 : (s : Float) → HasValue s false (2 ^ (40 - z + 149)) (2 ^ 149) → mul binary32 (of_int binary32 (pos (closest n (2 ^ (40 - z))))) s ≡ of_int binary32 (pos n)
-  whole-64 s v = put binary32 (closest n (2 ^ (40 - z))) (40 - z + 149) s few v ∙ leading binary32 n (23 + (40 - z)) (40 - z) d.top d.over at
+  pub whole_64 : (s : Float) → HasValue s false (2 ^ (40 - z + 149)) (2 ^ 149) → mul binary32 (of_int binary32 (pos (closest n (2 ^ (40 - z))))) s ≡ of_int binary32 (pos n)
+  whole_64 s v = put binary32 (closest n (2 ^ (40 - z))) (40 - z + 149) s few v ∙ leading binary32 n (23 + (40 - z)) (40 - z) d.top d.over at
 
 -- Assumes nothing.

@@ -41,33 +41,33 @@ under m e = lt→ltb 0 (suc m * up e * 1 + 0 * 1 * down e) (go (suc m * up e) (d
     go : (n d : ℕ) → 0 < n → 0 < n * 1 + 0 * 1 * d
     go n d h = omega arith
 
-pub not-under : (m : ℕ) (e : ℤ) → T (lt (fin false m e) null) → ⊥
+pub not_under : (m : ℕ) (e : ℤ) → T (lt (fin false m e) null) → ⊥
 unfolding lt
-not-under m e a = go (m * up e) (down e) (ltb→lt (m * up e * 1) (0 * 1 * down e) a)
+not_under m e a = go (m * up e) (down e) (ltb→lt (m * up e * 1) (0 * 1 * down e) a)
   where
     go : (n d : ℕ) → n * 1 < 0 * 1 * d → ⊥
     go n d h = omega arith
 
-zero-not-over : (e : ℤ) → T (lt null (fin false 0 e)) → ⊥
+zero_not_over : (e : ℤ) → T (lt null (fin false 0 e)) → ⊥
 unfolding lt
-zero-not-over e a = go (up e) (down e) (ltb→lt (0 * 1 * down e) (0 * up e * 1) a)
+zero_not_over e a = go (up e) (down e) (ltb→lt (0 * 1 * down e) (0 * up e * 1) a)
   where
     go : (u d : ℕ) → 0 * 1 * d < 0 * u * 1 → ⊥
     go u d h = omega arith
 
-pub zero-not-under : (s : Bool) (e : ℤ) → T (lt (fin s 0 e) null) → ⊥
+pub zero_not_under : (s : Bool) (e : ℤ) → T (lt (fin s 0 e) null) → ⊥
 unfolding lt
-zero-not-under false e a = not-under 0 e a
-zero-not-under true e a = go (up e) (down e) (ltb→lt 0 (0 * up e * 1 + 0 * 1 * down e) a)
+zero_not_under false e a = not_under 0 e a
+zero_not_under true e a = go (up e) (down e) (ltb→lt 0 (0 * up e * 1 + 0 * 1 * down e) a)
   where
     go : (u d : ℕ) → 0 < 0 * u * 1 + 0 * 1 * d → ⊥
     go u d h = omega arith
 
-nothing-past : (y : Float) → T (lt (inf false) y) → ⊥
+nothing_past : (y : Float) → T (lt (inf false) y) → ⊥
 unfolding lt
-nothing-past nan a = a
-nothing-past (inf t) a = a
-nothing-past (fin t m e) a = a
+nothing_past nan a = a
+nothing_past (inf t) a = a
+nothing_past (fin t m e) a = a
 
 -- ---- equal to zero
 or_r : (a b : Bool) → T b → T (a || b)
@@ -84,9 +84,9 @@ zero_is s e = and_i (eqb (0 * up e * 1) (0 * 1 * down e)) _ (eq→eqb (go (up e)
     go2 : (u : ℕ) → 0 * u * 1 ≡ 0
     go2 u = omega arith
 
-pub not-zero : (s : Bool) (m : ℕ) (e : ℤ) → T (eq (fin s (suc m) e) null) → ⊥
+pub not_zero : (s : Bool) (m : ℕ) (e : ℤ) → T (eq (fin s (suc m) e) null) → ⊥
 unfolding eq
-not-zero s m e a = go (suc m * up e) (down e) (mul-pos (zero-lt-suc m) (up_pos e)) (eqb→eq (suc m * up e * 1) (0 * 1 * down e) (and_l (eqb (suc m * up e * 1) (0 * 1 * down e)) _ a))
+not_zero s m e a = go (suc m * up e) (down e) (mul-pos (zero-lt-suc m) (up_pos e)) (eqb→eq (suc m * up e * 1) (0 * 1 * down e) (and_l (eqb (suc m * up e * 1) (0 * 1 * down e)) _ a))
   where
     go : (n d : ℕ) → 0 < n → n * 1 ≡ 0 * 1 * d → ⊥
     go n d h k = omega arith
@@ -96,9 +96,9 @@ pub above : (x y : Float) → T (lt null x) → T (lt x y) → T (positive x)
 unfolding lt
 above nan y a b = a
 above (inf true) y a b = a
-above (inf false) y a b = absurd (nothing-past y b)
+above (inf false) y a b = absurd (nothing_past y b)
 above (fin true m e) y a b = a
-above (fin false zero e) y a b = absurd (zero-not-over e a)
+above (fin false zero e) y a b = absurd (zero_not_over e a)
 above (fin false (suc m) e) y a b = lt→ltb 0 (suc m) (zero-lt-suc m)
 
 -- a value below zero, turned, is above it
@@ -107,14 +107,14 @@ unfolding lt neg
 flipped nan a = a
 flipped (inf true) a = a
 flipped (inf false) a = a
-flipped (fin false m e) a = absurd (not-under m e a)
-flipped (fin true zero e) a = absurd (zero-not-under true e a)
+flipped (fin false m e) a = absurd (not_under m e a)
+flipped (fin true zero e) a = absurd (zero_not_under true e a)
 flipped (fin true (suc m) e) a = over m e
 
-pub positive-is : (x : Float) → T (positive x) → T (not (is_nan x))
+pub positive_is : (x : Float) → T (positive x) → T (not (is_nan x))
 unfolding is_nan
-positive-is nan p = absurd p
-positive-is (inf s) p = absurd p
-positive-is (fin s m e) p = tt
+positive_is nan p = absurd p
+positive_is (inf s) p = absurd p
+positive_is (fin s m e) p = tt
 
 -- Assumes nothing.

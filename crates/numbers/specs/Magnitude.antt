@@ -3,10 +3,10 @@ use Rattle.std.specs.Prelude.{Bool, true, false, cond, Float}
 use Rattle.std.specs.Float.{nan, inf, fin}
 use Rattle.std.specs.Float.Ieee.{lt, is_nan}
 
-unfoldable pub absOf : Float → Float
-absOf nan = nan
-absOf (inf s) = inf false
-absOf (fin s m e) = fin false m e
+unfoldable pub abs_of : Float → Float
+abs_of nan = nan
+abs_of (inf s) = inf false
+abs_of (fin s m e) = fin false m e
 
 -- whether x has the sign of a negative number; a NaN has none
 unfoldable pub sign_of : Float → Bool
@@ -26,16 +26,16 @@ unfolding is_nan lt
 top_of a b = cond (is_nan a) a (cond (is_nan b) b (cond (lt a b) b a))
 
 -- the lesser of two; a NaN gives the other one, and of two that are equal the first is taken
-unfoldable pub minOf : Float → Float → Float
+unfoldable pub min_of : Float → Float → Float
 unfolding is_nan lt
-minOf a b = cond (is_nan a) b (cond (lt b a) b a)
+min_of a b = cond (is_nan a) b (cond (lt b a) b a)
 
 -- the greater of two, in the same way
 unfoldable pub max_of : Float → Float → Float
 unfolding is_nan lt
 max_of a b = cond (is_nan a) b (cond (lt a b) b a)
 
-unfoldable pub isInfinite : Float → Bool
-isInfinite nan = false
-isInfinite (inf s) = true
-isInfinite (fin s m e) = false
+unfoldable pub is_infinite : Float → Bool
+is_infinite nan = false
+is_infinite (inf s) = true
+is_infinite (fin s m e) = false

@@ -7,19 +7,19 @@ use Rattle.std.specs.Int.Count.{count_leading_zeros}
 abbrev pub at_most : ℕ → ℕ
 at_most n = cond (leb n 18446744073709551615) n 18446744073709551615
 
-unfoldable pub satAdd : ℕ → ℕ → ℕ
-satAdd a b = at_most (a + b)
+unfoldable pub sat_add : ℕ → ℕ → ℕ
+sat_add a b = at_most (a + b)
 
-unfoldable pub satMul : ℕ → ℕ → ℕ
-satMul a b = at_most (a * b)
+unfoldable pub sat_mul : ℕ → ℕ → ℕ
+sat_mul a b = at_most (a * b)
 
-unfoldable pub floorLog2 : ℕ → ℕ
-floorLog2 n = 64 - count_leading_zeros 64 n - 1
+unfoldable pub floor_log2 : ℕ → ℕ
+floor_log2 n = 64 - count_leading_zeros 64 n - 1
 
 -- as log2.rs has it; at 0, where the Rust has no answer, it is 0
-unfoldable pub ceilLog2 : ℕ → ℕ
-unfolding floorLog2
-ceilLog2 n = cond (eqb (bit_and n (n - 1)) 0) (floorLog2 n) (floorLog2 n + 1)
+unfoldable pub ceil_log2 : ℕ → ℕ
+unfolding floor_log2
+ceil_log2 n = cond (eqb (bit_and n (n - 1)) 0) (floor_log2 n) (floor_log2 n + 1)
 
 -- its meaning: r is the least with n at most 2 ^ r
 pub record IsLog (n r : ℕ) : Type 0 where

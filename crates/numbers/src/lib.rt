@@ -7,14 +7,14 @@
 #![tactic(auto)]
 
 ghost use Rattle.std.specs.Prelude.{◌≡◌, ◌<◌};
-ghost use Rattle.numbers.specs.Magnitude.{absOf, sign_of, with_sign, top_of, minOf, max_of, isInfinite};
-ghost use Rattle.numbers.specs.Saturating.{satAdd, satMul, floorLog2, ceilLog2};
+ghost use Rattle.numbers.specs.Magnitude.{abs_of, sign_of, with_sign, top_of, min_of, max_of, is_infinite};
+ghost use Rattle.numbers.specs.Saturating.{sat_add, sat_mul, floor_log2, ceil_log2};
 
 // ---- magnitude
 
 // The magnitude of x.
 pub fn abs(x: f32) -> f32
-    ensures { result ≡ absOf x }
+    ensures { result ≡ abs_of x }
 {
     if x < 0.0 {
         -x
@@ -57,7 +57,7 @@ pub fn top(a: f32, b: f32) -> f32
 
 // Rust's `a.min(b)`: a NaN gives the other one.
 pub fn min(a: f32, b: f32) -> f32
-    ensures { result ≡ minOf a b }
+    ensures { result ≡ min_of a b }
 {
     if a != a {
         b
@@ -80,7 +80,7 @@ pub fn max(a: f32, b: f32) -> f32
 
 // Whether x is an infinity of either sign.
 pub fn is_infinite(x: f32) -> bool
-    ensures { result ≡ isInfinite x }
+    ensures { result ≡ is_infinite x }
 {
     abs(x) == 1.0 / 0.0
 }
@@ -88,7 +88,7 @@ pub fn is_infinite(x: f32) -> bool
 // ---- u64
 
 pub fn saturating_add(a: u64, b: u64) -> u64
-    ensures { result ≡ satAdd a b }
+    ensures { result ≡ sat_add a b }
 {
     if a <= 18446744073709551615 - b {
         a + b
@@ -98,7 +98,7 @@ pub fn saturating_add(a: u64, b: u64) -> u64
 }
 
 pub fn saturating_mul(a: u64, b: u64) -> u64
-    ensures { result ≡ satMul a b }
+    ensures { result ≡ sat_mul a b }
 {
     if a == 0 {
         0
@@ -111,13 +111,13 @@ pub fn saturating_mul(a: u64, b: u64) -> u64
 
 fn floor_log2(n: u64) -> u64
     requires { 0 < n }
-    ensures { result ≡ floorLog2 n }
+    ensures { result ≡ floor_log2 n }
 {
     (64 - u64::leading_zeros(n) - 1) as u64
 }
 
 pub fn ceil_log2(n: u64) -> u64
-    ensures { result ≡ ceilLog2 n }
+    ensures { result ≡ ceil_log2 n }
 {
     if n == 0 {
         0

@@ -2,9 +2,9 @@
 use Rattle.std.specs.Prelude.{List, ℕ, ◌/◌, min, length, replicate}
 
 -- how many segments so many numbers and so many owners have room for: eight numbers and an owner each, and at most 2^24
-abbrev pub ownedRoom : ℕ → ℕ → ℕ
-ownedRoom numbers owners = min (min (numbers / 8) owners) 16777216
+abbrev pub owned_room : ℕ → ℕ → ℕ
+owned_room numbers owners = min (min (numbers / 8) owners) 16777216
 
 -- the owners of what the spline k makes: its number, once for each
-abbrev pub ownersOf : {A : Type 0} → ℕ → List A → List ℕ
-ownersOf k own = replicate (length own) k
+abbrev pub owners_of : {A : Type 0} → ℕ → List A → List ℕ
+owners_of k own = replicate (length own) k

@@ -3,7 +3,7 @@
 
 ghost use Rattle.std.specs.Prelude.{◌≡◌, ◌-◌, ◌≤◌, min, length, replicate};
 ghost use Rattle.std.proofs.lemmas.List.Edits.{sets};
-ghost use Rattle.owners.specs.Owners.{ownedRoom};
+ghost use Rattle.owners.specs.Owners.{owned_room};
 
 fn lesser(a: usize, b: usize) -> usize
     ensures { result ≡ min a b }
@@ -13,7 +13,7 @@ fn lesser(a: usize, b: usize) -> usize
 
 // How many segments have room: the least of the whole records in so many floats, of the cells for owners, and of 2^24.
 pub fn room(floats: usize, cells: usize) -> usize
-    ensures { result ≡ ownedRoom floats cells }
+    ensures { result ≡ owned_room floats cells }
 {
     let records = floats / 8;
     let owned = lesser(records, cells);

@@ -2,12 +2,12 @@
 #![tactic(auto)]
 
 ghost use Rattle.std.specs.Prelude.{◌≡◌, ◌≤◌, length};
-ghost use Rattle.points.specs.Points.{segmentRoom};
-ghost use Rattle.owners.specs.Owners.{ownedRoom};
-ghost use Rattle.curve.specs.Curve.{pathRoom};
-ghost use Rattle.walk.specs.Walk.{walkRoom};
-ghost use Rattle.dequantize.specs.Judge.{descriptionOf, Shaped};
-ghost use Rattle.painting.specs.Painting.{Passed, paintOf, drawnOf, DrawnOn};
+ghost use Rattle.points.specs.Points.{segment_room};
+ghost use Rattle.owners.specs.Owners.{owned_room};
+ghost use Rattle.curve.specs.Curve.{path_room};
+ghost use Rattle.walk.specs.Walk.{walk_room};
+ghost use Rattle.dequantize.specs.Judge.{description_of, Shaped};
+ghost use Rattle.painting.specs.Painting.{Passed, paint_of, drawn_of, DrawnOn};
 
 use dequantize::Given;
 use points::Filled;
@@ -39,9 +39,9 @@ fn draw_each(
     out: &mut [f32],
     owners: &mut [u64],
 ) -> Segmented
-    requires { Shaped (descriptionOf counts.now starts.now deltas.now coefficients.now) × Passed (descriptionOf counts.now starts.now deltas.now coefficients.now) given × (segmentRoom (length out.old) ≤ length owners.old) }
-    ensures { (result ≡ drawnOf (paintOf (descriptionOf counts.now starts.now deltas.now coefficients.now) given high_precision (pathRoom (length path.old)) (walkRoom (length walk.old)) (segmentRoom (length out.old))))
-        × DrawnOn (paintOf (descriptionOf counts.now starts.now deltas.now coefficients.now) given high_precision (pathRoom (length path.old)) (walkRoom (length walk.old)) (segmentRoom (length out.old))) (segmentRoom (length out.old)) out.old out.new owners.old owners.new }
+    requires { Shaped (description_of counts.now starts.now deltas.now coefficients.now) × Passed (description_of counts.now starts.now deltas.now coefficients.now) given × (segment_room (length out.old) ≤ length owners.old) }
+    ensures { (result ≡ drawn_of (paint_of (description_of counts.now starts.now deltas.now coefficients.now) given high_precision (path_room (length path.old)) (walk_room (length walk.old)) (segment_room (length out.old))))
+        × DrawnOn (paint_of (description_of counts.now starts.now deltas.now coefficients.now) given high_precision (path_room (length path.old)) (walk_room (length walk.old)) (segment_room (length out.old))) (segment_room (length out.old)) out.old out.new owners.old owners.new }
 {
     let mut k = 0;
     let mut at = 0;
@@ -84,9 +84,9 @@ pub fn draw_all(
     out: &mut [f32],
     owners: &mut [u64],
 ) -> Segmented
-    requires { Shaped (descriptionOf counts.now starts.now deltas.now coefficients.now) × Passed (descriptionOf counts.now starts.now deltas.now coefficients.now) given }
-    ensures { (result ≡ drawnOf (paintOf (descriptionOf counts.now starts.now deltas.now coefficients.now) given high_precision (pathRoom (length path.old)) (walkRoom (length walk.old)) (ownedRoom (length out.old) (length owners.old))))
-        × DrawnOn (paintOf (descriptionOf counts.now starts.now deltas.now coefficients.now) given high_precision (pathRoom (length path.old)) (walkRoom (length walk.old)) (ownedRoom (length out.old) (length owners.old))) (ownedRoom (length out.old) (length owners.old)) out.old out.new owners.old owners.new }
+    requires { Shaped (description_of counts.now starts.now deltas.now coefficients.now) × Passed (description_of counts.now starts.now deltas.now coefficients.now) given }
+    ensures { (result ≡ drawn_of (paint_of (description_of counts.now starts.now deltas.now coefficients.now) given high_precision (path_room (length path.old)) (walk_room (length walk.old)) (owned_room (length out.old) (length owners.old))))
+        × DrawnOn (paint_of (description_of counts.now starts.now deltas.now coefficients.now) given high_precision (path_room (length path.old)) (walk_room (length walk.old)) (owned_room (length out.old) (length owners.old))) (owned_room (length out.old) (length owners.old)) out.old out.new owners.old owners.new }
 {
     let end = 8 * owners::room(out.len(), owners.len());
     draw_each(

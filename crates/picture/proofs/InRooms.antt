@@ -6,12 +6,12 @@ use Rattle.painting.specs.Painting.{Painted, All, NoRoomAt}
 use Rattle.table.specs.Table.{BuildRooms, Setting}
 use Rattle.table.proofs.InRooms.{painted}
 
-abbrev pub paintedSegments : Painted → List Segment
-paintedSegments (All segments owners) = segments
-paintedSegments (NoRoomAt k) = []
+abbrev pub painted_segments : Painted → List Segment
+painted_segments (All segments owners) = segments
+painted_segments (NoRoomAt k) = []
 
 -- those of all splines, in their order; none where a spline lacks room
-unfoldable pub segmentsInRooms : Description → Setting → BuildRooms → List Segment
-segmentsInRooms d i r = paintedSegments (painted d i r)
+unfoldable pub segments_in_rooms : Description → Setting → BuildRooms → List Segment
+segments_in_rooms d i r = painted_segments (painted d i r)
 
 -- Assumes nothing.

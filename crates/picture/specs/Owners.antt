@@ -4,18 +4,18 @@ use Rattle.std.specs.Float.Ieee.{le}
 use Rattle.numbers.specs.Arith.{f}
 use Rattle.control_points.specs.declared.Pair.{Pair}
 use Rattle.control_points.specs.declared.Start.TheVariants.{At}
-use Rattle.control_points.specs.ControlPoints.{startingPoint}
-use Rattle.dequantize.specs.Judge.{Description, startX, startY, deltasOf}
+use Rattle.control_points.specs.ControlPoints.{starting_point}
+use Rattle.dequantize.specs.Judge.{Description, start_x, start_y, deltas_of}
 use Rattle.segments.specs.declared.Segment.{Segment}
-use Rattle.segments.specs.Segment.{segmentAt}
+use Rattle.segments.specs.Segment.{segment_at}
 use Rattle.curve.specs.Curve as Curve
-use Rattle.curve.specs.Curve.{pathOf}
-use Rattle.walk.specs.Walk.{PointToDraw, Walks, walkLength, lastMultiplier}
+use Rattle.curve.specs.Curve.{path_of}
+use Rattle.walk.specs.Walk.{PointToDraw, Walks, walk_length, last_multiplier}
 
 -- so many segments of a flat list, from number j on
-abbrev pub segmentsIn : List Float → ℕ → ℕ → List Segment
-segmentsIn xs j zero = []
-segmentsIn xs j (suc n) = segmentAt xs j ∷ segmentsIn xs (suc j) n
+abbrev pub segments_in : List Float → ℕ → ℕ → List Segment
+segments_in xs j zero = []
+segments_in xs j (suc n) = segment_at xs j ∷ segments_in xs (suc j) n
 
 -- the segments whose owner is k, in their order
 abbrev pub owned_by : ℕ → List ℕ → List Segment → List Segment
@@ -31,7 +31,7 @@ pub record Ascending (n count : ℕ) (owners : List ℕ) : Type 0 where
 -- the spline k is skipped: the length of its walk is 0 or less
 pub record Skipped (d : Description) (k : ℕ) : Type 0 where
   pub start : Pair
-  pub begins : startingPoint (startX d k) (startY d k) ≡ At start
+  pub begins : starting_point (start_x d k) (start_y d k) ≡ At start
   pub points : List PointToDraw
-  pub walks : Walks (Curve.flat (pathOf start (deltasOf d k))) points
-  pub no_length : le (walkLength (length points) (lastMultiplier points)) (f 0) ≡ true
+  pub walks : Walks (Curve.flat (path_of start (deltas_of d k))) points
+  pub no_length : le (walk_length (length points) (last_multiplier points)) (f 0) ≡ true

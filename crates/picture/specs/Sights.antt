@@ -11,10 +11,10 @@ abbrev pub hides : Sight → ℕ → Bool
 hides s k = bit_of s.desk (get_or s.bits k 0)
 
 -- the segments that are not hidden for the desk, told by their owners, in their order
-abbrev pub notHidden : Sight → List ℕ → List Segment → List Segment
-notHidden s [] segs = []
-notHidden s (k ∷ owners) [] = []
-notHidden s (k ∷ owners) (m ∷ segs) = cond (hides s k) (notHidden s owners segs) (m ∷ notHidden s owners segs)
+abbrev pub not_hidden : Sight → List ℕ → List Segment → List Segment
+not_hidden s [] segs = []
+not_hidden s (k ∷ owners) [] = []
+not_hidden s (k ∷ owners) (m ∷ segs) = cond (hides s k) (not_hidden s owners segs) (m ∷ not_hidden s owners segs)
 
 -- what is lent beside a built table: the owners that the description's segments have, whatever stands behind them, its number of splines, a byte for each spline at least, and desk 0 or 1
 pub record KeptSight (d : Description) (i : Setting) (segments : List Segment) (owners : List ℕ) (s : Sight) : Type 0 where

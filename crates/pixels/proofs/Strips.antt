@@ -8,11 +8,11 @@ use lib.ListN.{length}
 use lib.Seq.{sets}
 use lib.Ieee.{Float, binary32, to_unsigned}
 use Rattle.numbers.specs.Arith.{f, ◌⊗◌}
-use Rattle.wholes.specs.Whole.{roundOf}
+use Rattle.wholes.specs.Whole.{round_of}
 use Rattle.buffers.specs.Onto.{onto}
 use Rattle.buffers.proofs.Fronts.{sets_more}
-use Rattle.buffers.proofs.Filling.{Filled, filled_none, filled_more, filled-all}
-use Rattle.pixels.specs.Pixels.{toneOf, tonesOf, bytes_of, float_of, floatsOf, each}
+use Rattle.buffers.proofs.Filling.{Filled, filled_none, filled_more, filled_all}
+use Rattle.pixels.specs.Pixels.{tone_of, tones_of, bytes_of, float_of, floats_of, each}
 
 -- ---- a tone
 low : (u t : ℕ) → t ≡ u → t < 255 → t ≡ min u 255
@@ -21,17 +21,17 @@ low u t e h = omega arith
 high : (u t : ℕ) → t ≡ u → 255 ≤ t → 255 ≡ min u 255
 high u t e h = omega arith
 
-pub tone-low : (v : Float) {w : Float} {t : ℕ} → w ≡ roundOf binary32 (v ⊗ f 0x437f0000) → t ≡ to_unsigned 64 w → t < 255 → t ≡ toneOf v
-unfolding toneOf
-tone-low v {w} {t} p q h = low _ t (q ∙ ap (to_unsigned 64) p) h
+pub tone_low : (v : Float) {w : Float} {t : ℕ} → w ≡ round_of binary32 (v ⊗ f 0x437f0000) → t ≡ to_unsigned 64 w → t < 255 → t ≡ tone_of v
+unfolding tone_of
+tone_low v {w} {t} p q h = low _ t (q ∙ ap (to_unsigned 64) p) h
 
-pub tone-high : (v : Float) {w : Float} {t : ℕ} → w ≡ roundOf binary32 (v ⊗ f 0x437f0000) → t ≡ to_unsigned 64 w → 255 ≤ t → 255 ≡ toneOf v
-unfolding toneOf
-tone-high v {w} {t} p q h = high _ t (q ∙ ap (to_unsigned 64) p) h
+pub tone_high : (v : Float) {w : Float} {t : ℕ} → w ≡ round_of binary32 (v ⊗ f 0x437f0000) → t ≡ to_unsigned 64 w → 255 ≤ t → 255 ≡ tone_of v
+unfolding tone_of
+tone_high v {w} {t} p q h = high _ t (q ∙ ap (to_unsigned 64) p) h
 
 -- ---- lengths
-pub three : (x y b : Float) → length (tonesOf x y b) ≡ 3
-unfolding tonesOf
+pub three : (x y b : Float) → length (tones_of x y b) ≡ 3
+unfolding tones_of
 three x y b = refl
 
 pub four : (v : Float) → length (float_of v) ≡ 4
@@ -42,13 +42,13 @@ eight : (x y : Float) → length (float_of x ++ float_of y) ≡ 8
 unfolding bytes_of
 eight x y = refl
 
-pub twelve : (x y b : Float) → length (floatsOf x y b) ≡ 12
+pub twelve : (x y b : Float) → length (floats_of x y b) ≡ 12
 unfolding bytes_of
 twelve x y b = refl
 
 -- ---- three floats, stored one after the other
 pub stored_floats : (o : List ℕ) {o1 o2 o3 : List ℕ} (k : ℕ) (x y b : Float) → o1 ≡ sets o k (float_of x) → o2 ≡ sets o1 (k + 4) (float_of y) → o3 ≡ sets o2 (k + 8) (float_of b)
-    → o3 ≡ sets o k (floatsOf x y b)
+    → o3 ≡ sets o k (floats_of x y b)
 stored_floats o {o1} {o2} {o3} k x y b p q r =
     r
     ∙ ap (λ (t : List ℕ). sets t (k + 8) (float_of b)) (q ∙ ap (λ (t : List ℕ). sets t (k + 4) (float_of y)) p)
@@ -71,19 +71,19 @@ module _ (g : ℕ → List ℕ) where
       let e : n - i ≡ 0 = omega arith in
       ap (λ (l : ℕ). each g l i) e
 
-  pub strip-begin : (n : ℕ) (o : List ℕ) → Filled (each g n 0) o o (each g (n - 0) 0) 0
-  strip-begin n o =
+  pub strip_begin : (n : ℕ) (o : List ℕ) → Filled (each g n 0) o o (each g (n - 0) 0) 0
+  strip_begin n o =
       let e : n ≡ n - 0 = omega arith in
       filled_none (each g (n - 0) 0) (ap (λ (l : ℕ). each g l 0) e)
 
   -- the pixel i is stored from cell k on
-  pub strip-more : {o₀ o o' : List ℕ} {n i k : ℕ} → Filled (each g n 0) o₀ o (each g (n - i) i) k → o' ≡ sets o k (g i) → i < n
+  pub strip_more : {o₀ o o' : List ℕ} {n i k : ℕ} → Filled (each g n 0) o₀ o (each g (n - i) i) k → o' ≡ sets o k (g i) → i < n
       → (size m : ℕ) → length (g i) ≡ size → k + size ≡ m → m ≤ length o₀ → Filled (each g n 0) o₀ o' (each g (n - (i + 1)) (i + 1)) m
-  strip-more {o₀} {o} {o'} {n} {i} {k} v e h size m l t b =
+  strip_more {o₀} {o} {o'} {n} {i} {k} v e h size m l t b =
       subst (λ (z : List ℕ). Filled (each g n 0) o₀ z (each g (n - (i + 1)) (i + 1)) m) (sym e)
       (filled_more (g i) (each g (n - (i + 1)) (i + 1)) (subst (λ (z : List ℕ). Filled (each g n 0) o₀ o z k) (each_next n i h) v) (omega (arith, l)) m (omega (arith, l)))
 
-  pub strip-end : {o₀ o : List ℕ} {n i k : ℕ} → Filled (each g n 0) o₀ o (each g (n - i) i) k → n ≤ i → o ≡ onto (each g n 0) o₀
-  strip-end {o₀} {o} {n} {i} {k} v h = filled-all (subst (λ (z : List ℕ). Filled (each g n 0) o₀ o z k) (each_none n i h) v)
+  pub strip_end : {o₀ o : List ℕ} {n i k : ℕ} → Filled (each g n 0) o₀ o (each g (n - i) i) k → n ≤ i → o ≡ onto (each g n 0) o₀
+  strip_end {o₀} {o} {n} {i} {k} v h = filled_all (subst (λ (z : List ℕ). Filled (each g n 0) o₀ o z k) (each_none n i h) v)
 
 -- Assumes nothing.

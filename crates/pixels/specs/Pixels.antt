@@ -3,18 +3,18 @@ use Rattle.std.specs.Prelude.{List, [], ◌∷◌, ◌++◌, ℕ, zero, suc, ◌
 use Rattle.std.specs.Float.{nan, binary32}
 use Rattle.std.specs.Float.Ieee.{to_bits, to_unsigned}
 use Rattle.numbers.specs.Arith.{f, ◌⊕◌, ◌⊖◌, ◌⊗◌}
-use Rattle.wholes.specs.Whole.{roundOf}
+use Rattle.wholes.specs.Whole.{round_of}
 
 abbrev 255·0 : Float
 255·0 = f 0x437f0000
 
 -- 0 to 1 becomes 0 to 255, rounded half away from zero; what lies outside is cut, and a NaN is black
-unfoldable pub toneOf : Float → ℕ
-toneOf v = min (to_unsigned 64 (roundOf binary32 (v ⊗ 255·0))) 255
+unfoldable pub tone_of : Float → ℕ
+tone_of v = min (to_unsigned 64 (round_of binary32 (v ⊗ 255·0))) 255
 
 -- red is Y + X, green Y - X, blue B
-unfoldable pub tonesOf : Float → Float → Float → List ℕ
-tonesOf x y b = toneOf (y ⊕ x) ∷ toneOf (y ⊖ x) ∷ toneOf b ∷ []
+unfoldable pub tones_of : Float → Float → Float → List ℕ
+tones_of x y b = tone_of (y ⊕ x) ∷ tone_of (y ⊖ x) ∷ tone_of b ∷ []
 
 -- the four bytes of a 32-bit pattern, the lowest first
 unfoldable pub bytes_of : ℕ → List ℕ
@@ -25,8 +25,8 @@ abbrev pub float_of : Float → List ℕ
 float_of v = bytes_of (to_bits binary32 v)
 
 -- X, Y and B together
-abbrev pub floatsOf : Float → Float → Float → List ℕ
-floatsOf x y b = float_of x ++ (float_of y ++ float_of b)
+abbrev pub floats_of : Float → Float → Float → List ℕ
+floats_of x y b = float_of x ++ (float_of y ++ float_of b)
 
 -- what `g` makes of the pixel k of three channels
 abbrev pub at : (Float → Float → Float → List ℕ) → List Float → List Float → List Float → ℕ → List ℕ
@@ -38,5 +38,5 @@ each g zero k = []
 each g (suc left) k = g k ++ each g left (suc k)
 
 -- the bytes of the first n pixels
-abbrev pub pixelsOf : (Float → Float → Float → List ℕ) → List Float → List Float → List Float → ℕ → List ℕ
-pixelsOf g x y b n = each (at g x y b) n 0
+abbrev pub pixels_of : (Float → Float → Float → List ℕ) → List Float → List Float → List Float → ℕ → List ℕ
+pixels_of g x y b n = each (at g x y b) n 0

@@ -6,11 +6,11 @@ ghost use Rattle.std.proofs.lemmas.List.Edits.{sets};
 ghost use Rattle.std.specs.Float.{binary32};
 ghost use Rattle.std.specs.Float.Ieee.{to_bits};
 ghost use Rattle.buffers.specs.Onto.{onto};
-ghost use Rattle.pixels.specs.Pixels.{toneOf, tonesOf, bytes_of, float_of, floatsOf, pixelsOf};
+ghost use Rattle.pixels.specs.Pixels.{tone_of, tones_of, bytes_of, float_of, floats_of, pixels_of};
 
 // 0 to 1 becomes 0 to 255, what lies outside is cut, NaN is black.
 fn tone(v: f32) -> u8
-    ensures { result ≡ toneOf v }
+    ensures { result ≡ tone_of v }
 {
     let t = kinds::saturating_f32_to_u64(wholes::round(v * 255.0));
     if t < 255 { t as u8 } else { 255 }
@@ -46,7 +46,7 @@ fn put4(out: &mut [u8], at: usize, w: u32)
 // A pixel's red, green and blue.
 fn put_tones(out: &mut [u8], at: usize, x: f32, y: f32, b: f32)
     requires { at + 3 ≤ length out.old }
-    ensures { out.new ≡ sets out.old at (tonesOf x y b) }
+    ensures { out.new ≡ sets out.old at (tones_of x y b) }
 {
     let red = tone(y + x);
     let green = tone(y - x);
@@ -66,7 +66,7 @@ fn put_float(out: &mut [u8], at: usize, v: f32)
 // A pixel's X, Y and B.
 fn put_floats(out: &mut [u8], at: usize, x: f32, y: f32, b: f32)
     requires { at + 12 ≤ length out.old }
-    ensures { out.new ≡ sets out.old at (floatsOf x y b) }
+    ensures { out.new ≡ sets out.old at (floats_of x y b) }
 {
     put_float(out, at, x);
     put_float(out, at + 4, y);
@@ -76,7 +76,7 @@ fn put_floats(out: &mut [u8], at: usize, x: f32, y: f32, b: f32)
 // Three bytes a pixel.
 pub fn tones(n: usize, x: &[f32], y: &[f32], b: &[f32], out: &mut [u8])
     requires { (n ≤ length x.now) × (n ≤ length y.now) × (n ≤ length b.now) × (3 * n ≤ length out.old) }
-    ensures { out.new ≡ onto (pixelsOf tonesOf x.now y.now b.now n) out.old }
+    ensures { out.new ≡ onto (pixels_of tones_of x.now y.now b.now n) out.old }
 {
     let mut i = 0;
     while i < n {
@@ -88,7 +88,7 @@ pub fn tones(n: usize, x: &[f32], y: &[f32], b: &[f32], out: &mut [u8])
 // Twelve bytes a pixel.
 pub fn floats(n: usize, x: &[f32], y: &[f32], b: &[f32], out: &mut [u8])
     requires { (n ≤ length x.now) × (n ≤ length y.now) × (n ≤ length b.now) × (12 * n ≤ length out.old) }
-    ensures { out.new ≡ onto (pixelsOf floatsOf x.now y.now b.now n) out.old }
+    ensures { out.new ≡ onto (pixels_of floats_of x.now y.now b.now n) out.old }
 {
     let mut i = 0;
     while i < n {

@@ -2,7 +2,7 @@
 #![tactic(auto)]
 
 ghost use Rattle.std.specs.Prelude.{◌≡◌, ◌+◌, ◌*◌, ◌/◌, ◌≤◌, ◌<◌, length};
-ghost use Rattle.points.specs.Points.{curveTime, pointSegment, made_of, segmentRoom, addSegmentsFromPoints, filledOf, FilledOn};
+ghost use Rattle.points.specs.Points.{curve_time, point_segment, made_of, segment_room, add_segments_from_points, filled_of, FilledOn};
 
 use dequantize::Spline;
 use segments::Added;
@@ -17,7 +17,7 @@ pub enum Filled {
 // Where in the transform point i lies.
 fn place_of(inv_length: f32, i: usize) -> f32
     requires { i ≤ 8388608 }
-    ensures { result ≡ curveTime inv_length i }
+    ensures { result ≡ curve_time inv_length i }
 {
     31.0 * numbers::min((i as f32) * 1.0 * inv_length, 1.0)
 }
@@ -31,7 +31,7 @@ fn point_segment(
     i: usize,
 ) -> Added
     requires { (3 * i + 3 ≤ length walk.now) × (i ≤ 8388608) }
-    ensures { result ≡ pointSegment spline inv_length high_precision walk.now i }
+    ensures { result ≡ point_segment spline inv_length high_precision walk.now i }
 {
     let k = 3 * i;
     let x = walk[k];
@@ -52,7 +52,7 @@ fn point_segment(
 
 // How many segments a buffer of len numbers has room for.
 pub fn segment_room(len: usize) -> usize
-    ensures { result ≡ segmentRoom len }
+    ensures { result ≡ segment_room len }
 {
     let n = len / 8;
     if n <= 16777216 { n } else { 16777216 }
@@ -60,8 +60,8 @@ pub fn segment_room(len: usize) -> usize
 
 // What a point makes, written after the first `count` segments.
 fn put_made(made: Added, out: &mut [f32], count: usize) -> Filled
-    requires { count ≤ segmentRoom (length out.old) }
-    ensures { (result ≡ filledOf (segmentRoom (length out.old)) count (made_of made))
+    requires { count ≤ segment_room (length out.old) }
+    ensures { (result ≡ filled_of (segment_room (length out.old)) count (made_of made))
         × FilledOn result count (made_of made) out.old out.new }
 {
     match made {
@@ -85,9 +85,9 @@ pub fn add_segments_from_points(
     out: &mut [f32],
     from: usize,
 ) -> Filled
-    requires { (length walk.now / 3 ≤ 8388608) × (from ≤ segmentRoom (length out.old)) }
-    ensures { (result ≡ filledOf (segmentRoom (length out.old)) from (addSegmentsFromPoints spline walk.now walk_length high_precision))
-        × FilledOn result from (addSegmentsFromPoints spline walk.now walk_length high_precision) out.old out.new }
+    requires { (length walk.now / 3 ≤ 8388608) × (from ≤ segment_room (length out.old)) }
+    ensures { (result ≡ filled_of (segment_room (length out.old)) from (add_segments_from_points spline walk.now walk_length high_precision))
+        × FilledOn result from (add_segments_from_points spline walk.now walk_length high_precision) out.old out.new }
 {
     let inv_length = 1.0 / walk_length;
     let n = walk.len() / 3;

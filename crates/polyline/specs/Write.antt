@@ -6,8 +6,8 @@ use Rattle.writer.specs.Write.{misshapen, WriteOutcome}
 use Rattle.writer.specs.Write as writing
 use Rattle.write_judge.specs.declared.Verdict.{Verdict}
 use Rattle.write_judge.specs.declared.Verdict.TheVariants.{Fine, Fault}
-use Rattle.control_points.specs.ControlPoints.{validPointPos, validDoubleDelta, samePoint, startingPoint, standAt, movedOf, controlPoints}
-use Rattle.dequantize.specs.Judge.{Description, descriptionOf, startX, startY, deltasOf}
+use Rattle.control_points.specs.ControlPoints.{valid_point_pos, valid_double_delta, same_point, starting_point, stand_at, moved_of, control_points}
+use Rattle.dequantize.specs.Judge.{Description, description_of, start_x, start_y, deltas_of}
 use Rattle.control_points.specs.declared.Pair.{Pair}
 use Rattle.control_points.specs.declared.Stand.{Stand}
 use Rattle.control_points.specs.declared.Start.{Start}
@@ -19,51 +19,51 @@ use Rattle.polyline.specs.Read.{and_then}
 -- ---- decimal numbers
 
 -- the digits of a number, the last behind those of its tenth part; more than n tenth parts are never taken of n
-unfoldable pub digitsBy : ℕ → ℕ → List ℕ
-digitsBy zero n = []
-digitsBy (suc k) n = cond (ltb n 10) ((48 + n) ∷ []) (digitsBy k (n / 10) ++ ((48 + n % 10) ∷ []))
+unfoldable pub digits_by : ℕ → ℕ → List ℕ
+digits_by zero n = []
+digits_by (suc k) n = cond (ltb n 10) ((48 + n) ∷ []) (digits_by k (n / 10) ++ ((48 + n % 10) ∷ []))
 
-unfoldable pub digitsOf : ℕ → List ℕ
-digitsOf n = digitsBy (suc n) n
+unfoldable pub digits_of : ℕ → List ℕ
+digits_of n = digits_by (suc n) n
 
-unfoldable pub numberText : ℤ → List ℕ
-numberText (pos n) = digitsOf n
-numberText (negsuc n) = 45 ∷ digitsOf (suc n)
+unfoldable pub number_text : ℤ → List ℕ
+number_text (pos n) = digits_of n
+number_text (negsuc n) = 45 ∷ digits_of (suc n)
 
 -- ---- the text of points
 
-unfoldable pub pairText : Pair → List ℕ
-pairText p = numberText p.x ++ 44 ∷ numberText p.y
+unfoldable pub pair_text : Pair → List ℕ
+pair_text p = number_text p.x ++ 44 ∷ number_text p.y
 
 -- points behind others
-unfoldable pub laterText : List Pair → List ℕ
-laterText [] = []
-laterText (p ∷ ps) = 32 ∷ pairText p ++ laterText ps
+unfoldable pub later_text : List Pair → List ℕ
+later_text [] = []
+later_text (p ∷ ps) = 32 ∷ pair_text p ++ later_text ps
 
-unfoldable pub pointsText : List Pair → List ℕ
-pointsText [] = []
-pointsText (p ∷ ps) = pairText p ++ laterText ps
+unfoldable pub points_text : List Pair → List ℕ
+points_text [] = []
+points_text (p ∷ ps) = pair_text p ++ later_text ps
 
 -- ---- the checks of one spline
 
 -- one double delta, as `step_of` of building has it but for DISTANCE: DELTA, POSITION of the delta, POSITION of the point
-unfoldable pub goneBy : Stand → Bool → Pair → Gone
-goneBy p met dd =
-    let q = movedOf p dd in
-    cond (validDoubleDelta dd) (cond (validPointPos q.delta) (cond (validPointPos q.point)
-    (On q (cond met true (samePoint p.point q.point))) (Stop Position)) (Stop Position)) (Stop Delta)
+unfoldable pub gone_by : Stand → Bool → Pair → Gone
+gone_by p met dd =
+    let q = moved_of p dd in
+    cond (valid_double_delta dd) (cond (valid_point_pos q.delta) (cond (valid_point_pos q.point)
+    (On q (cond met true (same_point p.point q.point))) (Stop Position)) (Stop Position)) (Stop Delta)
 
 abbrev pub onward : Gone → (Stand → Bool → Gone) → Gone
 onward (On p met) go = go p met
 onward (Stop code) go = Stop code
 
-unfoldable pub goneFrom : Stand → Bool → List ℤ → Gone
-goneFrom p met [] = On p met
-goneFrom p met (a ∷ []) = On p met
-goneFrom p met (a ∷ b ∷ ds) = onward (goneBy p met (record { x = a; y = b })) (λ q m. goneFrom q m ds)
+unfoldable pub gone_from : Stand → Bool → List ℤ → Gone
+gone_from p met [] = On p met
+gone_from p met (a ∷ []) = On p met
+gone_from p met (a ∷ b ∷ ds) = onward (gone_by p met (record { x = a; y = b })) (λ q m. gone_from q m ds)
 
-unfoldable pub goneOf : Pair → List ℤ → Gone
-goneOf start ds = goneFrom (standAt start) false ds
+unfoldable pub gone_of : Pair → List ℤ → Gone
+gone_of start ds = gone_from (stand_at start) false ds
 
 -- COINCIDE comes after all points, as in building
 abbrev pub settled : ℕ → Gone → Verdict
@@ -72,30 +72,30 @@ settled k (Stop code) = Fault code k
 
 abbrev pub begun : ℕ → List ℤ → Start → Verdict
 begun k ds S.Out = Fault Position k
-begun k ds (S.At start) = settled k (goneOf start ds)
+begun k ds (S.At start) = settled k (gone_of start ds)
 
 -- the spline k of a description
-unfoldable pub splineVerdict : Description → ℕ → Verdict
-splineVerdict d k = begun k (deltasOf d k) (startingPoint (startX d k) (startY d k))
+unfoldable pub spline_verdict : Description → ℕ → Verdict
+spline_verdict d k = begun k (deltas_of d k) (starting_point (start_x d k) (start_y d k))
 
-abbrev pub textAt : List ℤ → Start → List ℕ
-textAt ds S.Out = []
-textAt ds (S.At start) = pointsText (controlPoints start ds)
+abbrev pub text_at : List ℤ → Start → List ℕ
+text_at ds S.Out = []
+text_at ds (S.At start) = points_text (control_points start ds)
 
 -- its text
-unfoldable pub splineText : Description → ℕ → List ℕ
-splineText d k = textAt (deltasOf d k) (startingPoint (startX d k) (startY d k))
+unfoldable pub spline_text : Description → ℕ → List ℕ
+spline_text d k = text_at (deltas_of d k) (starting_point (start_x d k) (start_y d k))
 
 -- lengths disagree, or there is no such spline
-unfoldable pub noSpline : List ℕ → List Float → List ℤ → List ℤ → ℕ → Bool
-noSpline ns ss ds cs k = misshapen ns ss ds cs || leb (length ns) k
+unfoldable pub no_spline : List ℕ → List Float → List ℤ → List ℤ → ℕ → Bool
+no_spline ns ss ds cs k = misshapen ns ss ds cs || leb (length ns) k
 
 -- SHAPE, then the spline's own checks, then ROOM
-unfoldable pub writeVerdict : List ℕ → List Float → List ℤ → List ℤ → ℕ → ℕ → Verdict
-writeVerdict ns ss ds cs k room =
-    cond (noSpline ns ss ds cs k) (Fault Shape 0)
-    (and_then (splineVerdict (descriptionOf ns ss ds cs) k) (cond (ltb room (length (splineText (descriptionOf ns ss ds cs) k))) (Fault Room k) Fine))
+unfoldable pub write_verdict : List ℕ → List Float → List ℤ → List ℤ → ℕ → ℕ → Verdict
+write_verdict ns ss ds cs k room =
+    cond (no_spline ns ss ds cs k) (Fault Shape 0)
+    (and_then (spline_verdict (description_of ns ss ds cs) k) (cond (ltb room (length (spline_text (description_of ns ss ds cs) k))) (Fault Room k) Fine))
 
 -- what `points_write` answers and leaves in so many bytes
-unfoldable pub writePointsOf : List ℕ → List Float → List ℤ → List ℤ → ℕ → ℕ → WriteOutcome
-writePointsOf ns ss ds cs k room = writing.outcome room (splineText (descriptionOf ns ss ds cs) k) (writeVerdict ns ss ds cs k room)
+unfoldable pub write_points_of : List ℕ → List Float → List ℤ → List ℤ → ℕ → ℕ → WriteOutcome
+write_points_of ns ss ds cs k room = writing.outcome room (spline_text (description_of ns ss ds cs) k) (write_verdict ns ss ds cs k room)

@@ -4,7 +4,7 @@
 
 ghost use Rattle.std.specs.Prelude.{◌≡◌};
 ghost use Rattle.polyline.specs.declared.Stage.{Stage};
-ghost use Rattle.polyline.specs.Stages.{leadOf, beginOf, end_of, next_of, mayEnd, text_of};
+ghost use Rattle.polyline.specs.Stages.{lead_of, begin_of, end_of, next_of, may_end, text_of};
 
 use codes::Code;
 use polyline::{Stage, Step};
@@ -12,7 +12,7 @@ use write_judge::Verdict;
 
 // The first digit of a number that is not 0.
 fn lead(y: bool, b: u8) -> Step
-    ensures { result ≡ leadOf y b }
+    ensures { result ≡ lead_of y b }
 {
     if b < 49 {
         return Step::Stranger;
@@ -25,7 +25,7 @@ fn lead(y: bool, b: u8) -> Step
 
 // The first byte of a number.
 fn begin(y: bool, b: u8) -> Step
-    ensures { result ≡ beginOf y b }
+    ensures { result ≡ begin_of y b }
 {
     if b == 45 {
         return Step::To(Stage::Minus(y));
@@ -78,7 +78,7 @@ fn next_stage(stage: Stage, b: u8) -> Step
 
 // Whether a text may end here: with a whole second number.
 fn may_end(stage: Stage) -> bool
-    ensures { result ≡ mayEnd stage }
+    ensures { result ≡ may_end stage }
 {
     match stage {
         Stage::Fresh(_) => false,

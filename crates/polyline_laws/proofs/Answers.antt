@@ -13,12 +13,12 @@ use lib.Ieee.{Float}
 use borrow.Author.Tests.{ltb-true, ltb-false}
 use Rattle.codes.specs.declared.Code.{Code}
 use Rattle.codes.specs.declared.Code.TheVariants.{Text, Position, Coincide, Room}
-use Rattle.list.specs.Steps.{zeroF32}
+use Rattle.list.specs.Steps.{zero_f32}
 use Rattle.writer.specs.Write as writing
 use Rattle.write_judge.specs.declared.Verdict.{Verdict}
 use Rattle.write_judge.specs.declared.Verdict.TheVariants.{Fine, Fault}
 use Rattle.writer.specs.declared.WriteAnswer.TheVariants.{Refused}
-use Rattle.dequantize.specs.Judge.{descriptionOf}
+use Rattle.dequantize.specs.Judge.{description_of}
 use Rattle.polyline.specs.declared.Spot.{Spot}
 use Rattle.polyline.specs.declared.Stage.{Stage}
 use Rattle.polyline.specs.declared.Stage.TheVariants as S
@@ -28,23 +28,23 @@ use Rattle.polyline.specs.declared.Track.{Track}
 use Rattle.polyline.specs.declared.Track.TheVariants.{Empty}
 use Rattle.polyline.specs.declared.Judged.TheVariants.{On, Stop}
 use Rattle.polyline.specs.Form.{PointsForm}
-use Rattle.polyline.specs.Stages.{next_of, mayEnd, follow, textFrom, text_of}
-use Rattle.polyline.specs.Spots.{spotsOf}
-use Rattle.polyline.specs.Read.{placeable, meets, trackTo, judgedOf, afterPair, trackFrom, trackVerdict, laterOf, and_then, room_for, pairsVerdict, pointsVerdict, leaves, outcome, readPointsOf}
-use Rattle.polyline.specs.Write.{splineText, writeVerdict, writePointsOf}
+use Rattle.polyline.specs.Stages.{next_of, may_end, follow, text_from, text_of}
+use Rattle.polyline.specs.Spots.{spots_of}
+use Rattle.polyline.specs.Read.{placeable, meets, track_to, judged_of, after_pair, track_from, track_verdict, later_of, and_then, room_for, pairs_verdict, points_verdict, leaves, outcome, read_points_of}
+use Rattle.polyline.specs.Write.{spline_text, write_verdict, write_points_of}
 use Rattle.polyline_laws.specs.Begins.{Begins, FirstBad}
-use Rattle.polyline_laws.proofs.Places.{form-judged, first-bad-byte}
+use Rattle.polyline_laws.proofs.Places.{form_judged, first_bad_byte}
 
 -- ---- TEXT is the form's alone
 
 -- the pairs give POSITION or COINCIDE
-walk-says : (ss : List Spot) (t : Track) (p : ℕ) → trackVerdict (trackFrom t ss) ≡ Fault Text p → ⊥
-unfolding trackFrom judgedOf
-walk-says [] t p e = let z : ◌≡◌ {A = ℕ} 0 1 = cc in omega arith
-walk-says (s ∷ ss) t p e = go (placeable t s.point) (meets t s.point) e (λ f. walk-says ss (trackTo t s.point) p f)
+walk_says : (ss : List Spot) (t : Track) (p : ℕ) → track_verdict (track_from t ss) ≡ Fault Text p → ⊥
+unfolding track_from judged_of
+walk_says [] t p e = let z : ◌≡◌ {A = ℕ} 0 1 = cc in omega arith
+walk_says (s ∷ ss) t p e = go (placeable t s.point) (meets t s.point) e (λ f. walk_says ss (track_to t s.point) p f)
   where
-    go : (a b : Bool) → trackVerdict (afterPair (cond a (cond b (Stop Coincide) (On (trackTo t s.point))) (Stop Position)) s.begin (λ u. trackFrom u ss)) ≡ Fault Text p
-        → (trackVerdict (trackFrom (trackTo t s.point) ss) ≡ Fault Text p → ⊥) → ⊥
+    go : (a b : Bool) → track_verdict (after_pair (cond a (cond b (Stop Coincide) (On (track_to t s.point))) (Stop Position)) s.begin (λ u. track_from u ss)) ≡ Fault Text p
+        → (track_verdict (track_from (track_to t s.point) ss) ≡ Fault Text p → ⊥) → ⊥
     go true true e f = let z : ◌≡◌ {A = ℕ} 0 1 = cc in omega arith
     go true false e f = f e
     go false b e f = let z : ◌≡◌ {A = ℕ} 0 1 = cc in omega arith
@@ -53,34 +53,34 @@ room_says : (short : Bool) (p : ℕ) → cond short (Fault Room 0) Fine ≡ Faul
 room_says true p e = let z : ◌≡◌ {A = ℕ} 0 1 = cc in omega arith
 room_says false p e = let z : ◌≡◌ {A = ℕ} 0 1 = cc in omega arith
 
-pairs-say : (start deltas : ℕ) (ss : List Spot) (p : ℕ) → pairsVerdict start deltas ss ≡ Fault Text p → ⊥
-unfolding pairsVerdict
-pairs-say start deltas ss p e = go (trackVerdict (trackFrom Empty ss)) refl e
+pairs-say : (start deltas : ℕ) (ss : List Spot) (p : ℕ) → pairs_verdict start deltas ss ≡ Fault Text p → ⊥
+unfolding pairs_verdict
+pairs-say start deltas ss p e = go (track_verdict (track_from Empty ss)) refl e
   where
-    go : (v : Verdict) → trackVerdict (trackFrom Empty ss) ≡ v → and_then v (room_for start deltas (laterOf ss)) ≡ Fault Text p → ⊥
-    go Fine x e = room_says (ltb start 2 || ltb deltas (2 * laterOf ss)) p e
-    go (Fault c q) x e = walk-says ss Empty p (x ∙ e)
+    go : (v : Verdict) → track_verdict (track_from Empty ss) ≡ v → and_then v (room_for start deltas (later_of ss)) ≡ Fault Text p → ⊥
+    go Fine x e = room_says (ltb start 2 || ltb deltas (2 * later_of ss)) p e
+    go (Fault c q) x e = walk_says ss Empty p (x ∙ e)
 
-text-by-form : (start deltas : ℕ) (text : List ℕ) (p : ℕ) → pointsVerdict start deltas text ≡ Fault Text p → text_of text ≡ Fault Text p
-unfolding pointsVerdict
+text-by-form : (start deltas : ℕ) (text : List ℕ) (p : ℕ) → points_verdict start deltas text ≡ Fault Text p → text_of text ≡ Fault Text p
+unfolding points_verdict
 text-by-form start deltas text p e = go (text_of text) refl e
   where
-    go : (v : Verdict) → text_of text ≡ v → and_then v (pairsVerdict start deltas (spotsOf text)) ≡ Fault Text p → text_of text ≡ Fault Text p
-    go Fine x e = absurd (pairs-say start deltas (spotsOf text) p e)
+    go : (v : Verdict) → text_of text ≡ v → and_then v (pairs_verdict start deltas (spots_of text)) ≡ Fault Text p → text_of text ≡ Fault Text p
+    go Fine x e = absurd (pairs-say start deltas (spots_of text) p e)
     go (Fault c q) x e = x ∙ e
 
 -- and the form gives no other code
-form-says : (text : List ℕ) (s : Stage) (at : ℕ) (c : Code) (p : ℕ) → textFrom s at text ≡ Fault c p → textFrom s at text ≡ Fault Text p
-unfolding textFrom
-form-says [] s at c p e = go (mayEnd s) e
+form_says : (text : List ℕ) (s : Stage) (at : ℕ) (c : Code) (p : ℕ) → text_from s at text ≡ Fault c p → text_from s at text ≡ Fault Text p
+unfolding text_from
+form_says [] s at c p e = go (may_end s) e
   where
     go : (b : Bool) → cond b Fine (Fault Text at) ≡ Fault c p → cond b Fine (Fault Text at) ≡ Fault Text p
     go true e = let z : ◌≡◌ {A = ℕ} 0 1 = cc in absurd (omega arith)
     go false e = let z : at ≡ p = cc in ap (λ (j : ℕ). Fault Text j) z
-form-says (b ∷ bs) s at c p e = go (next_of s b) e (λ t f. form-says bs t (suc at) c p f)
+form_says (b ∷ bs) s at c p e = go (next_of s b) e (λ t f. form_says bs t (suc at) c p f)
   where
-    go : (n : Step) → follow at n (λ t. textFrom t (suc at) bs) ≡ Fault c p → ((t : Stage) → textFrom t (suc at) bs ≡ Fault c p → textFrom t (suc at) bs ≡ Fault Text p)
-        → follow at n (λ t. textFrom t (suc at) bs) ≡ Fault Text p
+    go : (n : Step) → follow at n (λ t. text_from t (suc at) bs) ≡ Fault c p → ((t : Stage) → text_from t (suc at) bs ≡ Fault c p → text_from t (suc at) bs ≡ Fault Text p)
+        → follow at n (λ t. text_from t (suc at) bs) ≡ Fault Text p
     go (To t) e f = f t e
     go Stranger e f = let z : at ≡ p = cc in ap (λ (j : ℕ). Fault Text j) z
 
@@ -114,51 +114,51 @@ said start deltas ss (Fault d q) c p e = cc
 
 pub bad-said : (text : List ℕ) (p : ℕ) → FirstBad text p → text_of text ≡ Fault Text p
 unfolding text_of
-bad-said text p f = go (textFrom (S.Fresh false) 0 text) refl
+bad-said text p f = go (text_from (S.Fresh false) 0 text) refl
   where
-    go : (v : Verdict) → textFrom (S.Fresh false) 0 text ≡ v → textFrom (S.Fresh false) 0 text ≡ Fault Text p
-    go Fine x = absurd (f.whole ((form-judged text).1 x))
+    go : (v : Verdict) → text_from (S.Fresh false) 0 text ≡ v → text_from (S.Fresh false) 0 text ≡ Fault Text p
+    go Fine x = absurd (f.whole ((form_judged text).1 x))
     go (Fault c q) x =
-        let t = form-says text (S.Fresh false) 0 c q x in
-        t ∙ ap (λ (j : ℕ). Fault Text j) (one_place text q p (first-bad-byte text q t) f)
+        let t = form_says text (S.Fresh false) 0 c q x in
+        t ∙ ap (λ (j : ℕ). Fault Text j) (one_place text q p (first_bad_byte text q t) f)
 
-bad-told : (start deltas : ℕ) (text : List ℕ) (p : ℕ) → FirstBad text p → (readPointsOf start deltas text).answer ≡ Refused Text p
-unfolding readPointsOf pointsVerdict
+bad-told : (start deltas : ℕ) (text : List ℕ) (p : ℕ) → FirstBad text p → (read_points_of start deltas text).answer ≡ Refused Text p
+unfolding read_points_of points_verdict
 bad-told start deltas text p f = rw (bad-said text p f)
 
-pub text-exactly : (start deltas : ℕ) (text : List ℕ) (p : ℕ) → ((readPointsOf start deltas text).answer ≡ Refused Text p) ↔ FirstBad text p
-unfolding readPointsOf
+pub text-exactly : (start deltas : ℕ) (text : List ℕ) (p : ℕ) → ((read_points_of start deltas text).answer ≡ Refused Text p) ↔ FirstBad text p
+unfolding read_points_of
 text-exactly start deltas text p =
-    (λ e. first-bad-byte text p (text-by-form start deltas text p (said start deltas (spotsOf text) (pointsVerdict start deltas text) Text p e)), bad-told start deltas text p)
+    (λ e. first_bad_byte text p (text-by-form start deltas text p (said start deltas (spots_of text) (points_verdict start deltas text) Text p e)), bad-told start deltas text p)
 
 -- a text that is not judged fine has a first bad byte
 pub bad-there : (text : List ℕ) (c : Code) (p : ℕ) → text_of text ≡ Fault c p → FirstBad text p
 unfolding text_of
-bad-there text c p e = first-bad-byte text p (form-says text (S.Fresh false) 0 c p e)
+bad-there text c p e = first_bad_byte text p (form_says text (S.Fresh false) 0 c p e)
 
-pub form-exactly : (start deltas : ℕ) (text : List ℕ) → PointsForm text ↔ ((p : ℕ) → (readPointsOf start deltas text).answer ≡ Refused Text p → ⊥)
+pub form-exactly : (start deltas : ℕ) (text : List ℕ) → PointsForm text ↔ ((p : ℕ) → (read_points_of start deltas text).answer ≡ Refused Text p → ⊥)
 form-exactly start deltas text =
     (λ f p e. ((text-exactly start deltas text p).0 e).whole f, λ none. go none (text_of text) refl)
   where
-    go : ((p : ℕ) → (readPointsOf start deltas text).answer ≡ Refused Text p → ⊥) → (v : Verdict) → text_of text ≡ v → PointsForm text
-    go none Fine x = (form-judged text).1 x
+    go : ((p : ℕ) → (read_points_of start deltas text).answer ≡ Refused Text p → ⊥) → (v : Verdict) → text_of text ≡ v → PointsForm text
+    go none Fine x = (form_judged text).1 x
     go none (Fault c q) x = absurd (none q (bad-told start deltas text q (bad-there text c q x)))
 
 -- a refusal leaves nothing but zeros
-pub read-refused : (start deltas : ℕ) (text : List ℕ) (c : Code) (p : ℕ) → (readPointsOf start deltas text).answer ≡ Refused c p
-    → readPointsOf start deltas text ≡ leaves (Refused c p) (replicate start zeroF32) (replicate deltas (pos 0))
-unfolding readPointsOf
-read-refused start deltas text c p e = ap (outcome start deltas (spotsOf text)) (said start deltas (spotsOf text) (pointsVerdict start deltas text) c p e)
+pub read_refused : (start deltas : ℕ) (text : List ℕ) (c : Code) (p : ℕ) → (read_points_of start deltas text).answer ≡ Refused c p
+    → read_points_of start deltas text ≡ leaves (Refused c p) (replicate start zero_f32) (replicate deltas (pos 0))
+unfolding read_points_of
+read_refused start deltas text c p e = ap (outcome start deltas (spots_of text)) (said start deltas (spots_of text) (points_verdict start deltas text) c p e)
 
 pub wrote : (room : ℕ) (values : List ℕ) (v : Verdict) (c : Code) (p : ℕ) → (writing.outcome room values v).answer ≡ Refused c p → v ≡ Fault c p
 wrote room values Fine c p e = let z : ◌≡◌ {A = ℕ} 0 1 = cc in absurd (omega arith)
 wrote room values (Fault d q) c p e = cc
 
-pub write-refused : (ns : List ℕ) (ss : List Float) (ds cs : List ℤ) (k room : ℕ) (c : Code) (p : ℕ) → (writePointsOf ns ss ds cs k room).answer ≡ Refused c p
-    → writePointsOf ns ss ds cs k room ≡ writing.leaves (Refused c p) (replicate room 0)
-unfolding writePointsOf
-write-refused ns ss ds cs k room c p e =
-    let values = splineText (descriptionOf ns ss ds cs) k in
-    ap (writing.outcome room values) (wrote room values (writeVerdict ns ss ds cs k room) c p e)
+pub write_refused : (ns : List ℕ) (ss : List Float) (ds cs : List ℤ) (k room : ℕ) (c : Code) (p : ℕ) → (write_points_of ns ss ds cs k room).answer ≡ Refused c p
+    → write_points_of ns ss ds cs k room ≡ writing.leaves (Refused c p) (replicate room 0)
+unfolding write_points_of
+write_refused ns ss ds cs k room c p e =
+    let values = spline_text (description_of ns ss ds cs) k in
+    ap (writing.outcome room values) (wrote room values (write_verdict ns ss ds cs k room) c p e)
 
 -- Assumes nothing.

@@ -11,10 +11,10 @@ use Rattle.polyline.specs.declared.Stage.{Stage}
 use Rattle.polyline.specs.declared.Stage.TheVariants as S
 use Rattle.polyline.specs.declared.Step.{Step}
 use Rattle.polyline.specs.declared.Step.TheVariants.{To, Stranger}
-use Rattle.polyline.specs.Stages.{next_of, mayEnd, follow, textFrom, text_of}
+use Rattle.polyline.specs.Stages.{next_of, may_end, follow, text_from, text_of}
 use Rattle.polyline_laws.specs.Begins.{Begins, FirstBad, FormJudged, FirstBadByte}
-use Rattle.polyline_laws.proofs.Forms.{form-passes, early, bad-byte, no-form}
-use Rattle.polyline_laws.proofs.Passes.{passes-form}
+use Rattle.polyline_laws.proofs.Forms.{form_passes, early, bad_byte, no_form}
+use Rattle.polyline_laws.proofs.Passes.{passes_form}
 
 -- how each stage may go on
 abbrev rest : Stage → List ℕ
@@ -27,53 +27,53 @@ rest (S.Minus true) = 49 ∷ []
 rest (S.Nought true) = []
 rest (S.Digits true) = []
 
-rest-passes : (s : Stage) (at : ℕ) → textFrom s at (rest s) ≡ Fine
-unfolding textFrom next_of mayEnd
-rest-passes (S.Fresh false) at = refl
-rest-passes (S.Minus false) at = refl
-rest-passes (S.Nought false) at = refl
-rest-passes (S.Digits false) at = refl
-rest-passes (S.Fresh true) at = refl
-rest-passes (S.Minus true) at = refl
-rest-passes (S.Nought true) at = refl
-rest-passes (S.Digits true) at = refl
+rest_passes : (s : Stage) (at : ℕ) → text_from s at (rest s) ≡ Fine
+unfolding text_from next_of may_end
+rest_passes (S.Fresh false) at = refl
+rest_passes (S.Minus false) at = refl
+rest_passes (S.Nought false) at = refl
+rest_passes (S.Digits false) at = refl
+rest_passes (S.Fresh true) at = refl
+rest_passes (S.Minus true) at = refl
+rest_passes (S.Nought true) at = refl
+rest_passes (S.Digits true) at = refl
 
 pub record GoesOn (s : Stage) (at : ℕ) (text : List ℕ) (k : ℕ) : Type 0 where
   pub more : List ℕ
   pub inside : k ≤ length text
-  pub passes : textFrom s at (take k text ++ more) ≡ Fine
+  pub passes : text_from s at (take k text ++ more) ≡ Fine
 
-goes_on : (text : List ℕ) (s : Stage) (at k : ℕ) → textFrom s at text ≡ Fault Text (at + k) → GoesOn s at text k
-unfolding textFrom
-goes_on text s at zero e = record { more = rest s; inside = omega arith; passes = rest-passes s at }
-goes_on [] s at (suc j) e = absurd (go (mayEnd s) e)
+goes_on : (text : List ℕ) (s : Stage) (at k : ℕ) → text_from s at text ≡ Fault Text (at + k) → GoesOn s at text k
+unfolding text_from
+goes_on text s at zero e = record { more = rest s; inside = omega arith; passes = rest_passes s at }
+goes_on [] s at (suc j) e = absurd (go (may_end s) e)
   where
     go : (b : Bool) → cond b Fine (Fault Text at) ≡ Fault Text (at + suc j) → ⊥
     go true e = let z : ◌≡◌ {A = ℕ} 0 1 = cc in omega arith
     go false e = let z : at ≡ at + suc j = cc in omega arith
 goes_on (b ∷ bs) s at (suc j) e = go (next_of s b) refl e (λ t f. goes_on bs t (suc at) j f)
   where
-    go : (n : Step) → next_of s b ≡ n → follow at n (λ t. textFrom t (suc at) bs) ≡ Fault Text (at + suc j)
-        → ((t : Stage) → textFrom t (suc at) bs ≡ Fault Text (suc at + j) → GoesOn t (suc at) bs j) → GoesOn s at (b ∷ bs) (suc j)
+    go : (n : Step) → next_of s b ≡ n → follow at n (λ t. text_from t (suc at) bs) ≡ Fault Text (at + suc j)
+        → ((t : Stage) → text_from t (suc at) bs ≡ Fault Text (suc at + j) → GoesOn t (suc at) bs j) → GoesOn s at (b ∷ bs) (suc j)
     go (To t) x e f =
         let m : at + suc j ≡ suc at + j = omega arith in
         let g = f t (rw m at e) in
         record { more = g.more; inside = omega (arith, g.inside); passes = rw x g.passes }
     go Stranger x e f = let z : at ≡ at + suc j = cc in absurd (omega arith)
 
-pub form-judged : FormJudged
+pub form_judged : FormJudged
 unfolding text_of
-form-judged text = (λ f. form-passes text 0 f, λ e. passes-form text e)
+form_judged text = (λ f. form_passes text 0 f, λ e. passes_form text e)
 
-pub first-bad-byte : FirstBadByte
+pub first_bad_byte : FirstBadByte
 unfolding text_of
-first-bad-byte text place e =
+first_bad_byte text place e =
     let g = goes_on text (S.Fresh false) 0 place (e ∙ ap (λ (j : ℕ). Fault Text j) (omega arith)) in
     record {
       inside = g.inside;
-      before = record { rest = g.more; form = passes-form (take place text ++ g.more) g.passes };
-      with = λ h b. bad-byte text place e h b;
-      whole = λ f. no-form text place e f;
+      before = record { rest = g.more; form = passes_form (take place text ++ g.more) g.passes };
+      with = λ h b. bad_byte text place e h b;
+      whole = λ f. no_form text place e f;
     }
 
 -- Assumes nothing.

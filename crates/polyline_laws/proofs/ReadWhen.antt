@@ -9,16 +9,16 @@ use lib.Dec.{ltb}
 use lib.ListN.{length, get_or}
 use Rattle.codes.specs.declared.Code.{Code}
 use Rattle.codes.specs.declared.Code.TheVariants.{Text, Position, Coincide, Room}
-use Rattle.codes.proofs.Decides.{Decides, less-than, either-decides}
+use Rattle.codes.proofs.Decides.{Decides, less_than, either_decides}
 use Rattle.write_judge.specs.declared.Verdict.{Verdict}
 use Rattle.write_judge.specs.declared.Verdict.TheVariants.{Fine, Fault}
 use Rattle.writer.specs.declared.WriteAnswer.TheVariants.{Refused}
-use Rattle.control_points.specs.ControlPoints.{validPointPos, samePoint, standAt}
+use Rattle.control_points.specs.ControlPoints.{valid_point_pos, same_point, stand_at}
 use Rattle.control_points.specs.Refusals.{Inside, Outside}
 use Rattle.control_points.specs.declared.Pair.{Pair}
 use Rattle.control_points.specs.declared.Stand.{Stand}
-use Rattle.control_points.proofs.Ranges.{point-decides}
-use Rattle.control_points.proofs.Coincide.{same_point}
+use Rattle.control_points.proofs.Ranges.{point_decides}
+use Rattle.control_points.proofs.Coincide.{same_point_lem}
 use Rattle.polyline.specs.declared.Spot.{Spot}
 use Rattle.polyline.specs.declared.Track.{Track}
 use Rattle.polyline.specs.declared.Track.TheVariants.{Empty, At}
@@ -27,16 +27,16 @@ use Rattle.polyline.specs.declared.Judged.TheVariants.{On, Stop}
 use Rattle.polyline.specs.declared.Tracked.{Tracked}
 use Rattle.polyline.specs.declared.Tracked.TheVariants.{Came, Halt}
 use Rattle.polyline.specs.Stages.{text_of}
-use Rattle.polyline.specs.Spots.{spotsOf}
-use Rattle.polyline.specs.Read.{minusOf, placeable, meets, trackTo, judgedOf, afterPair, trackFrom, trackVerdict, laterOf, and_then, room_for, pairsVerdict, pointsVerdict, outcome, readPointsOf}
-use Rattle.polyline.specs.Write.{pairText}
-use Rattle.polyline.proofs.Tracks.{walk-on, walk-stop, judged-passes, unplaceable}
+use Rattle.polyline.specs.Spots.{spots_of}
+use Rattle.polyline.specs.Read.{minus_of, placeable, meets, track_to, judged_of, after_pair, track_from, track_verdict, later_of, and_then, room_for, pairs_verdict, points_verdict, outcome, read_points_of}
+use Rattle.polyline.specs.Write.{pair_text}
+use Rattle.polyline.proofs.Tracks.{walk_on, walk_stop, judged_passes, unplaceable}
 use Rattle.polyline_laws.specs.Begins.{FirstBad}
-use Rattle.polyline_laws.specs.Says.{Says, firstByte, Said}
+use Rattle.polyline_laws.specs.Says.{Says, first_byte, Said}
 use Rattle.polyline_laws.specs.Refusals.{Placed, Misplaced, Again, Passes, Before, PointsLack, PointsReadRefusal, bad, position, coincide, room}
-use Rattle.polyline_laws.proofs.Places.{form-judged}
+use Rattle.polyline_laws.proofs.Places.{form_judged}
 use Rattle.polyline_laws.proofs.Answers.{said, bad-said, bad-there, text-exactly}
-use Rattle.polyline_laws.proofs.Says.{form-says, spotsBy, spots-said, spots-length}
+use Rattle.polyline_laws.proofs.Says.{form_says, spots_by, spots_said, spots_length}
 
 -- why pair j does not pass
 pub data Why (ps : List Pair) (j : ℕ) : Code → Type 0 where
@@ -45,56 +45,56 @@ pub data Why (ps : List Pair) (j : ℕ) : Code → Type 0 where
 
 -- ---- a pair behind a place
 
-module _ (p : Stand) (start q : Pair) (ps : List Pair) (v : validPointPos p.point ≡ true) where
+module _ (p : Stand) (start q : Pair) (ps : List Pair) (v : valid_point_pos p.point ≡ true) where
   -- the place's point, the pair, and those behind it
   abbrev Points : List Pair
   Points = p.point ∷ q ∷ ps
 
-  pub later-passes : Passes Points 1 → judgedOf (At p start) q ≡ On (trackTo (At p start) q)
+  pub later_passes : Passes Points 1 → judged_of (At p start) q ≡ On (track_to (At p start) q)
   unfolding placeable meets
-  later-passes h = judged-passes (At p start) q placed apart
+  later_passes h = judged_passes (At p start) q placed apart
     where
-      delta : validPointPos (minusOf q p.point) ≡ true
-      delta = (point-decides (minusOf q p.point)).passes h.placed.0
+      delta : valid_point_pos (minus_of q p.point) ≡ true
+      delta = (point_decides (minus_of q p.point)).passes h.placed.0
 
-      point : validPointPos q ≡ true
-      point = (point-decides q).passes h.placed.1
+      point : valid_point_pos q ≡ true
+      point = (point_decides q).passes h.placed.1
 
-      placed : cond (validPointPos (minusOf q p.point)) (validPointPos q) false ≡ true
+      placed : cond (valid_point_pos (minus_of q p.point)) (valid_point_pos q) false ≡ true
       placed = rw (delta, point)
 
-      apart : samePoint p.point q ≡ false
-      apart = go (samePoint p.point q) refl
+      apart : same_point p.point q ≡ false
+      apart = go (same_point p.point q) refl
         where
-          go : (t : Bool) → samePoint p.point q ≡ t → t ≡ false
+          go : (t : Bool) → same_point p.point q ≡ t → t ≡ false
           go false e = refl
-          go true e = absurd (h.apart ((same_point p.point q v point).0 e))
+          go true e = absurd (h.apart ((same_point_lem p.point q v point).0 e))
 
-  pub later-stops : (c : Code) → Why Points 1 c → judgedOf (At p start) q ≡ Stop c
-  unfolding judgedOf placeable meets
-  later-stops c (misplaced (inl o)) = rw ((point-decides (minusOf q p.point)).fails o)
-  later-stops c (misplaced (inr o)) = unplaceable (At p start) q ((point-decides q).fails o)
-  later-stops c (again h e) =
-      let point = (point-decides q).passes h.1 in
-      rw ((point-decides (minusOf q p.point)).passes h.0, point, (same_point p.point q v point).1 e)
+  pub later_stops : (c : Code) → Why Points 1 c → judged_of (At p start) q ≡ Stop c
+  unfolding judged_of placeable meets
+  later_stops c (misplaced (inl o)) = rw ((point_decides (minus_of q p.point)).fails o)
+  later_stops c (misplaced (inr o)) = unplaceable (At p start) q ((point_decides q).fails o)
+  later_stops c (again h e) =
+      let point = (point_decides q).passes h.1 in
+      rw ((point_decides (minus_of q p.point)).passes h.0, point, (same_point_lem p.point q v point).1 e)
 
   -- what judging it comes to
   pub data Verdicted : Judged → Type 0 where
-    passed : Passes Points 1 → Verdicted (On (trackTo (At p start) q))
+    passed : Passes Points 1 → Verdicted (On (track_to (At p start) q))
     stopped : {c : Code} → Why Points 1 c → Verdicted (Stop c)
 
-  pub later-verdict : Verdicted (judgedOf (At p start) q)
-  unfolding judgedOf placeable meets
-  later-verdict = go (validPointPos (minusOf q p.point)) (validPointPos q) (samePoint p.point q) refl refl refl
+  pub later_verdict : Verdicted (judged_of (At p start) q)
+  unfolding judged_of placeable meets
+  later_verdict = go (valid_point_pos (minus_of q p.point)) (valid_point_pos q) (same_point p.point q) refl refl refl
     where
-      go : (a b m : Bool) → validPointPos (minusOf q p.point) ≡ a → validPointPos q ≡ b → samePoint p.point q ≡ m
-          → Verdicted (cond (cond a b false) (cond m (Stop Coincide) (On (trackTo (At p start) q))) (Stop Position))
-      go false b m x y z = stopped (misplaced (inl ((point-decides (minusOf q p.point)).failed x)))
-      go true false m x y z = stopped (misplaced (inr ((point-decides q).failed y)))
+      go : (a b m : Bool) → valid_point_pos (minus_of q p.point) ≡ a → valid_point_pos q ≡ b → same_point p.point q ≡ m
+          → Verdicted (cond (cond a b false) (cond m (Stop Coincide) (On (track_to (At p start) q))) (Stop Position))
+      go false b m x y z = stopped (misplaced (inl ((point_decides (minus_of q p.point)).failed x)))
+      go true false m x y z = stopped (misplaced (inr ((point_decides q).failed y)))
       go true true true x y z =
-          stopped (again ((point-decides (minusOf q p.point)).passed x, (point-decides q).passed y) ((same_point p.point q v y).0 z))
+          stopped (again ((point_decides (minus_of q p.point)).passed x, (point_decides q).passed y) ((same_point_lem p.point q v y).0 z))
       go true true false x y z =
-          passed (record { placed = ((point-decides (minusOf q p.point)).passed x, (point-decides q).passed y); apart = λ e. let w : ◌≡◌ {A = Bool} false true = sym z ∙ (same_point p.point q v y).1 e in let k : ◌≡◌ {A = ℕ} 0 1 = cc in omega arith })
+          passed (record { placed = ((point_decides (minus_of q p.point)).passed x, (point_decides q).passed y); apart = λ e. let w : ◌≡◌ {A = Bool} false true = sym z ∙ (same_point_lem p.point q v y).1 e in let k : ◌≡◌ {A = ℕ} 0 1 = cc in omega arith })
 
 -- ---- pairs behind a place, and one more before them
 
@@ -102,16 +102,16 @@ module _ (x : Pair) (qs : List Pair) (j : ℕ) where
   one_on : Passes qs (suc j) → Passes (x ∷ qs) (suc (suc j))
   one_on h = record { placed = h.placed; apart = h.apart }
 
-  one-off : Passes (x ∷ qs) (suc (suc j)) → Passes qs (suc j)
-  one-off h = record { placed = h.placed; apart = h.apart }
+  one_off : Passes (x ∷ qs) (suc (suc j)) → Passes qs (suc j)
+  one_off h = record { placed = h.placed; apart = h.apart }
 
-  why-on : {c : Code} → Why qs (suc j) c → Why (x ∷ qs) (suc (suc j)) c
-  why-on (misplaced h) = misplaced h
-  why-on (again h e) = again h e
+  why_on : {c : Code} → Why qs (suc j) c → Why (x ∷ qs) (suc (suc j)) c
+  why_on (misplaced h) = misplaced h
+  why_on (again h e) = again h e
 
-  why-off : {c : Code} → Why (x ∷ qs) (suc (suc j)) c → Why qs (suc j) c
-  why-off (misplaced h) = misplaced h
-  why-off (again h e) = again h e
+  why_off : {c : Code} → Why (x ∷ qs) (suc (suc j)) c → Why qs (suc j) c
+  why_off (misplaced h) = misplaced h
+  why_off (again h e) = again h e
 
 -- all of ps pass behind x, or a first one does not, whose first byte is b where ps begin at a byte
 pub record AllPass (x : Pair) (ps : List Pair) : Type 0 where
@@ -122,7 +122,7 @@ record FirstStop (at : ℕ) (x : Pair) (ps : List Pair) (c : Code) (b : ℕ) : T
   inside : j < length ps
   before : (i : ℕ) → i < j → Passes (x ∷ ps) (suc i)
   why : Why (x ∷ ps) (suc j) c
-  place : b ≡ at + firstByte ps j
+  place : b ≡ at + first_byte ps j
 
 abbrev Ends : ℕ → Pair → List Pair → Tracked → Type 0
 Ends at x ps (Came t) = AllPass x ps
@@ -130,7 +130,7 @@ Ends at x ps (Halt c b) = FirstStop at x ps c b
 
 module _ (at : ℕ) (x q : Pair) (ps : List Pair) where
   abbrev next : ℕ
-  next = suc (at + length (pairText q))
+  next = suc (at + length (pair_text q))
 
   first_passes : (n : ℕ) → Passes (x ∷ q ∷ ps) 1 → ((i : ℕ) → i < n → Passes (q ∷ ps) (suc i)) → (i : ℕ) → i < suc n → Passes (x ∷ q ∷ ps) (suc i)
   first_passes n h rest zero l = h
@@ -142,47 +142,47 @@ module _ (at : ℕ) (x q : Pair) (ps : List Pair) where
     j = suc e.j;
     inside = omega (arith, e.inside);
     before = first_passes e.j h e.before;
-    why = why-on x (q ∷ ps) e.j e.why;
+    why = why_on x (q ∷ ps) e.j e.why;
     place = omega (arith, e.place);
   }
 
-pub passes-valid : (p q : Pair) (ps : List Pair) → Passes (p ∷ q ∷ ps) 1 → validPointPos q ≡ true
-passes-valid p q ps h = (point-decides q).passes h.placed.1
+pub passes_valid : (p q : Pair) (ps : List Pair) → Passes (p ∷ q ∷ ps) 1 → valid_point_pos q ≡ true
+passes_valid p q ps h = (point_decides q).passes h.placed.1
 
-ends : (ps : List Pair) (at : ℕ) (p : Stand) (start : Pair) → validPointPos p.point ≡ true → Ends at p.point ps (trackFrom (At p start) (spotsBy at ps))
-unfolding trackFrom trackTo
+ends : (ps : List Pair) (at : ℕ) (p : Stand) (start : Pair) → valid_point_pos p.point ≡ true → Ends at p.point ps (track_from (At p start) (spots_by at ps))
+unfolding track_from track_to
 ends [] at p start v = record { each = λ i l. absurd (omega arith) }
-ends (q ∷ ps) at p start v = go (judgedOf (At p start) q) (later-verdict p start q ps v) (λ r. ends ps (suc (at + length (pairText q))) r start)
+ends (q ∷ ps) at p start v = go (judged_of (At p start) q) (later_verdict p start q ps v) (λ r. ends ps (suc (at + length (pair_text q))) r start)
   where
     go : (w : Judged) → Verdicted p start q ps v w
-        → ((r : Stand) → validPointPos r.point ≡ true → Ends (suc (at + length (pairText q))) r.point ps (trackFrom (At r start) (spotsBy (suc (at + length (pairText q))) ps)))
-        → Ends at p.point (q ∷ ps) (afterPair w at (λ u. trackFrom u (spotsBy (suc (at + length (pairText q))) ps)))
+        → ((r : Stand) → valid_point_pos r.point ≡ true → Ends (suc (at + length (pair_text q))) r.point ps (track_from (At r start) (spots_by (suc (at + length (pair_text q))) ps)))
+        → Ends at p.point (q ∷ ps) (after_pair w at (λ u. track_from u (spots_by (suc (at + length (pair_text q))) ps)))
     go w (passed h) ih =
-        ends_on at p.point q ps h (trackFrom (trackTo (At p start) q) (spotsBy (suc (at + length (pairText q))) ps))
-        (ih (record { delta = minusOf q p.point; point = q }) (passes-valid p.point q ps h))
+        ends_on at p.point q ps h (track_from (track_to (At p start) q) (spots_by (suc (at + length (pair_text q))) ps))
+        (ih (record { delta = minus_of q p.point; point = q }) (passes_valid p.point q ps h))
     go w (stopped y) ih = record { j = 0; inside = omega arith; before = λ i l. absurd (omega arith); why = y; place = omega arith }
 
 -- and back
-walks-on : (ps : List Pair) (at : ℕ) (p : Stand) (start : Pair) → validPointPos p.point ≡ true → AllPass p.point ps → trackVerdict (trackFrom (At p start) (spotsBy at ps)) ≡ Fine
-unfolding trackFrom trackTo
-walks-on [] at p start v h = refl
-walks-on (q ∷ ps) at p start v h =
-    rw (later-passes p start q ps v (h.each 0 (omega arith)))
-    (walks-on ps (suc (at + length (pairText q))) (record { delta = minusOf q p.point; point = q }) start (passes-valid p.point q ps (h.each 0 (omega arith)))
-    (record { each = λ i l. one-off p.point (q ∷ ps) i (h.each (suc i) (omega arith)) }))
+walks_on : (ps : List Pair) (at : ℕ) (p : Stand) (start : Pair) → valid_point_pos p.point ≡ true → AllPass p.point ps → track_verdict (track_from (At p start) (spots_by at ps)) ≡ Fine
+unfolding track_from track_to
+walks_on [] at p start v h = refl
+walks_on (q ∷ ps) at p start v h =
+    rw (later_passes p start q ps v (h.each 0 (omega arith)))
+    (walks_on ps (suc (at + length (pair_text q))) (record { delta = minus_of q p.point; point = q }) start (passes_valid p.point q ps (h.each 0 (omega arith)))
+    (record { each = λ i l. one_off p.point (q ∷ ps) i (h.each (suc i) (omega arith)) }))
 
-walks-to : (ps : List Pair) (at : ℕ) (p : Stand) (start : Pair) → validPointPos p.point ≡ true → (c : Code) (j : ℕ) → j < length ps
-    → ((i : ℕ) → i < j → Passes (p.point ∷ ps) (suc i)) → Why (p.point ∷ ps) (suc j) c → trackVerdict (trackFrom (At p start) (spotsBy at ps)) ≡ Fault c (at + firstByte ps j)
-unfolding trackFrom trackTo
-walks-to [] at p start v c j l b y = absurd (omega arith)
-walks-to (q ∷ ps) at p start v c zero l b y =
+walks_to : (ps : List Pair) (at : ℕ) (p : Stand) (start : Pair) → valid_point_pos p.point ≡ true → (c : Code) (j : ℕ) → j < length ps
+    → ((i : ℕ) → i < j → Passes (p.point ∷ ps) (suc i)) → Why (p.point ∷ ps) (suc j) c → track_verdict (track_from (At p start) (spots_by at ps)) ≡ Fault c (at + first_byte ps j)
+unfolding track_from track_to
+walks_to [] at p start v c j l b y = absurd (omega arith)
+walks_to (q ∷ ps) at p start v c zero l b y =
     let e : at ≡ at + 0 = omega arith in
-    rw (later-stops p start q ps v c y) (ap (λ (k : ℕ). Fault c k) e)
-walks-to (q ∷ ps) at p start v c (suc j) l b y =
-    let e : suc (at + length (pairText q)) + firstByte ps j ≡ at + suc (length (pairText q) + firstByte ps j) = omega arith in
-    rw (later-passes p start q ps v (b 0 (omega arith)))
-    (walks-to ps (suc (at + length (pairText q))) (record { delta = minusOf q p.point; point = q }) start (passes-valid p.point q ps (b 0 (omega arith))) c j (omega arith)
-    (λ i m. one-off p.point (q ∷ ps) i (b (suc i) (omega arith))) (why-off p.point (q ∷ ps) j y) ∙ ap (λ (k : ℕ). Fault c k) e)
+    rw (later_stops p start q ps v c y) (ap (λ (k : ℕ). Fault c k) e)
+walks_to (q ∷ ps) at p start v c (suc j) l b y =
+    let e : suc (at + length (pair_text q)) + first_byte ps j ≡ at + suc (length (pair_text q) + first_byte ps j) = omega arith in
+    rw (later_passes p start q ps v (b 0 (omega arith)))
+    (walks_to ps (suc (at + length (pair_text q))) (record { delta = minus_of q p.point; point = q }) start (passes_valid p.point q ps (b 0 (omega arith))) c j (omega arith)
+    (λ i m. one_off p.point (q ∷ ps) i (b (suc i) (omega arith))) (why_off p.point (q ∷ ps) j y) ∙ ap (λ (k : ℕ). Fault c k) e)
 
 -- ---- all pairs
 
@@ -191,7 +191,7 @@ pub record Stopped (ps : List Pair) (c : Code) (b : ℕ) : Type 0 where
   pub inside : j < length ps
   pub before : Before ps j
   pub why : Why ps j c
-  pub place : b ≡ firstByte ps j
+  pub place : b ≡ first_byte ps j
 
 -- what the verdict on all pairs says
 abbrev pub Says-so : List Pair → Verdict → Type 0
@@ -200,60 +200,60 @@ Says-so ps (Fault c b) = Stopped ps c b
 
 module _ (p : Pair) (ps : List Pair) where
   abbrev behind : ℕ
-  behind = suc (0 + length (pairText p))
+  behind = suc (0 + length (pair_text p))
 
   -- the first pair and the others
-  all-before : (n : ℕ) → Inside p → ((i : ℕ) → i < n → Passes (p ∷ ps) (suc i)) → Before (p ∷ ps) (suc n)
-  all-before n h rest zero l = record { placed = h; apart = λ e. e }
-  all-before n h rest (suc i) l = rest i (omega arith)
+  all_before : (n : ℕ) → Inside p → ((i : ℕ) → i < n → Passes (p ∷ ps) (suc i)) → Before (p ∷ ps) (suc n)
+  all_before n h rest zero l = record { placed = h; apart = λ e. e }
+  all_before n h rest (suc i) l = rest i (omega arith)
 
-  first_says : (w : Tracked) → Inside p → Ends behind p ps w → Says-so (p ∷ ps) (trackVerdict w)
-  first_says (Came t) h e = all-before (length ps) h e.each
-  first_says (Halt c b) h e = record { j = suc e.j; inside = omega (arith, e.inside); before = all-before e.j h e.before; why = e.why; place = omega (arith, e.place) }
+  first_says : (w : Tracked) → Inside p → Ends behind p ps w → Says-so (p ∷ ps) (track_verdict w)
+  first_says (Came t) h e = all_before (length ps) h e.each
+  first_says (Halt c b) h e = record { j = suc e.j; inside = omega (arith, e.inside); before = all_before e.j h e.before; why = e.why; place = omega (arith, e.place) }
 
-  pub walk-says : Says-so (p ∷ ps) (trackVerdict (trackFrom Empty (spotsBy 0 (p ∷ ps))))
-  unfolding trackFrom judgedOf placeable meets trackTo standAt
-  walk-says = go (validPointPos p) refl
+  pub walk_says : Says-so (p ∷ ps) (track_verdict (track_from Empty (spots_by 0 (p ∷ ps))))
+  unfolding track_from judged_of placeable meets track_to stand_at
+  walk_says = go (valid_point_pos p) refl
     where
-      go : (t : Bool) → validPointPos p ≡ t
-          → Says-so (p ∷ ps) (trackVerdict (afterPair (cond t (On (At (standAt p) p)) (Stop Position)) 0 (λ u. trackFrom u (spotsBy behind ps))))
-      go true e = first_says (trackFrom (At (standAt p) p) (spotsBy behind ps)) ((point-decides p).passed e) (ends ps behind (standAt p) p e)
-      go false e = record { j = 0; inside = omega arith; before = λ i l. absurd (omega arith); why = misplaced ((point-decides p).failed e); place = refl }
+      go : (t : Bool) → valid_point_pos p ≡ t
+          → Says-so (p ∷ ps) (track_verdict (after_pair (cond t (On (At (stand_at p) p)) (Stop Position)) 0 (λ u. track_from u (spots_by behind ps))))
+      go true e = first_says (track_from (At (stand_at p) p) (spots_by behind ps)) ((point_decides p).passed e) (ends ps behind (stand_at p) p e)
+      go false e = record { j = 0; inside = omega arith; before = λ i l. absurd (omega arith); why = misplaced ((point_decides p).failed e); place = refl }
 
-  pub walk_fine : Before (p ∷ ps) (suc (length ps)) → trackVerdict (trackFrom Empty (spotsBy 0 (p ∷ ps))) ≡ Fine
-  unfolding trackFrom judgedOf placeable meets trackTo standAt
+  pub walk_fine : Before (p ∷ ps) (suc (length ps)) → track_verdict (track_from Empty (spots_by 0 (p ∷ ps))) ≡ Fine
+  unfolding track_from judged_of placeable meets track_to stand_at
   walk_fine b =
-      let v = (point-decides p).passes (b 0 (omega arith)).placed in
-      rw v (walks-on ps behind (standAt p) p v (record { each = λ i l. b (suc i) (omega arith) }))
+      let v = (point_decides p).passes (b 0 (omega arith)).placed in
+      rw v (walks_on ps behind (stand_at p) p v (record { each = λ i l. b (suc i) (omega arith) }))
 
-  pub walk-stops : (c : Code) (j : ℕ) → j < suc (length ps) → Before (p ∷ ps) j → Why (p ∷ ps) j c → trackVerdict (trackFrom Empty (spotsBy 0 (p ∷ ps))) ≡ Fault c (firstByte (p ∷ ps) j)
-  unfolding trackFrom judgedOf placeable meets trackTo standAt
-  walk-stops c zero l b (misplaced o) = rw ((point-decides p).fails o)
-  walk-stops c zero l b (again h e) = absurd e
-  walk-stops c (suc j) l b y =
-      let v = (point-decides p).passes (b 0 (omega arith)).placed in
-      let e : behind + firstByte ps j ≡ suc (length (pairText p) + firstByte ps j) = omega arith in
-      rw v (walks-to ps behind (standAt p) p v c j (omega arith) (λ i m. b (suc i) (omega arith)) y ∙ ap (λ (k : ℕ). Fault c k) e)
+  pub walk_stops : (c : Code) (j : ℕ) → j < suc (length ps) → Before (p ∷ ps) j → Why (p ∷ ps) j c → track_verdict (track_from Empty (spots_by 0 (p ∷ ps))) ≡ Fault c (first_byte (p ∷ ps) j)
+  unfolding track_from judged_of placeable meets track_to stand_at
+  walk_stops c zero l b (misplaced o) = rw ((point_decides p).fails o)
+  walk_stops c zero l b (again h e) = absurd e
+  walk_stops c (suc j) l b y =
+      let v = (point_decides p).passes (b 0 (omega arith)).placed in
+      let e : behind + first_byte ps j ≡ suc (length (pair_text p) + first_byte ps j) = omega arith in
+      rw v (walks_to ps behind (stand_at p) p v c j (omega arith) (λ i m. b (suc i) (omega arith)) y ∙ ap (λ (k : ℕ). Fault c k) e)
 
 -- ---- the room
 
-pub lacks-decides : (start deltas : ℕ) (ps : List Pair) → Decides (ltb start 2 || ltb deltas (2 * (length ps - 1))) (PointsLack start deltas ps) ((2 ≤ start) × (2 * (length ps - 1) ≤ deltas))
-lacks-decides start deltas ps = either-decides (less-than start 2) (less-than deltas (2 * (length ps - 1)))
+pub lacks_decides : (start deltas : ℕ) (ps : List Pair) → Decides (ltb start 2 || ltb deltas (2 * (length ps - 1))) (PointsLack start deltas ps) ((2 ≤ start) × (2 * (length ps - 1) ≤ deltas))
+lacks_decides start deltas ps = either_decides (less_than start 2) (less_than deltas (2 * (length ps - 1)))
 
 -- ---- the answer
 
 module _ (text : List ℕ) (start deltas : ℕ) where
   -- a text that says points is judged by them
-  pub verdict-said : (ps : List Pair) → Says text ps
-      → pointsVerdict start deltas text ≡ and_then (trackVerdict (trackFrom Empty (spotsBy 0 ps))) (cond (ltb start 2 || ltb deltas (2 * (length ps - 1))) (Fault Room 0) Fine)
-  unfolding pointsVerdict pairsVerdict
-  verdict-said ps s = rw ((form-judged text).0 ((form-says text).1 (record { points = ps; says = s })), spots-said text ps s, spots-length ps 0)
+  pub verdict_said : (ps : List Pair) → Says text ps
+      → points_verdict start deltas text ≡ and_then (track_verdict (track_from Empty (spots_by 0 ps))) (cond (ltb start 2 || ltb deltas (2 * (length ps - 1))) (Fault Room 0) Fine)
+  unfolding points_verdict pairs_verdict
+  verdict_said ps s = rw ((form_judged text).0 ((form_says text).1 (record { points = ps; says = s })), spots_said text ps s, spots_length ps 0)
 
-  refused-said : (ps : List Pair) → Says text ps → (c : Code) (p : ℕ) → pointsVerdict start deltas text ≡ Fault c p → PointsReadRefusal text start deltas c p
-  refused-said [] s c p e = absurd (omega (arith, s.some))
-  refused-said (q ∷ ps) s c p e = go (trackVerdict (trackFrom Empty (spotsBy 0 (q ∷ ps)))) (walk-says q ps) (sym (verdict-said (q ∷ ps) s) ∙ e)
+  refused_said : (ps : List Pair) → Says text ps → (c : Code) (p : ℕ) → points_verdict start deltas text ≡ Fault c p → PointsReadRefusal text start deltas c p
+  refused_said [] s c p e = absurd (omega (arith, s.some))
+  refused_said (q ∷ ps) s c p e = go (track_verdict (track_from Empty (spots_by 0 (q ∷ ps)))) (walk_says q ps) (sym (verdict_said (q ∷ ps) s) ∙ e)
     where
-      by : (c : Code) (j : ℕ) → j < length (q ∷ ps) → Before (q ∷ ps) j → Why (q ∷ ps) j c → PointsReadRefusal text start deltas c (firstByte (q ∷ ps) j)
+      by : (c : Code) (j : ℕ) → j < length (q ∷ ps) → Before (q ∷ ps) j → Why (q ∷ ps) j c → PointsReadRefusal text start deltas c (first_byte (q ∷ ps) j)
       by c j l b (misplaced o) = position (q ∷ ps) s j l b o
       by c j l b (again h a) = coincide (q ∷ ps) s j l b h a
 
@@ -266,19 +266,19 @@ module _ (text : List ℕ) (start deltas : ℕ) where
       lacks b false d e = let z : ◌≡◌ {A = ℕ} 0 1 = cc in absurd (omega arith)
 
       go : (v : Verdict) → Says-so (q ∷ ps) v → and_then v (cond (ltb start 2 || ltb deltas (2 * (length (q ∷ ps) - 1))) (Fault Room 0) Fine) ≡ Fault c p → PointsReadRefusal text start deltas c p
-      go Fine b e = lacks b (ltb start 2 || ltb deltas (2 * (length (q ∷ ps) - 1))) (lacks-decides start deltas (q ∷ ps)) e
+      go Fine b e = lacks b (ltb start 2 || ltb deltas (2 * (length (q ∷ ps) - 1))) (lacks_decides start deltas (q ∷ ps)) e
       go (Fault d b) w e =
           let x : d ≡ c = cc in
           let y : b ≡ p = cc in
           subst (λ (k : ℕ). PointsReadRefusal text start deltas c k) (sym w.place ∙ y)
-          (subst (λ (k : Code). PointsReadRefusal text start deltas k (firstByte (q ∷ ps) w.j)) x (by d w.j w.inside w.before w.why))
+          (subst (λ (k : Code). PointsReadRefusal text start deltas k (first_byte (q ∷ ps) w.j)) x (by d w.j w.inside w.before w.why))
 
-  refused-so : (c : Code) (p : ℕ) → pointsVerdict start deltas text ≡ Fault c p → PointsReadRefusal text start deltas c p
-  unfolding pointsVerdict
-  refused-so c p e = go (text_of text) refl e
+  refused_so : (c : Code) (p : ℕ) → points_verdict start deltas text ≡ Fault c p → PointsReadRefusal text start deltas c p
+  unfolding points_verdict
+  refused_so c p e = go (text_of text) refl e
     where
-      go : (v : Verdict) → text_of text ≡ v → and_then v (pairsVerdict start deltas (spotsOf text)) ≡ Fault c p → PointsReadRefusal text start deltas c p
-      go Fine x e = let s = (form-says text).0 ((form-judged text).1 x) in refused-said s.points s.says c p (rw x e)
+      go : (v : Verdict) → text_of text ≡ v → and_then v (pairs_verdict start deltas (spots_of text)) ≡ Fault c p → PointsReadRefusal text start deltas c p
+      go Fine x e = let s = (form_says text).0 ((form_judged text).1 x) in refused_said s.points s.says c p (rw x e)
       go (Fault d q) x e =
           let f : FirstBad text q = bad-there text d q x in
           let i : Fault Text q ≡ Fault c p = sym (bad-said text q f) ∙ x ∙ e in
@@ -287,21 +287,21 @@ module _ (text : List ℕ) (start deltas : ℕ) where
           subst (λ (m : ℕ). PointsReadRefusal text start deltas c m) l (subst (λ (m : Code). PointsReadRefusal text start deltas m q) k (bad q f))
 
   -- the table gives the verdict
-  refusal-given : (c : Code) (p : ℕ) → PointsReadRefusal text start deltas c p → pointsVerdict start deltas text ≡ Fault c p
-  unfolding readPointsOf
-  refusal-given c p (bad q f) = said start deltas (spotsOf text) (pointsVerdict start deltas text) Text q ((text-exactly start deltas text q).1 f)
-  refusal-given c p (position [] s j l b o) = absurd (omega arith)
-  refusal-given c p (position (q ∷ ps) s j l b o) = verdict-said (q ∷ ps) s ∙ rw (walk-stops q ps Position j l b (misplaced o))
-  refusal-given c p (coincide [] s j l b h a) = absurd (omega arith)
-  refusal-given c p (coincide (q ∷ ps) s j l b h a) = verdict-said (q ∷ ps) s ∙ rw (walk-stops q ps Coincide j l b (again h a))
-  refusal-given c p (room [] s b k) = absurd (omega (arith, s.some))
-  refusal-given c p (room (q ∷ ps) s b k) = verdict-said (q ∷ ps) s ∙ rw (walk_fine q ps b, (lacks-decides start deltas (q ∷ ps)).passes k)
+  refusal_given : (c : Code) (p : ℕ) → PointsReadRefusal text start deltas c p → points_verdict start deltas text ≡ Fault c p
+  unfolding read_points_of
+  refusal_given c p (bad q f) = said start deltas (spots_of text) (points_verdict start deltas text) Text q ((text-exactly start deltas text q).1 f)
+  refusal_given c p (position [] s j l b o) = absurd (omega arith)
+  refusal_given c p (position (q ∷ ps) s j l b o) = verdict_said (q ∷ ps) s ∙ rw (walk_stops q ps Position j l b (misplaced o))
+  refusal_given c p (coincide [] s j l b h a) = absurd (omega arith)
+  refusal_given c p (coincide (q ∷ ps) s j l b h a) = verdict_said (q ∷ ps) s ∙ rw (walk_stops q ps Coincide j l b (again h a))
+  refusal_given c p (room [] s b k) = absurd (omega (arith, s.some))
+  refusal_given c p (room (q ∷ ps) s b k) = verdict_said (q ∷ ps) s ∙ rw (walk_fine q ps b, (lacks_decides start deltas (q ∷ ps)).passes k)
 
-  pub read-exactly : (c : Code) (p : ℕ) → ((readPointsOf start deltas text).answer ≡ Refused c p) ↔ PointsReadRefusal text start deltas c p
-  unfolding readPointsOf
-  read-exactly c p = (
-    λ e. refused-so c p (said start deltas (spotsOf text) (pointsVerdict start deltas text) c p e),
-    λ r. rw (refusal-given c p r),
+  pub read_exactly : (c : Code) (p : ℕ) → ((read_points_of start deltas text).answer ≡ Refused c p) ↔ PointsReadRefusal text start deltas c p
+  unfolding read_points_of
+  read_exactly c p = (
+    λ e. refused_so c p (said start deltas (spots_of text) (points_verdict start deltas text) c p e),
+    λ r. rw (refusal_given c p r),
   )
 
 -- Assumes nothing.

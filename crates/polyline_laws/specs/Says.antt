@@ -2,18 +2,18 @@
 use Rattle.std.specs.Prelude.{◌≡◌, List, [], ◌∷◌, ◌↔◌, ℕ, zero, suc, ◌+◌, ◌<◌, length}
 use Rattle.control_points.specs.declared.Pair.{Pair}
 use Rattle.polyline.specs.Form.{PointsForm}
-use Rattle.polyline.specs.Write.{pairText, pointsText}
+use Rattle.polyline.specs.Write.{pair_text, points_text}
 
 -- one point at least, and the text is theirs
 pub record Says (text : List ℕ) (ps : List Pair) : Type 0 where
   pub some : 0 < length ps
-  pub is : text ≡ pointsText ps
+  pub is : text ≡ points_text ps
 
 -- the first byte of pair j: behind the pairs before it and the space behind each of them
-abbrev pub firstByte : List Pair → ℕ → ℕ
-firstByte ps zero = 0
-firstByte [] (suc j) = 0
-firstByte (p ∷ ps) (suc j) = suc (length (pairText p) + firstByte ps j)
+abbrev pub first_byte : List Pair → ℕ → ℕ
+first_byte ps zero = 0
+first_byte [] (suc j) = 0
+first_byte (p ∷ ps) (suc j) = suc (length (pair_text p) + first_byte ps j)
 
 -- some points that a text says
 pub record Said (text : List ℕ) : Type 0 where

@@ -2,10 +2,10 @@
 #![tactic(auto)]
 
 ghost use Rattle.std.specs.Prelude.{◌≡◌, Bool, ◌+◌, ◌-◌, ◌*◌, ◌≤◌, ◌<◌};
-ghost use Rattle.control_points.specs.ControlPoints.{in_range, validPointPos, samePoint};
+ghost use Rattle.control_points.specs.ControlPoints.{in_range, valid_point_pos, same_point};
 ghost use Rattle.polyline.specs.declared.Track.{Track};
-ghost use Rattle.polyline.specs.Spots.{signedBy, figureAt, grownBy, spot_of, capped};
-ghost use Rattle.polyline.specs.Read.{minusOf, doubleDelta, judgedOf};
+ghost use Rattle.polyline.specs.Spots.{signed_by, figure_at, grown_by, spot_of, capped};
+ghost use Rattle.polyline.specs.Read.{minus_of, double_delta, judged_of};
 ghost use Rattle.polyline_pairs.specs.Fits.{Near, Held, OnTrack};
 
 use codes::Code;
@@ -21,14 +21,14 @@ fn in_range(v: i32) -> bool
 }
 
 pub fn valid(p: Pair) -> bool
-    ensures { result ≡ validPointPos p }
+    ensures { result ≡ valid_point_pos p }
 {
     if in_range(p.x) { in_range(p.y) } else { false }
 }
 
 fn minus(p: Pair, q: Pair) -> Pair
     requires { Near p × Near q }
-    ensures { result ≡ minusOf p q }
+    ensures { result ≡ minus_of p q }
 {
     Pair {
         x: p.x - q.x,
@@ -38,15 +38,15 @@ fn minus(p: Pair, q: Pair) -> Pair
 
 // Whether two points in range are the same.
 pub fn same(p: Pair, q: Pair) -> bool
-    requires { (validPointPos p ≡ Bool.true) × (validPointPos q ≡ Bool.true) }
-    ensures { result ≡ samePoint p q }
+    requires { (valid_point_pos p ≡ Bool.true) × (valid_point_pos q ≡ Bool.true) }
+    ensures { result ≡ same_point p q }
 {
     if p.x == q.x { p.y == q.y } else { false }
 }
 
 fn signed(negative: bool, size: u32) -> i32
     requires { size ≤ 16777216 }
-    ensures { result ≡ signedBy negative size }
+    ensures { result ≡ signed_by negative size }
 {
     if negative {
         0 - (size as i32)
@@ -73,7 +73,7 @@ fn size_with(size: u32, b: u32) -> u32
 // ---- a pair
 
 pub fn figure_at(begin: usize) -> Figure
-    ensures { result ≡ figureAt begin }
+    ensures { result ≡ figure_at begin }
 {
     Figure {
         begin,
@@ -86,7 +86,7 @@ pub fn figure_at(begin: usize) -> Figure
 // A byte inside a pair.
 pub fn grown(f: Figure, b: u32) -> Figure
     requires { Held f × (b < 256) }
-    ensures { result ≡ grownBy capped f b }
+    ensures { result ≡ grown_by capped f b }
 {
     if b == 44 {
         return Figure {
@@ -128,7 +128,7 @@ pub fn spot(f: Figure) -> Spot
 // A pair behind a place: POSITION of the delta and of the point, then COINCIDE.
 fn judge_later(p: Stand, start: Pair, q: Pair) -> Judged
     requires { OnTrack (Track.At p start) × Near q }
-    ensures { result ≡ judgedOf (Track.At p start) q }
+    ensures { result ≡ judged_of (Track.At p start) q }
 {
     let point = p.point;
     let delta = minus(q, point);
@@ -146,7 +146,7 @@ fn judge_later(p: Stand, start: Pair, q: Pair) -> Judged
 
 pub fn judge_pair(track: Track, q: Pair) -> Judged
     requires { OnTrack track × Near q }
-    ensures { result ≡ judgedOf track q }
+    ensures { result ≡ judged_of track q }
 {
     match track {
         Track::Empty => {
@@ -162,8 +162,8 @@ pub fn judge_pair(track: Track, q: Pair) -> Judged
 
 // The double delta that leads from a place to a pair.
 pub fn double_delta(p: Stand, q: Pair) -> Pair
-    requires { Near q × Near p.point × Near (minusOf q p.point) × Near p.delta }
-    ensures { result ≡ doubleDelta p q }
+    requires { Near q × Near p.point × Near (minus_of q p.point) × Near p.delta }
+    ensures { result ≡ double_delta p q }
 {
     let point = p.point;
     let delta = p.delta;

@@ -12,13 +12,13 @@ use lib.Seq.{sets, sets-eq}
 use borrow.Author.Tests.{lt-ltb, le-ltb, ltb-false}
 use Rattle.codes.specs.declared.Code.{Code}
 use Rattle.codes.specs.declared.Code.TheVariants.{Room}
-use Rattle.list.specs.Steps.{zeroF32}
+use Rattle.list.specs.Steps.{zero_f32}
 use Rattle.write_judge.specs.declared.Verdict.{Verdict}
 use Rattle.write_judge.specs.declared.Verdict.TheVariants.{Fine, Fault}
 use Rattle.writer.specs.declared.WriteAnswer.{WriteAnswer}
 use Rattle.writer.specs.declared.WriteAnswer.TheVariants.{Done, Refused}
 use Rattle.write_judge.proofs.Checks.{neither}
-use Rattle.control_points.specs.ControlPoints.{validPointPos}
+use Rattle.control_points.specs.ControlPoints.{valid_point_pos}
 use Rattle.control_points.specs.declared.Pair.{Pair}
 use Rattle.control_points.specs.declared.Stand.{Stand}
 use Rattle.polyline.specs.declared.Spot.{Spot}
@@ -27,10 +27,10 @@ use Rattle.polyline.specs.declared.Track.TheVariants.{Empty, At}
 use Rattle.polyline.specs.declared.Tracked.{Tracked}
 use Rattle.polyline.specs.declared.Tracked.TheVariants.{Came, Halt}
 use Rattle.polyline.specs.Stages.{text_of}
-use Rattle.polyline.specs.Spots.{figureAt, uncapped, spotsOf, cappedSpots}
-use Rattle.polyline.specs.Read.{trackFrom, deltasFrom, firstPoint, start_of, laterOf, and_then, trackVerdict, room_for, pairsVerdict, pointsVerdict, leaves, outcome, readPointsOf}
-use Rattle.polyline.proofs.Tracks.{First, walk_first, deltas-length, spots-some}
-use Rattle.polyline.proofs.Capped.{capped_is, walk-capped, came_same, capSpot}
+use Rattle.polyline.specs.Spots.{figure_at, uncapped, spots_of, capped_spots}
+use Rattle.polyline.specs.Read.{track_from, deltas_from, first_point, start_of, later_of, and_then, track_verdict, room_for, pairs_verdict, points_verdict, leaves, outcome, read_points_of}
+use Rattle.polyline.proofs.Tracks.{First, walk_first, deltas_length, spots_some}
+use Rattle.polyline.proofs.Capped.{capped_is, walk_capped, came_same, cap_spot}
 use Rattle.polyline_scan.specs.declared.Run.{Run}
 use Rattle.polyline_scan.specs.declared.Turned.TheVariants.{On, Stop}
 use Rattle.polyline_scan.specs.Steps.{ScanLeaves}
@@ -38,74 +38,74 @@ use Rattle.polyline_read.specs.Steps.{TextLeaves}
 
 -- ---- the pairs as they are
 
-walk_is : (text : List ℕ) → trackFrom Empty (cappedSpots text) ≡ trackFrom Empty (spotsOf text)
-walk_is text = ap (trackFrom Empty) (capped_is text) ∙ walk-capped (spotsOf text) Empty
+walk_is : (text : List ℕ) → track_from Empty (capped_spots text) ≡ track_from Empty (spots_of text)
+walk_is text = ap (track_from Empty) (capped_is text) ∙ walk_capped (spots_of text) Empty
 
 -- a text whose pairs all pass, gone through
 pub record Scanned (text : List ℕ) (run : Run) (d d' : List ℤ) : Type 0 where
-  pub walk : trackFrom Empty (spotsOf text) ≡ Came run.track
-  pub held : run.held ≡ 2 * laterOf (spotsOf text)
-  pub stored : d' ≡ sets d 0 (deltasFrom Empty (spotsOf text))
-  pub first : First (spotsOf text) run.track
+  pub walk : track_from Empty (spots_of text) ≡ Came run.track
+  pub held : run.held ≡ 2 * later_of (spots_of text)
+  pub stored : d' ≡ sets d 0 (deltas_from Empty (spots_of text))
+  pub first : First (spots_of text) run.track
 
-some : (text : List ℕ) → 0 < length (spotsOf text)
-unfolding spotsOf
-some text = spots-some uncapped text (figureAt 0) 0
+some : (text : List ℕ) → 0 < length (spots_of text)
+unfolding spots_of
+some text = spots_some uncapped text (figure_at 0) 0
 
-pub scanned : (text : List ℕ) (run : Run) (d d' : List ℤ) → ScanLeaves (cappedSpots text) (On run) d d' → Scanned text run d d'
+pub scanned : (text : List ℕ) (run : Run) (d d' : List ℤ) → ScanLeaves (capped_spots text) (On run) d d' → Scanned text run d d'
 scanned text run d d' l =
     let w = sym (walk_is text) ∙ l.leaves.0 in
-    let same : cappedSpots text ≡ spotsOf text = capped_is text ∙ came_same (spotsOf text) Empty run.track w in
+    let same : capped_spots text ≡ spots_of text = capped_is text ∙ came_same (spots_of text) Empty run.track w in
     record {
       walk = w;
-      held = rw same at l.leaves.1 ∙ deltas-length (spotsOf text);
+      held = rw same at l.leaves.1 ∙ deltas_length (spots_of text);
       stored = rw same at l.leaves.2;
-      first = walk_first (spotsOf text) run.track (some text) w;
+      first = walk_first (spots_of text) run.track (some text) w;
     }
 
 module _ (text : List ℕ) (run : Run) (d d' : List ℤ) (g : Scanned text run d d') where
   pub never-empty : run.track ≡ Empty → ⊥
   never-empty e = let k = g.first.keeps.is in let z : ◌≡◌ {A = ℕ} 0 1 = cc in omega arith
 
-  pub first-is : (p : Stand) (q : Pair) → run.track ≡ At p q → q ≡ firstPoint (spotsOf text)
-  first-is p q e = let k = g.first.keeps.is in cc
+  pub first_is : (p : Stand) (q : Pair) → run.track ≡ At p q → q ≡ first_point (spots_of text)
+  first_is p q e = let k = g.first.keeps.is in cc
 
-  pub first-valid : (p : Stand) (q : Pair) → run.track ≡ At p q → validPointPos q ≡ true
-  first-valid p q e = rw (first-is p q e) g.first.valid
+  pub first-valid : (p : Stand) (q : Pair) → run.track ≡ At p q → valid_point_pos q ≡ true
+  first-valid p q e = rw (first_is p q e) g.first.valid
 
 -- ---- the verdict
 
 module _ (ls ld : ℕ) (text : List ℕ) where
-  pub halted : (code : Code) (place : ℕ) (d d' : List ℤ) → ScanLeaves (cappedSpots text) (Stop code place) d d' → pairsVerdict ls ld (spotsOf text) ≡ Fault code place
-  unfolding pairsVerdict
+  pub halted : (code : Code) (place : ℕ) (d d' : List ℤ) → ScanLeaves (capped_spots text) (Stop code place) d d' → pairs_verdict ls ld (spots_of text) ≡ Fault code place
+  unfolding pairs_verdict
   halted code place d d' l = rw (sym (walk_is text) ∙ l.leaves)
 
-  module _ (t : Track) (came : trackFrom Empty (spotsOf text) ≡ Came t) where
-    pub start-lacks : ls < 2 → pairsVerdict ls ld (spotsOf text) ≡ Fault Room 0
-    unfolding pairsVerdict
+  module _ (t : Track) (came : track_from Empty (spots_of text) ≡ Came t) where
+    pub start-lacks : ls < 2 → pairs_verdict ls ld (spots_of text) ≡ Fault Room 0
+    unfolding pairs_verdict
     start-lacks h = rw (came, lt-ltb ls 2 h)
 
-    pub deltas-lack : 2 ≤ ls → (held : ℕ) → held ≡ 2 * laterOf (spotsOf text) → ld < held → pairsVerdict ls ld (spotsOf text) ≡ Fault Room 0
-    unfolding pairsVerdict
-    deltas-lack h held e g = rw (came, le-ltb ls 2 h, lt-ltb ld (2 * laterOf (spotsOf text)) (omega arith))
+    pub deltas-lack : 2 ≤ ls → (held : ℕ) → held ≡ 2 * later_of (spots_of text) → ld < held → pairs_verdict ls ld (spots_of text) ≡ Fault Room 0
+    unfolding pairs_verdict
+    deltas-lack h held e g = rw (came, le-ltb ls 2 h, lt-ltb ld (2 * later_of (spots_of text)) (omega arith))
 
-    pub all-fits : 2 ≤ ls → (held : ℕ) → held ≡ 2 * laterOf (spotsOf text) → held ≤ ld → pairsVerdict ls ld (spotsOf text) ≡ Fine
-    unfolding pairsVerdict
-    all-fits h held e g = rw (came, le-ltb ls 2 h, le-ltb ld (2 * laterOf (spotsOf text)) (omega arith))
+    pub all-fits : 2 ≤ ls → (held : ℕ) → held ≡ 2 * later_of (spots_of text) → held ≤ ld → pairs_verdict ls ld (spots_of text) ≡ Fine
+    unfolding pairs_verdict
+    all-fits h held e g = rw (came, le-ltb ls 2 h, le-ltb ld (2 * later_of (spots_of text)) (omega arith))
 
   -- no fault: there is room
-  pub roomy : pointsVerdict ls ld text ≡ Fine → (2 ≤ ls) × (2 * laterOf (spotsOf text) ≤ ld)
-  unfolding pointsVerdict pairsVerdict
-  roomy e = go (text_of text) (trackFrom Empty (spotsOf text)) (ltb ls 2 || ltb ld (2 * laterOf (spotsOf text))) refl e
+  pub roomy : points_verdict ls ld text ≡ Fine → (2 ≤ ls) × (2 * later_of (spots_of text) ≤ ld)
+  unfolding points_verdict pairs_verdict
+  roomy e = go (text_of text) (track_from Empty (spots_of text)) (ltb ls 2 || ltb ld (2 * later_of (spots_of text))) refl e
     where
-      go : (v : Verdict) (w : Tracked) (b : Bool) → (ltb ls 2 || ltb ld (2 * laterOf (spotsOf text))) ≡ b
-          → and_then v (and_then (trackVerdict w) (cond b (Fault Room 0) Fine)) ≡ Fine → (2 ≤ ls) × (2 * laterOf (spotsOf text) ≤ ld)
+      go : (v : Verdict) (w : Tracked) (b : Bool) → (ltb ls 2 || ltb ld (2 * later_of (spots_of text))) ≡ b
+          → and_then v (and_then (track_verdict w) (cond b (Fault Room 0) Fine)) ≡ Fine → (2 ≤ ls) × (2 * later_of (spots_of text) ≤ ld)
       go (Fault c p) w b x e = let z : ◌≡◌ {A = ℕ} 0 1 = cc in absurd (omega arith)
       go Fine (Halt c p) b x e = let z : ◌≡◌ {A = ℕ} 0 1 = cc in absurd (omega arith)
       go Fine (Came t) true x e = let z : ◌≡◌ {A = ℕ} 0 1 = cc in absurd (omega arith)
       go Fine (Came t) false x e =
-          let n = neither (ltb ls 2) (ltb ld (2 * laterOf (spotsOf text))) x in
-          (ltb-false ls 2 n.0, ltb-false ld (2 * laterOf (spotsOf text)) n.1)
+          let n = neither (ltb ls 2) (ltb ld (2 * later_of (spots_of text))) x in
+          (ltb-false ls 2 n.0, ltb-false ld (2 * later_of (spots_of text)) n.1)
 
 -- ---- what is left
 
@@ -113,8 +113,8 @@ pub text-refused : (ss : List Spot) (v : Verdict) (code : Code) (place : ℕ) (s
     → TextLeaves ss v (Refused code place) s s' d d'
 text-refused ss v code place s s' d d' e same = rw e (record { leaves = (refl, same) })
 
-pub text-done : (ss : List Spot) (v : Verdict) (n : ℕ) (s s' : List Float) (d d' : List ℤ) → v ≡ Fine → n ≡ laterOf ss → s' ≡ sets s 0 (start_of ss)
-    → d' ≡ sets d 0 (deltasFrom Empty ss) → TextLeaves ss v (Done n) s s' d d'
+pub text-done : (ss : List Spot) (v : Verdict) (n : ℕ) (s s' : List Float) (d d' : List ℤ) → v ≡ Fine → n ≡ later_of ss → s' ≡ sets s 0 (start_of ss)
+    → d' ≡ sets d 0 (deltas_from Empty ss) → TextLeaves ss v (Done n) s s' d d'
 text-done ss v n s s' d d' e is x y = rw e (record { leaves = (ap Done is, x, y) })
 
 -- TEXT passed: the rest decides
@@ -143,41 +143,41 @@ front {A} a room vs h =
 
 -- ---- the whole call
 
-module _ (text : List ℕ) (ls ld : ℕ) (s s' : List Float) (d d' : List ℤ) (zs : s ≡ replicate ls zeroF32) (zd : d ≡ replicate ld (pos 0)) (r : WriteAnswer)
-    (l₀ : TextLeaves (spotsOf text) (pointsVerdict (length s) (length d) text) r s s' d d') where
+module _ (text : List ℕ) (ls ld : ℕ) (s s' : List Float) (d d' : List ℤ) (zs : s ≡ replicate ls zero_f32) (zd : d ≡ replicate ld (pos 0)) (r : WriteAnswer)
+    (l₀ : TextLeaves (spots_of text) (points_verdict (length s) (length d) text) r s s' d d') where
   start-length : length s ≡ ls
-  start-length = ap length zs ∙ length-replicate ls zeroF32
+  start-length = ap length zs ∙ length-replicate ls zero_f32
 
-  deltas-room : length d ≡ ld
-  deltas-room = ap length zd ∙ length-replicate ld (pos 0)
+  deltas_room : length d ≡ ld
+  deltas_room = ap length zd ∙ length-replicate ld (pos 0)
 
-  l : TextLeaves (spotsOf text) (pointsVerdict ls ld text) r s s' d d'
-  l = rw (start-length, deltas-room) at l₀
+  l : TextLeaves (spots_of text) (points_verdict ls ld text) r s s' d d'
+  l = rw (start-length, deltas_room) at l₀
 
-  pub call-done : (n : ℕ) → r ≡ Done n → leaves (Done n) s' d' ≡ readPointsOf ls ld text
-  unfolding readPointsOf
-  call-done n e = go (pointsVerdict ls ld text) refl l
+  pub call-done : (n : ℕ) → r ≡ Done n → leaves (Done n) s' d' ≡ read_points_of ls ld text
+  unfolding read_points_of
+  call-done n e = go (points_verdict ls ld text) refl l
     where
-      go : (v : Verdict) → pointsVerdict ls ld text ≡ v → TextLeaves (spotsOf text) v r s s' d d' → leaves (Done n) s' d' ≡ outcome ls ld (spotsOf text) v
+      go : (v : Verdict) → points_verdict ls ld text ≡ v → TextLeaves (spots_of text) v r s s' d d' → leaves (Done n) s' d' ≡ outcome ls ld (spots_of text) v
       go Fine x l =
-          let m : n ≡ laterOf (spotsOf text) = cc l.leaves.0 in
+          let m : n ≡ later_of (spots_of text) = cc l.leaves.0 in
           let h = roomy ls ld text x in
-          let a : s' ≡ start_of (spotsOf text) ++ replicate (ls - 2) zeroF32 = l.leaves.1 ∙ rw (zs) (front zeroF32 ls (start_of (spotsOf text)) h.0) in
-          let b : d' ≡ deltasFrom Empty (spotsOf text) ++ replicate (ld - 2 * laterOf (spotsOf text)) (pos 0) =
-          l.leaves.2 ∙ rw (zd) (rw (deltas-length (spotsOf text)) at (front (pos 0) ld (deltasFrom Empty (spotsOf text)) (omega (arith, h.1, deltas-length (spotsOf text))))) in
+          let a : s' ≡ start_of (spots_of text) ++ replicate (ls - 2) zero_f32 = l.leaves.1 ∙ rw (zs) (front zero_f32 ls (start_of (spots_of text)) h.0) in
+          let b : d' ≡ deltas_from Empty (spots_of text) ++ replicate (ld - 2 * later_of (spots_of text)) (pos 0) =
+          l.leaves.2 ∙ rw (zd) (rw (deltas_length (spots_of text)) at (front (pos 0) ld (deltas_from Empty (spots_of text)) (omega (arith, h.1, deltas_length (spots_of text))))) in
           rw (m, a, b)
       go (Fault c p) x l = let z : ◌≡◌ {A = ℕ} 0 1 = cc l.leaves.0 in absurd (omega arith)
 
   pub call-refused : (code : Code) (place : ℕ) (d'' : List ℤ) → d'' ≡ replicate (length d') (pos 0) → length d' ≡ length d → r ≡ Refused code place
-      → leaves (Refused code place) s' d'' ≡ readPointsOf ls ld text
-  unfolding readPointsOf
-  call-refused code place d'' z k e = go (pointsVerdict ls ld text) l
+      → leaves (Refused code place) s' d'' ≡ read_points_of ls ld text
+  unfolding read_points_of
+  call-refused code place d'' z k e = go (points_verdict ls ld text) l
     where
-      go : (v : Verdict) → TextLeaves (spotsOf text) v r s s' d d' → leaves (Refused code place) s' d'' ≡ outcome ls ld (spotsOf text) v
+      go : (v : Verdict) → TextLeaves (spots_of text) v r s s' d d' → leaves (Refused code place) s' d'' ≡ outcome ls ld (spots_of text) v
       go Fine l = let z : ◌≡◌ {A = ℕ} 0 1 = cc l.leaves.0 in absurd (omega arith)
       go (Fault c p) l =
           let x : code ≡ c = cc l.leaves.0 in
           let y : place ≡ p = cc l.leaves.0 in
-          rw (x, y, l.leaves.1, zs, z, k ∙ deltas-room)
+          rw (x, y, l.leaves.1, zs, z, k ∙ deltas_room)
 
 -- Assumes nothing.

@@ -7,12 +7,12 @@ use Rattle.write_judge.specs.declared.Verdict.{Verdict}
 use Rattle.write_judge.specs.declared.Verdict.TheVariants.{Fine, Fault}
 use Rattle.polyline.specs.declared.Spot.{Spot}
 use Rattle.polyline.specs.declared.Track.TheVariants.{Empty}
-use Rattle.polyline.specs.Read.{deltasFrom, start_of, laterOf}
+use Rattle.polyline.specs.Read.{deltas_from, start_of, later_of}
 
 -- what reading a text answers, by its verdict, and leaves: of a refusal nothing is said but that the start is as it was
-abbrev pub textLeaves : List Spot → Verdict → WriteAnswer → List Float → List Float → List ℤ → List ℤ → Type 0
-textLeaves ss Fine r s s' d d' = (r ≡ Done (laterOf ss)) × (s' ≡ sets s 0 (start_of ss)) × (d' ≡ sets d 0 (deltasFrom Empty ss))
-textLeaves ss (Fault code place) r s s' d d' = (r ≡ Refused code place) × (s' ≡ s)
+abbrev pub text_leaves : List Spot → Verdict → WriteAnswer → List Float → List Float → List ℤ → List ℤ → Type 0
+text_leaves ss Fine r s s' d d' = (r ≡ Done (later_of ss)) × (s' ≡ sets s 0 (start_of ss)) × (d' ≡ sets d 0 (deltas_from Empty ss))
+text_leaves ss (Fault code place) r s s' d d' = (r ≡ Refused code place) × (s' ≡ s)
 
 pub record TextLeaves (ss : List Spot) (v : Verdict) (r : WriteAnswer) (s s' : List Float) (d d' : List ℤ) : Type 0 where
-  pub leaves : textLeaves ss v r s s' d d'
+  pub leaves : text_leaves ss v r s s' d d'

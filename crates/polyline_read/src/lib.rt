@@ -4,10 +4,10 @@
 
 ghost use Rattle.std.specs.Prelude.{◌≡◌, Bool, [], ◌∷◌, ◌≤◌, length};
 ghost use Rattle.std.proofs.lemmas.List.Edits.{sets};
-ghost use Rattle.list.specs.Steps.{f32Of};
-ghost use Rattle.control_points.specs.ControlPoints.{validPointPos};
-ghost use Rattle.polyline.specs.Spots.{spotsOf};
-ghost use Rattle.polyline.specs.Read.{leaves, pairsVerdict, pointsVerdict, readPointsOf};
+ghost use Rattle.list.specs.Steps.{f32_of};
+ghost use Rattle.control_points.specs.ControlPoints.{valid_point_pos};
+ghost use Rattle.polyline.specs.Spots.{spots_of};
+ghost use Rattle.polyline.specs.Read.{leaves, pairs_verdict, points_verdict, read_points_of};
 ghost use Rattle.polyline_read.specs.Steps.{TextLeaves};
 
 use buffers::{clear_f32, clear_i32};
@@ -22,8 +22,8 @@ use writer::WriteAnswer;
 
 // The first pair as a start.
 fn put_start(p: Pair, start: &mut [f32])
-    requires { (validPointPos p ≡ Bool.true) × (2 ≤ length start.old) }
-    ensures { start.new ≡ sets start.old 0 (f32Of p.x ∷ f32Of p.y ∷ []) }
+    requires { (valid_point_pos p ≡ Bool.true) × (2 ≤ length start.old) }
+    ensures { start.new ≡ sets start.old 0 (f32_of p.x ∷ f32_of p.y ∷ []) }
 {
     start[0] = start_of(p.x as i64);
     start[1] = start_of(p.y as i64);
@@ -31,7 +31,7 @@ fn put_start(p: Pair, start: &mut [f32])
 
 // A text of the form: its pairs, then the room.
 fn read_pairs(text: &[u8], start: &mut [f32], deltas: &mut [i32]) -> WriteAnswer
-    ensures { TextLeaves (spotsOf text.now) (pairsVerdict (length start.old) (length deltas.old) (spotsOf text.now)) result start.old start.new deltas.old deltas.new }
+    ensures { TextLeaves (spots_of text.now) (pairs_verdict (length start.old) (length deltas.old) (spots_of text.now)) result start.old start.new deltas.old deltas.new }
 {
     match scan(text, deltas) {
         Turned::Stop(code, place) => WriteAnswer::Refused(code, place),
@@ -57,7 +57,7 @@ fn read_pairs(text: &[u8], start: &mut [f32], deltas: &mut [i32]) -> WriteAnswer
 
 // TEXT before all else.
 fn read_text(text: &[u8], start: &mut [f32], deltas: &mut [i32]) -> WriteAnswer
-    ensures { TextLeaves (spotsOf text.now) (pointsVerdict (length start.old) (length deltas.old) text.now) result start.old start.new deltas.old deltas.new }
+    ensures { TextLeaves (spots_of text.now) (points_verdict (length start.old) (length deltas.old) text.now) result start.old start.new deltas.old deltas.new }
 {
     match judge_form(text) {
         Verdict::Fault(code, place) => WriteAnswer::Refused(code, place),
@@ -66,7 +66,7 @@ fn read_text(text: &[u8], start: &mut [f32], deltas: &mut [i32]) -> WriteAnswer
 }
 
 pub fn points_read(text: &[u8], start: &mut [f32], deltas: &mut [i32]) -> WriteAnswer
-    ensures { leaves result start.new deltas.new ≡ readPointsOf (length start.old) (length deltas.old) text.now }
+    ensures { leaves result start.new deltas.new ≡ read_points_of (length start.old) (length deltas.old) text.now }
 {
     clear_f32(start);
     clear_i32(deltas);

@@ -13,7 +13,7 @@ use borrow.Author.Tests.{eq-eqb, ne_eqb, eqb-true, eqb-false}
 use Rattle.codes.specs.declared.Code.{Code}
 use Rattle.control_points.specs.declared.Pair.{Pair}
 use Rattle.control_points.specs.declared.Stand.{Stand}
-use Rattle.write_steps.proofs.Stores.{sets-append}
+use Rattle.write_steps.proofs.Stores.{sets_append}
 use Rattle.polyline.specs.declared.Figure.{Figure}
 use Rattle.polyline.specs.declared.Spot.{Spot}
 use Rattle.polyline.specs.declared.Track.{Track}
@@ -21,24 +21,24 @@ use Rattle.polyline.specs.declared.Track.TheVariants.{Empty, At}
 use Rattle.polyline.specs.declared.Judged.{Judged}
 use Rattle.polyline.specs.declared.Judged.TheVariants as judged
 use Rattle.polyline.specs.declared.Tracked.TheVariants.{Came, Halt}
-use Rattle.polyline.specs.Spots.{figureAt, grownBy, spot_of, spotsFrom, capped, cappedSpots, ended}
-use Rattle.polyline.specs.Read.{doubleDelta, trackTo, stepDeltas, judgedOf, trackFrom, deltasFrom}
-use Rattle.polyline.proofs.Tracks.{Passes, judged-on, walk-on, walk-stop}
+use Rattle.polyline.specs.Spots.{figure_at, grown_by, spot_of, spots_from, capped, capped_spots, ended}
+use Rattle.polyline.specs.Read.{double_delta, track_to, step_deltas, judged_of, track_from, deltas_from}
+use Rattle.polyline.proofs.Tracks.{Passes, judged_on, walk_on, walk_stop}
 use Rattle.polyline_scan.specs.declared.Run.{Run}
 use Rattle.polyline_scan.specs.declared.Turned.{Turned}
 use Rattle.polyline_scan.specs.declared.Turned.TheVariants.{On, Stop}
-use Rattle.polyline_scan.specs.Steps.{RunHeld, Spare, ended_of, pairEnds, turnedOf, storedBy, endDeltas, turnDeltas, ScanLeaves}
-use Rattle.polyline_pairs.proofs.Numbers.{figure-held, grown-held, track-held}
+use Rattle.polyline_scan.specs.Steps.{RunHeld, Spare, ended_of, pair_ends, turned_of, stored_by, end_deltas, turn_deltas, ScanLeaves}
+use Rattle.polyline_pairs.proofs.Numbers.{figure_held, grown_held, track_held}
 
 -- ---- a double delta is stored
 
-pub store-none : (t : Track) (q : Pair) (l : List ℤ) (i : ℕ) → t ≡ Empty → (l ≡ sets l i (stepDeltas t q)) × (i ≡ i + length (stepDeltas t q))
-unfolding stepDeltas
-store-none t q l i e = rw e (refl, omega arith)
+pub store_none : (t : Track) (q : Pair) (l : List ℤ) (i : ℕ) → t ≡ Empty → (l ≡ sets l i (step_deltas t q)) × (i ≡ i + length (step_deltas t q))
+unfolding step_deltas
+store_none t q l i e = rw e (refl, omega arith)
 
-pub store_two : (t : Track) (p : Stand) (start q d : Pair) (l l1 l2 : List ℤ) (i : ℕ) (a b : ℤ) → t ≡ At p start → d ≡ doubleDelta p q → a ≡ d.x → b ≡ d.y
-    → l1 ≡ set l i a → l2 ≡ set l1 (i + 1) b → (l2 ≡ sets l i (stepDeltas t q)) × (i + 2 ≡ i + length (stepDeltas t q))
-unfolding stepDeltas
+pub store_two : (t : Track) (p : Stand) (start q d : Pair) (l l1 l2 : List ℤ) (i : ℕ) (a b : ℤ) → t ≡ At p start → d ≡ double_delta p q → a ≡ d.x → b ≡ d.y
+    → l1 ≡ set l i a → l2 ≡ set l1 (i + 1) b → (l2 ≡ sets l i (step_deltas t q)) × (i + 2 ≡ i + length (step_deltas t q))
+unfolding step_deltas
 store_two t p start q d l l1 l2 i a b is e x y f g = rw (is, ← e) (g ∙ rw (f, x, y, add-one i), refl)
 
 -- ---- a pair ends
@@ -48,62 +48,62 @@ unfolding spot_of
 begins run s e = rw e
 
 module _ (run : Run) (after : ℕ) (s : Spot) (is : s ≡ spot_of run.figure) where
-  pub ends-stop : (code : Code) (l : List ℤ) → judgedOf run.track s.point ≡ judged.Stop code
-      → (Stop code s.begin ≡ pairEnds run after) × (l ≡ sets l run.held (endDeltas run))
-  unfolding pairEnds endDeltas
-  ends-stop code l e = rw (← is, e) (ap (λ (k : ℕ). Stop code k) (begins run s is), refl)
+  pub ends_stop : (code : Code) (l : List ℤ) → judged_of run.track s.point ≡ judged.Stop code
+      → (Stop code s.begin ≡ pair_ends run after) × (l ≡ sets l run.held (end_deltas run))
+  unfolding pair_ends end_deltas
+  ends_stop code l e = rw (← is, e) (ap (λ (k : ℕ). Stop code k) (begins run s is), refl)
 
-  pub ends_on : (t : Track) (l l' : List ℤ) (f : Figure) (held : ℕ) → judgedOf run.track s.point ≡ judged.On t → (next : ℕ) → f ≡ figureAt next → next ≡ after
-      → l' ≡ sets l run.held (stepDeltas run.track s.point) → held ≡ run.held + length (stepDeltas run.track s.point)
-      → (On (record { figure = f; track = t; held = held }) ≡ pairEnds run after) × (l' ≡ sets l run.held (endDeltas run))
-  unfolding pairEnds endDeltas
+  pub ends_on : (t : Track) (l l' : List ℤ) (f : Figure) (held : ℕ) → judged_of run.track s.point ≡ judged.On t → (next : ℕ) → f ≡ figure_at next → next ≡ after
+      → l' ≡ sets l run.held (step_deltas run.track s.point) → held ≡ run.held + length (step_deltas run.track s.point)
+      → (On (record { figure = f; track = t; held = held }) ≡ pair_ends run after) × (l' ≡ sets l run.held (end_deltas run))
+  unfolding pair_ends end_deltas
   ends_on t l l' f held e next g n x y = rw (← is, e) (rw (g, n, y, is), x)
 
 -- ---- one byte
 
 module _ (run : Run) (b after : ℕ) where
-  pub turn-space : (r : Turned) (l l' : List ℤ) → b ≡ 32 → (r ≡ pairEnds run after) × (l' ≡ sets l run.held (endDeltas run))
-      → (r ≡ turnedOf run b after) × (l' ≡ sets l run.held (turnDeltas run b))
-  unfolding turnedOf turnDeltas
-  turn-space r l l' e h = rw (eq-eqb b 32 e) h
+  pub turn_space : (r : Turned) (l l' : List ℤ) → b ≡ 32 → (r ≡ pair_ends run after) × (l' ≡ sets l run.held (end_deltas run))
+      → (r ≡ turned_of run b after) × (l' ≡ sets l run.held (turn_deltas run b))
+  unfolding turned_of turn_deltas
+  turn_space r l l' e h = rw (eq-eqb b 32 e) h
 
-  pub turn_inside : (f : Figure) (l : List ℤ) → (b ≡ 32 → ⊥) → f ≡ grownBy capped run.figure b
-      → (On (record { figure = f; track = run.track; held = run.held }) ≡ turnedOf run b after) × (l ≡ sets l run.held (turnDeltas run b))
-  unfolding turnedOf turnDeltas
+  pub turn_inside : (f : Figure) (l : List ℤ) → (b ≡ 32 → ⊥) → f ≡ grown_by capped run.figure b
+      → (On (record { figure = f; track = run.track; held = run.held }) ≡ turned_of run b after) × (l ≡ sets l run.held (turn_deltas run b))
+  unfolding turned_of turn_deltas
   turn_inside f l n e = rw (ne_eqb b 32 n) (rw e, refl)
 
 pub byte_inside : (text : List ℕ) (i : ℕ) {b : ℕ} → i < length text → b ≡ get_or text i 0 → b ≡ get_or (ended text) i 0
 byte_inside text i h is = is ∙ sym (get_or-append text (32 ∷ []) 0 i h)
 
-pub byte-end : (text : List ℕ) (i : ℕ) → length text ≤ i → i ≤ length text → 32 ≡ get_or (ended text) i 0
-byte-end text i h g = let e : i ≡ length text = omega arith in rw e (sym (get_or-append_seam text 32 [] 0))
+pub byte_end : (text : List ℕ) (i : ℕ) → length text ≤ i → i ≤ length text → 32 ≡ get_or (ended text) i 0
+byte_end text i h g = let e : i ≡ length text = omega arith in rw e (sym (get_or-append_seam text 32 [] 0))
 
 -- ---- a turn of the loop
 
 -- the pairs from byte i on
 abbrev rest : List ℕ → Run → ℕ → List Spot
-rest text run i = spotsFrom capped run.figure i (drop i (ended text))
+rest text run i = spots_from capped run.figure i (drop i (ended text))
 
 -- cells that so many bytes can have made: none before the first pair ends, and none for it
-abbrev countsBy : Track → ℕ → ℕ → Type 0
-countsBy Empty held n = held ≡ 0
-countsBy (At p start) held n = held + 2 ≤ 2 * n
+abbrev counts_by : Track → ℕ → ℕ → Type 0
+counts_by Empty held n = held ≡ 0
+counts_by (At p start) held n = held + 2 ≤ 2 * n
 
 pub record Counts (t : Track) (held n : ℕ) : Type 0 where
-  pub by : countsBy t held n
+  pub by : counts_by t held n
 
 pub spare : (t : Track) (held n : ℕ) → Counts t held n → n < 2 ^ 63 → Spare t held
 spare Empty held n c h = record { cells = tt }
 spare (At p start) held n c h = record { cells = omega (arith, c.by) }
 
-counts-more : (t : Track) (held n : ℕ) → Counts t held n → Counts t held (suc n)
-counts-more Empty held n c = record { by = c.by }
-counts-more (At p start) held n c = record { by = omega (arith, c.by) }
+counts_more : (t : Track) (held n : ℕ) → Counts t held n → Counts t held (suc n)
+counts_more Empty held n c = record { by = c.by }
+counts_more (At p start) held n c = record { by = omega (arith, c.by) }
 
-counts-on : (t : Track) (q : Pair) (u : Track) (held n : ℕ) → Counts t held n → u ≡ trackTo t q → Counts u (held + length (stepDeltas t q)) (suc n)
-unfolding trackTo stepDeltas
-counts-on Empty q u held n c e = rw e (record { by = omega (arith, c.by) })
-counts-on (At p start) q u held n c e = rw e (record { by = omega (arith, c.by) })
+counts_on : (t : Track) (q : Pair) (u : Track) (held n : ℕ) → Counts t held n → u ≡ track_to t q → Counts u (held + length (step_deltas t q)) (suc n)
+unfolding track_to step_deltas
+counts_on Empty q u held n c e = rw e (record { by = omega (arith, c.by) })
+counts_on (At p start) q u held n c e = rw e (record { by = omega (arith, c.by) })
 
 -- before byte i: what is left comes to the whole
 pub record Going (text : List ℕ) (d₀ d : List ℤ) (run : Run) (i : ℕ) : Type 0 where
@@ -111,122 +111,122 @@ pub record Going (text : List ℕ) (d₀ d : List ℤ) (run : Run) (i : ℕ) : T
   pub kept : length d ≡ length d₀
   pub few : Counts run.track run.held i
   pub fits : RunHeld run
-  pub walk : trackFrom run.track (rest text run i) ≡ trackFrom Empty (cappedSpots text)
-  pub many : run.held + length (deltasFrom run.track (rest text run i)) ≡ length (deltasFrom Empty (cappedSpots text))
-  pub so : sets d run.held (deltasFrom run.track (rest text run i)) ≡ sets d₀ 0 (deltasFrom Empty (cappedSpots text))
+  pub walk : track_from run.track (rest text run i) ≡ track_from Empty (capped_spots text)
+  pub many : run.held + length (deltas_from run.track (rest text run i)) ≡ length (deltas_from Empty (capped_spots text))
+  pub so : sets d run.held (deltas_from run.track (rest text run i)) ≡ sets d₀ 0 (deltas_from Empty (capped_spots text))
 
-zero-plus : (n : ℕ) → 0 + n ≡ n
-zero-plus n = omega arith
+zero_plus : (n : ℕ) → 0 + n ≡ n
+zero_plus n = omega arith
 
-pub going-begin : (text : List ℕ) (d : List ℤ) (f : Figure) → f ≡ figureAt 0 → Going text d d (record { figure = f; track = Empty; held = 0 }) 0
-unfolding cappedSpots
-going-begin text d f e =
+pub going_begin : (text : List ℕ) (d : List ℤ) (f : Figure) → f ≡ figure_at 0 → Going text d d (record { figure = f; track = Empty; held = 0 }) 0
+unfolding capped_spots
+going_begin text d f e =
     rw e (record {
       turns = omega arith;
       kept = refl;
       few = record { by = refl };
-      fits = record { figure = figure-held 0; track = record { held = tt } };
+      fits = record { figure = figure_held 0; track = record { held = tt } };
       walk = refl;
-      many = zero-plus (length (deltasFrom Empty (cappedSpots text)));
+      many = zero_plus (length (deltas_from Empty (capped_spots text)));
       so = refl;
     })
 
 -- a pair at the front
 abbrev Front : Run → ℕ → List ℕ → List Spot
-Front run i bs = spot_of run.figure ∷ spotsFrom capped (figureAt (suc i)) (suc i) bs
+Front run i bs = spot_of run.figure ∷ spots_from capped (figure_at (suc i)) (suc i) bs
 
-deltas-front : (t : Track) (s : Spot) (ss : List Spot) (u : Track) → u ≡ trackTo t s.point → deltasFrom t (s ∷ ss) ≡ stepDeltas t s.point ++ deltasFrom u ss
-unfolding deltasFrom
-deltas-front t s ss u e = rw e
+deltas_front : (t : Track) (s : Spot) (ss : List Spot) (u : Track) → u ≡ track_to t s.point → deltas_from t (s ∷ ss) ≡ step_deltas t s.point ++ deltas_from u ss
+unfolding deltas_from
+deltas_front t s ss u e = rw e
 
 module _ (text : List ℕ) (d₀ d d' : List ℤ) (run : Run) (i : ℕ) (g : Going text d₀ d run i) (h : i ≤ length text) (b : ℕ) (at : b ≡ get_or (ended text) i 0) where
   bytes : drop i (ended text) ≡ b ∷ drop (suc i) (ended text)
   bytes = drop-cons (ended text) i 0 (omega (arith, length-append text (32 ∷ []))) ∙ ap (λ (k : ℕ). k ∷ drop (suc i) (ended text)) (sym at)
 
-  spots-space : b ≡ 32 → rest text run i ≡ Front run i (drop (suc i) (ended text))
-  unfolding spotsFrom
-  spots-space e = rw (bytes, eq-eqb b 32 e)
+  spots_space : b ≡ 32 → rest text run i ≡ Front run i (drop (suc i) (ended text))
+  unfolding spots_from
+  spots_space e = rw (bytes, eq-eqb b 32 e)
 
-  spots-inside : (b ≡ 32 → ⊥) → rest text run i ≡ spotsFrom capped (grownBy capped run.figure b) (suc i) (drop (suc i) (ended text))
-  unfolding spotsFrom
-  spots-inside n = rw (bytes, ne_eqb b 32 n)
+  spots_inside : (b ≡ 32 → ⊥) → rest text run i ≡ spots_from capped (grown_by capped run.figure b) (suc i) (drop (suc i) (ended text))
+  unfolding spots_from
+  spots_inside n = rw (bytes, ne_eqb b 32 n)
 
-  inside : (b ≡ 32 → ⊥) → (u : Run) → On u ≡ turnedOf run b (i + 1) → d' ≡ sets d run.held (turnDeltas run b) → Going text d₀ d' u (i + 1)
-  unfolding turnedOf turnDeltas
+  inside : (b ≡ 32 → ⊥) → (u : Run) → On u ≡ turned_of run b (i + 1) → d' ≡ sets d run.held (turn_deltas run b) → Going text d₀ d' u (i + 1)
+  unfolding turned_of turn_deltas
   inside n u e x =
-      let z : u ≡ record { figure = grownBy capped run.figure b; track = run.track; held = run.held } = cc (ne_eqb b 32 n) in
+      let z : u ≡ record { figure = grown_by capped run.figure b; track = run.track; held = run.held } = cc (ne_eqb b 32 n) in
       let y : d' ≡ d = rw (ne_eqb b 32 n) at x in
       rw (z, y, add-one i) (record {
         turns = omega arith;
         kept = g.kept;
-        few = counts-more run.track run.held i g.few;
-        fits = record { figure = grown-held run.figure b g.fits.figure; track = g.fits.track };
-        walk = rw (spots-inside n) at g.walk;
-        many = rw (spots-inside n) at g.many;
-        so = rw (spots-inside n) at g.so;
+        few = counts_more run.track run.held i g.few;
+        fits = record { figure = grown_held run.figure b g.fits.figure; track = g.fits.track };
+        walk = rw (spots_inside n) at g.walk;
+        many = rw (spots_inside n) at g.many;
+        so = rw (spots_inside n) at g.so;
       })
 
-  space-on : b ≡ 32 → (t u : _) → judgedOf run.track (spot_of run.figure).point ≡ judged.On t → On u ≡ turnedOf run b (i + 1)
-      → d' ≡ sets d run.held (turnDeltas run b) → Going text d₀ d' u (i + 1)
-  unfolding turnedOf turnDeltas pairEnds endDeltas
-  space-on e t u j r x =
+  space_on : b ≡ 32 → (t u : _) → judged_of run.track (spot_of run.figure).point ≡ judged.On t → On u ≡ turned_of run b (i + 1)
+      → d' ≡ sets d run.held (turn_deltas run b) → Going text d₀ d' u (i + 1)
+  unfolding turned_of turn_deltas pair_ends end_deltas
+  space_on e t u j r x =
       let q = (spot_of run.figure).point in
-      let ss = spotsFrom capped (figureAt (suc i)) (suc i) (drop (suc i) (ended text)) in
-      let p = judged-on run.track q t j in
-      let z : u ≡ record { figure = figureAt (i + 1); track = t; held = run.held + length (stepDeltas run.track q) } = cc (rw (eq-eqb b 32 e, j) at r) in
-      let y : d' ≡ sets d run.held (stepDeltas run.track q) = rw (eq-eqb b 32 e, j) at x in
-      let f = deltas-front run.track (spot_of run.figure) ss t p.is in
+      let ss = spots_from capped (figure_at (suc i)) (suc i) (drop (suc i) (ended text)) in
+      let p = judged_on run.track q t j in
+      let z : u ≡ record { figure = figure_at (i + 1); track = t; held = run.held + length (step_deltas run.track q) } = cc (rw (eq-eqb b 32 e, j) at r) in
+      let y : d' ≡ sets d run.held (step_deltas run.track q) = rw (eq-eqb b 32 e, j) at x in
+      let f = deltas_front run.track (spot_of run.figure) ss t p.is in
       rw (z, add-one i) (record {
         turns = omega arith;
-        kept = ap length y ∙ length-sets d run.held (stepDeltas run.track q) ∙ g.kept;
-        few = counts-on run.track q t run.held i g.few p.is;
-        fits = record { figure = figure-held (suc i); track = track-held run.track q t g.fits.track p };
-        walk = sym (walk-on run.track (spot_of run.figure) ss t j) ∙ rw (spots-space e) at g.walk;
-        many = omega (arith, rw (spots-space e, f) at g.many, length-append (stepDeltas run.track q) (deltasFrom t ss));
-        so = rw y (sym (sets-append d run.held (stepDeltas run.track q) (deltasFrom t ss))) ∙ rw (spots-space e, f) at g.so;
+        kept = ap length y ∙ length-sets d run.held (step_deltas run.track q) ∙ g.kept;
+        few = counts_on run.track q t run.held i g.few p.is;
+        fits = record { figure = figure_held (suc i); track = track_held run.track q t g.fits.track p };
+        walk = sym (walk_on run.track (spot_of run.figure) ss t j) ∙ rw (spots_space e) at g.walk;
+        many = omega (arith, rw (spots_space e, f) at g.many, length-append (step_deltas run.track q) (deltas_from t ss));
+        so = rw y (sym (sets_append d run.held (step_deltas run.track q) (deltas_from t ss))) ∙ rw (spots_space e, f) at g.so;
       })
 
-  space-stop : b ≡ 32 → (code : Code) (place : ℕ) (c : Code) → judgedOf run.track (spot_of run.figure).point ≡ judged.Stop c → Stop code place ≡ turnedOf run b (i + 1)
-      → trackFrom Empty (cappedSpots text) ≡ Halt code place
-  unfolding turnedOf pairEnds
-  space-stop e code place c j r =
-      let ss = spotsFrom capped (figureAt (suc i)) (suc i) (drop (suc i) (ended text)) in
+  space_stop : b ≡ 32 → (code : Code) (place : ℕ) (c : Code) → judged_of run.track (spot_of run.figure).point ≡ judged.Stop c → Stop code place ≡ turned_of run b (i + 1)
+      → track_from Empty (capped_spots text) ≡ Halt code place
+  unfolding turned_of pair_ends
+  space_stop e code place c j r =
+      let ss = spots_from capped (figure_at (suc i)) (suc i) (drop (suc i) (ended text)) in
       let z : Stop code place ≡ Stop c run.figure.begin = rw (eq-eqb b 32 e, j) at r in
       let x : code ≡ c = cc in
       let y : place ≡ run.figure.begin = cc in
-      sym (rw (spots-space e) at g.walk) ∙ walk-stop run.track (spot_of run.figure) ss c j ∙ rw (x, y, begins run (spot_of run.figure) refl)
+      sym (rw (spots_space e) at g.walk) ∙ walk_stop run.track (spot_of run.figure) ss c j ∙ rw (x, y, begins run (spot_of run.figure) refl)
 
-  space-goes : b ≡ 32 → (t : Track) (code : Code) (place : ℕ) → judgedOf run.track (spot_of run.figure).point ≡ judged.On t → Stop code place ≡ turnedOf run b (i + 1) → ⊥
-  unfolding turnedOf pairEnds
-  space-goes e t code place j r = let y = rw (eq-eqb b 32 e, j) at r in let z : ◌≡◌ {A = ℕ} 0 1 = cc in omega arith
+  space_goes : b ≡ 32 → (t : Track) (code : Code) (place : ℕ) → judged_of run.track (spot_of run.figure).point ≡ judged.On t → Stop code place ≡ turned_of run b (i + 1) → ⊥
+  unfolding turned_of pair_ends
+  space_goes e t code place j r = let y = rw (eq-eqb b 32 e, j) at r in let z : ◌≡◌ {A = ℕ} 0 1 = cc in omega arith
 
-  space-halts : b ≡ 32 → (u : Run) (c : Code) → judgedOf run.track (spot_of run.figure).point ≡ judged.Stop c → On u ≡ turnedOf run b (i + 1) → ⊥
-  unfolding turnedOf pairEnds
-  space-halts e u c j r = let y = rw (eq-eqb b 32 e, j) at r in let z : ◌≡◌ {A = ℕ} 0 1 = cc in omega arith
+  space_halts : b ≡ 32 → (u : Run) (c : Code) → judged_of run.track (spot_of run.figure).point ≡ judged.Stop c → On u ≡ turned_of run b (i + 1) → ⊥
+  unfolding turned_of pair_ends
+  space_halts e u c j r = let y = rw (eq-eqb b 32 e, j) at r in let z : ◌≡◌ {A = ℕ} 0 1 = cc in omega arith
 
-  inside-goes : (b ≡ 32 → ⊥) → (code : Code) (place : ℕ) → Stop code place ≡ turnedOf run b (i + 1) → ⊥
-  unfolding turnedOf
-  inside-goes n code place r = let y = rw (ne_eqb b 32 n) at r in let z : ◌≡◌ {A = ℕ} 0 1 = cc in omega arith
+  inside_goes : (b ≡ 32 → ⊥) → (code : Code) (place : ℕ) → Stop code place ≡ turned_of run b (i + 1) → ⊥
+  unfolding turned_of
+  inside_goes n code place r = let y = rw (ne_eqb b 32 n) at r in let z : ◌≡◌ {A = ℕ} 0 1 = cc in omega arith
 
-  pub going_on : (r : Turned) → (r ≡ turnedOf run b (i + 1)) × (d' ≡ sets d run.held (turnDeltas run b)) → (u : Run) → r ≡ On u → Going text d₀ d' u (i + 1)
-  going_on r e u is = go (eqb b 32) refl (judgedOf run.track (spot_of run.figure).point) refl
+  pub going_on : (r : Turned) → (r ≡ turned_of run b (i + 1)) × (d' ≡ sets d run.held (turn_deltas run b)) → (u : Run) → r ≡ On u → Going text d₀ d' u (i + 1)
+  going_on r e u is = go (eqb b 32) refl (judged_of run.track (spot_of run.figure).point) refl
     where
-      go : (t : Bool) → eqb b 32 ≡ t → (j : Judged) → judgedOf run.track (spot_of run.figure).point ≡ j → Going text d₀ d' u (i + 1)
-      go true x (judged.On t) y = space-on (eqb-true b 32 x) t u y (sym is ∙ e.0) e.1
-      go true x (judged.Stop c) y = absurd (space-halts (eqb-true b 32 x) u c y (sym is ∙ e.0))
+      go : (t : Bool) → eqb b 32 ≡ t → (j : Judged) → judged_of run.track (spot_of run.figure).point ≡ j → Going text d₀ d' u (i + 1)
+      go true x (judged.On t) y = space_on (eqb-true b 32 x) t u y (sym is ∙ e.0) e.1
+      go true x (judged.Stop c) y = absurd (space_halts (eqb-true b 32 x) u c y (sym is ∙ e.0))
       go false x j y = inside (eqb-false b 32 x) u (sym is ∙ e.0) e.1
 
-  pub going-stops : (r : Turned) → (r ≡ turnedOf run b (i + 1)) × (d' ≡ sets d run.held (turnDeltas run b)) → (code : Code) (place : ℕ) → r ≡ Stop code place
-      → trackFrom Empty (cappedSpots text) ≡ Halt code place
-  going-stops r e code place is = go (eqb b 32) refl (judgedOf run.track (spot_of run.figure).point) refl
+  pub going_stops : (r : Turned) → (r ≡ turned_of run b (i + 1)) × (d' ≡ sets d run.held (turn_deltas run b)) → (code : Code) (place : ℕ) → r ≡ Stop code place
+      → track_from Empty (capped_spots text) ≡ Halt code place
+  going_stops r e code place is = go (eqb b 32) refl (judged_of run.track (spot_of run.figure).point) refl
     where
-      go : (t : Bool) → eqb b 32 ≡ t → (j : Judged) → judgedOf run.track (spot_of run.figure).point ≡ j → trackFrom Empty (cappedSpots text) ≡ Halt code place
-      go true x (judged.On t) y = absurd (space-goes (eqb-true b 32 x) t code place y (sym is ∙ e.0))
-      go true x (judged.Stop c) y = space-stop (eqb-true b 32 x) code place c y (sym is ∙ e.0)
-      go false x j y = absurd (inside-goes (eqb-false b 32 x) code place (sym is ∙ e.0))
+      go : (t : Bool) → eqb b 32 ≡ t → (j : Judged) → judged_of run.track (spot_of run.figure).point ≡ j → track_from Empty (capped_spots text) ≡ Halt code place
+      go true x (judged.On t) y = absurd (space_goes (eqb-true b 32 x) t code place y (sym is ∙ e.0))
+      go true x (judged.Stop c) y = space_stop (eqb-true b 32 x) code place c y (sym is ∙ e.0)
+      go false x j y = absurd (inside_goes (eqb-false b 32 x) code place (sym is ∙ e.0))
 
-pub going_done : (text : List ℕ) (d₀ d : List ℤ) (run : Run) (i : ℕ) → Going text d₀ d run i → length text < i → ScanLeaves (cappedSpots text) (On run) d₀ d
-unfolding spotsFrom trackFrom deltasFrom
+pub going_done : (text : List ℕ) (d₀ d : List ℤ) (run : Run) (i : ℕ) → Going text d₀ d run i → length text < i → ScanLeaves (capped_spots text) (On run) d₀ d
+unfolding spots_from track_from deltas_from
 going_done text d₀ d run i g h =
     let le : length (ended text) ≤ i = omega (arith, length-append text (32 ∷ [])) in
     let n : drop i (ended text) ≡ [] = drop_of_length-le (ended text) le in

@@ -3,10 +3,10 @@
 
 ghost use Rattle.std.specs.Prelude.{◌≡◌, ◌+◌, ◌≤◌, ◌<◌, length, get_or, set};
 ghost use Rattle.std.proofs.lemmas.List.Edits.{sets};
-ghost use Rattle.polyline.specs.Spots.{cappedSpots, ended};
-ghost use Rattle.polyline.specs.Read.{stepDeltas};
+ghost use Rattle.polyline.specs.Spots.{capped_spots, ended};
+ghost use Rattle.polyline.specs.Read.{step_deltas};
 ghost use Rattle.polyline_pairs.specs.Fits.{Small, OnTrack};
-ghost use Rattle.polyline_scan.specs.Steps.{RunHeld, Spare, pairEnds, turnedOf, endDeltas, turnDeltas, ScanLeaves};
+ghost use Rattle.polyline_scan.specs.Steps.{RunHeld, Spare, pair_ends, turned_of, end_deltas, turn_deltas, ScanLeaves};
 
 use codes::Code;
 use control_points::Pair;
@@ -42,7 +42,7 @@ fn put(deltas: &mut [i32], i: usize, v: i32)
 // The double delta of a pair behind those that are held, where there is one.
 fn store(track: Track, q: Pair, held: usize, deltas: &mut [i32]) -> usize
     requires { OnTrack track × Small q × Spare track held }
-    ensures { (deltas.new ≡ sets deltas.old held (stepDeltas track q)) × (result ≡ held + length (stepDeltas track q)) }
+    ensures { (deltas.new ≡ sets deltas.old held (step_deltas track q)) × (result ≡ held + length (step_deltas track q)) }
 {
     match track {
         Track::Empty => held,
@@ -58,7 +58,7 @@ fn store(track: Track, q: Pair, held: usize, deltas: &mut [i32]) -> usize
 // A pair that ends: the next begins at `after`.
 fn end_pair(run: Run, after: usize, deltas: &mut [i32]) -> Turned
     requires { RunHeld run × Spare run.track run.held }
-    ensures { (result ≡ pairEnds run after) × (deltas.new ≡ sets deltas.old run.held (endDeltas run)) }
+    ensures { (result ≡ pair_ends run after) × (deltas.new ≡ sets deltas.old run.held (end_deltas run)) }
 {
     let track = run.track;
     let figure = run.figure;
@@ -80,7 +80,7 @@ fn end_pair(run: Run, after: usize, deltas: &mut [i32]) -> Turned
 // One byte further.
 fn turn(run: Run, b: u32, after: usize, deltas: &mut [i32]) -> Turned
     requires { RunHeld run × Spare run.track run.held × (b < 256) }
-    ensures { (result ≡ turnedOf run b after) × (deltas.new ≡ sets deltas.old run.held (turnDeltas run b)) }
+    ensures { (result ≡ turned_of run b after) × (deltas.new ≡ sets deltas.old run.held (turn_deltas run b)) }
 {
     if b == 32 {
         return end_pair(run, after, deltas);
@@ -112,7 +112,7 @@ fn byte_at(text: &[u8], i: usize) -> u32
 
 // All pairs of a text, with their double deltas stored from the first cell on as far as there are cells.
 pub fn scan(text: &[u8], deltas: &mut [i32]) -> Turned
-    ensures { ScanLeaves (cappedSpots text.now) result deltas.old deltas.new }
+    ensures { ScanLeaves (capped_spots text.now) result deltas.old deltas.new }
 {
     let mut run = Run {
         figure: figure_at(0),

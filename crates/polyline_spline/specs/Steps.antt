@@ -6,7 +6,7 @@ use Rattle.writer.specs.declared.WriteAnswer.{WriteAnswer}
 use Rattle.writer.specs.declared.WriteAnswer.TheVariants.{Done, Refused}
 use Rattle.write_judge.specs.declared.Verdict.{Verdict}
 use Rattle.write_judge.specs.declared.Verdict.TheVariants.{Fine, Fault}
-use Rattle.control_points.specs.ControlPoints.{validPointPos}
+use Rattle.control_points.specs.ControlPoints.{valid_point_pos}
 use Rattle.control_points.specs.declared.Pair.{Pair}
 use Rattle.control_points.specs.declared.Stand.{Stand}
 use Rattle.control_points.specs.declared.Start.{Start}
@@ -14,7 +14,7 @@ use Rattle.control_points.specs.declared.Start.TheVariants as S
 use Rattle.polyline.specs.declared.Gone.{Gone}
 use Rattle.polyline.specs.declared.Gone.TheVariants.{On, Stop}
 use Rattle.polyline.specs.Read.{and_then}
-use Rattle.polyline.specs.Write.{goneOf, begun, textAt}
+use Rattle.polyline.specs.Write.{gone_of, begun, text_at}
 use Rattle.polyline_spline.specs.declared.Begun.{Begun}
 use Rattle.polyline_spline.specs.declared.Begun.TheVariants as begun'
 use Rattle.polyline_spline.specs.declared.Put.{Put}
@@ -22,33 +22,33 @@ use Rattle.polyline_spline.specs.declared.Put.TheVariants.{Ends, Full}
 
 -- a delta and a point that passed POSITION
 pub record Placed (p : Stand) : Type 0 where
-  pub delta : validPointPos p.delta ≡ true
-  pub point : validPointPos p.point ≡ true
+  pub delta : valid_point_pos p.delta ≡ true
+  pub point : valid_point_pos p.point ≡ true
 
-abbrev pub settledAt : Pair → Gone → Begun
-settledAt start (On p met) = cond met (begun'.Stop Coincide) (begun'.At start)
-settledAt start (Stop code) = begun'.Stop code
+abbrev pub settled_at : Pair → Gone → Begun
+settled_at start (On p met) = cond met (begun'.Stop Coincide) (begun'.At start)
+settled_at start (Stop code) = begun'.Stop code
 
-abbrev pub begunAt : List ℤ → Start → Begun
-begunAt ds S.Out = begun'.Stop Position
-begunAt ds (S.At start) = settledAt start (goneOf start ds)
+abbrev pub begun_at : List ℤ → Start → Begun
+begun_at ds S.Out = begun'.Stop Position
+begun_at ds (S.At start) = settled_at start (gone_of start ds)
 
 -- a text put from a byte on, where there is room for all of it
-abbrev pub putLeaves : ℕ → List ℕ → Put → List ℕ → List ℕ → Type 0
-putLeaves at text (Ends n) l l' = (n ≡ at + length text) × (n ≤ length l) × (l' ≡ sets l at text)
-putLeaves at text Full l l' = length l < at + length text
+abbrev pub put_leaves : ℕ → List ℕ → Put → List ℕ → List ℕ → Type 0
+put_leaves at text (Ends n) l l' = (n ≡ at + length text) × (n ≤ length l) × (l' ≡ sets l at text)
+put_leaves at text Full l l' = length l < at + length text
 
 pub record PutLeaves (at : ℕ) (text : List ℕ) (r : Put) (l l' : List ℕ) : Type 0 where
-  pub leaves : putLeaves at text r l l'
+  pub leaves : put_leaves at text r l l'
 
 -- the verdict on one spline, with so many bytes lent
-abbrev pub oneVerdict : ℕ → List ℤ → Start → ℕ → Verdict
-oneVerdict k ds s room = and_then (begun k ds s) (cond (ltb room (length (textAt ds s))) (Fault Room k) Fine)
+abbrev pub one_verdict : ℕ → List ℤ → Start → ℕ → Verdict
+one_verdict k ds s room = and_then (begun k ds s) (cond (ltb room (length (text_at ds s))) (Fault Room k) Fine)
 
 -- what writing one spline answers and leaves; of a refusal nothing is said of the bytes
-abbrev pub oneLeaves : List ℕ → Verdict → WriteAnswer → List ℕ → List ℕ → Type 0
-oneLeaves text Fine r l l' = (r ≡ Done (length text)) × (l' ≡ sets l 0 text)
-oneLeaves text (Fault code place) r l l' = r ≡ Refused code place
+abbrev pub one_leaves : List ℕ → Verdict → WriteAnswer → List ℕ → List ℕ → Type 0
+one_leaves text Fine r l l' = (r ≡ Done (length text)) × (l' ≡ sets l 0 text)
+one_leaves text (Fault code place) r l l' = r ≡ Refused code place
 
 pub record OneLeaves (text : List ℕ) (v : Verdict) (r : WriteAnswer) (l l' : List ℕ) : Type 0 where
-  pub leaves : oneLeaves text v r l l'
+  pub leaves : one_leaves text v r l l'

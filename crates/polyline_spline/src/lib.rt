@@ -3,11 +3,11 @@
 
 ghost use Rattle.std.specs.Prelude.{◌≡◌, Bool, cond, ◌∷◌, ◌+◌, ◌≤◌, ◌<◌, length};
 ghost use Rattle.std.proofs.lemmas.List.Edits.{sets};
-ghost use Rattle.control_points.specs.ControlPoints.{belowDeltaLimit, validPointPos, validDoubleDelta, startingPoint, laterPoints, controlPoints, standAt};
+ghost use Rattle.control_points.specs.ControlPoints.{below_delta_limit, valid_point_pos, valid_double_delta, starting_point, later_points, control_points, stand_at};
 ghost use Rattle.control_points.specs.Asked.{Passable};
 ghost use Rattle.polyline.specs.declared.Gone.{Gone};
-ghost use Rattle.polyline.specs.Write.{pairText, laterText, pointsText, goneBy, goneOf, textAt};
-ghost use Rattle.polyline_spline.specs.Steps.{Placed, begunAt, PutLeaves, oneVerdict, OneLeaves};
+ghost use Rattle.polyline.specs.Write.{pair_text, later_text, points_text, gone_by, gone_of, text_at};
+ghost use Rattle.polyline_spline.specs.Steps.{Placed, begun_at, PutLeaves, one_verdict, OneLeaves};
 
 use codes::Code;
 use control_points::{Pair, Stand, Start, starting_point};
@@ -34,7 +34,7 @@ pub enum Put {
 
 // Whether v is below 2^30 in magnitude.
 fn below_delta_limit(v: i32) -> bool
-    ensures { result ≡ belowDeltaLimit v }
+    ensures { result ≡ below_delta_limit v }
 {
     if v > -1073741824 {
         v < 1073741824
@@ -44,7 +44,7 @@ fn below_delta_limit(v: i32) -> bool
 }
 
 fn small(dd: Pair) -> bool
-    ensures { result ≡ validDoubleDelta dd }
+    ensures { result ≡ valid_double_delta dd }
 {
     if below_delta_limit(dd.x) {
         below_delta_limit(dd.y)
@@ -67,7 +67,7 @@ fn reached(place: Stand, earlier: bool, meets: bool) -> Gone
 // One double delta on: DELTA, POSITION of the delta, POSITION of the point.
 fn go_on(place: Stand, met: bool, dd: Pair) -> Gone
     requires { Placed place }
-    ensures { result ≡ goneBy place met dd }
+    ensures { result ≡ gone_by place met dd }
 {
     if !small(dd) {
         return Gone::Stop(Code::Delta);
@@ -86,8 +86,8 @@ fn go_on(place: Stand, met: bool, dd: Pair) -> Gone
 
 // All double deltas.
 fn go_along(start: Pair, deltas: &[i32]) -> Gone
-    requires { validPointPos start ≡ Bool.true }
-    ensures { result ≡ goneOf start deltas.now }
+    requires { valid_point_pos start ≡ Bool.true }
+    ensures { result ≡ gone_of start deltas.now }
 {
     let mut place = Stand::at(start);
     let mut met = false;
@@ -110,7 +110,7 @@ fn go_along(start: Pair, deltas: &[i32]) -> Gone
 
 // The start, the points, then COINCIDE.
 fn begin_at(x: f32, y: f32, deltas: &[i32]) -> Begun
-    ensures { result ≡ begunAt deltas.now (startingPoint x y) }
+    ensures { result ≡ begun_at deltas.now (starting_point x y) }
 {
     match starting_point(x, y) {
         Start::Out => Begun::Stop(Code::Position),
@@ -130,8 +130,8 @@ fn begin_at(x: f32, y: f32, deltas: &[i32]) -> Begun
 // ---- the text
 
 fn put_pair(text: &mut [u8], at: usize, p: Pair) -> usize
-    requires { (at < 18446743900000000000) × (validPointPos p ≡ Bool.true) }
-    ensures { (text.new ≡ sets text.old at (pairText p)) × (result ≡ at + length (pairText p)) × (result ≤ at + 17) }
+    requires { (at < 18446743900000000000) × (valid_point_pos p ≡ Bool.true) }
+    ensures { (text.new ≡ sets text.old at (pair_text p)) × (result ≡ at + length (pair_text p)) × (result ≤ at + 17) }
 {
     let comma = put_number(text, at, p.x);
     put_byte(text, comma, 44);
@@ -140,8 +140,8 @@ fn put_pair(text: &mut [u8], at: usize, p: Pair) -> usize
 
 // A space and a further pair.
 fn put_later(text: &mut [u8], at: usize, p: Pair) -> usize
-    requires { (at < 18446743800000000000) × (validPointPos p ≡ Bool.true) }
-    ensures { (text.new ≡ sets text.old at (32 ∷ pairText p)) × (result ≡ at + length (32 ∷ pairText p)) × (result ≤ at + 18) }
+    requires { (at < 18446743800000000000) × (valid_point_pos p ≡ Bool.true) }
+    ensures { (text.new ≡ sets text.old at (32 ∷ pair_text p)) × (result ≡ at + length (32 ∷ pair_text p)) × (result ≤ at + 18) }
 {
     put_byte(text, at, 32);
     put_pair(text, at + 1, p)
@@ -150,7 +150,7 @@ fn put_later(text: &mut [u8], at: usize, p: Pair) -> usize
 // The points behind a place.
 fn put_rest(from: Stand, deltas: &[i32], text: &mut [u8], begin: usize) -> Put
     requires { Passable from deltas.now × (begin ≤ 17) }
-    ensures { PutLeaves begin (laterText (laterPoints from deltas.now)) result text.old text.new }
+    ensures { PutLeaves begin (later_text (later_points from deltas.now)) result text.old text.new }
 {
     let mut place = from;
     let mut at = begin;
@@ -171,8 +171,8 @@ fn put_rest(from: Stand, deltas: &[i32], text: &mut [u8], begin: usize) -> Put
 }
 
 fn put_points(start: Pair, deltas: &[i32], text: &mut [u8]) -> Put
-    requires { Passable (standAt start) deltas.now }
-    ensures { PutLeaves 0 (pointsText (controlPoints start deltas.now)) result text.old text.new }
+    requires { Passable (stand_at start) deltas.now }
+    ensures { PutLeaves 0 (points_text (control_points start deltas.now)) result text.old text.new }
 {
     let at = put_pair(text, 0, start);
     put_rest(Stand::at(start), deltas, text, at)
@@ -182,7 +182,7 @@ fn put_points(start: Pair, deltas: &[i32], text: &mut [u8]) -> Put
 
 // The spline k by its double deltas: judged, then put.
 pub fn write_one(x: f32, y: f32, deltas: &[i32], k: usize, text: &mut [u8]) -> WriteAnswer
-    ensures { OneLeaves (textAt deltas.now (startingPoint x y)) (oneVerdict k deltas.now (startingPoint x y) (length text.old)) result text.old text.new }
+    ensures { OneLeaves (text_at deltas.now (starting_point x y)) (one_verdict k deltas.now (starting_point x y) (length text.old)) result text.old text.new }
 {
     match begin_at(x, y, deltas) {
         Begun::Stop(code) => WriteAnswer::Refused(code, k),

@@ -19,12 +19,12 @@ use Rattle.write_judge.specs.declared.Verdict.TheVariants.{Fine, Fault}
 use Rattle.writer.specs.declared.WriteAnswer.{WriteAnswer}
 use Rattle.writer.specs.declared.WriteAnswer.TheVariants.{Done, Refused}
 use Rattle.write_judge.proofs.Checks.{agreed}
-use Rattle.write_steps.proofs.Stores.{zeros-after}
-use Rattle.control_points.specs.ControlPoints.{startingPoint}
-use Rattle.dequantize.specs.Judge.{startX, startY, deltasAt, deltasOf}
+use Rattle.write_steps.proofs.Stores.{zeros_after}
+use Rattle.control_points.specs.ControlPoints.{starting_point}
+use Rattle.dequantize.specs.Judge.{start_x, start_y, deltas_at, deltas_of}
 use Rattle.polyline.specs.Read.{and_then}
-use Rattle.polyline.specs.Write.{begun, textAt, splineVerdict, splineText, noSpline, writeVerdict, writePointsOf}
-use Rattle.polyline_spline.specs.Steps.{oneVerdict, OneLeaves}
+use Rattle.polyline.specs.Write.{begun, text_at, spline_verdict, spline_text, no_spline, write_verdict, write_points_of}
+use Rattle.polyline_spline.specs.Steps.{one_verdict, OneLeaves}
 use Rattle.polyline_write.specs.Steps.{part_of, Parted}
 
 -- ---- its part
@@ -34,20 +34,20 @@ sum_more [] k h = absurd (omega arith)
 sum_more (n ∷ ns) zero h = omega arith
 sum_more (n ∷ ns) (suc k) h = omega (arith, sum_more ns k (omega arith))
 
-sum-part : (ns : List ℕ) (k : ℕ) → points_of (take k ns) ≤ points_of ns
-sum-part ns zero = omega arith
-sum-part [] (suc k) = omega arith
-sum-part (n ∷ ns) (suc k) = omega (arith, sum-part ns k)
+sum_part : (ns : List ℕ) (k : ℕ) → points_of (take k ns) ≤ points_of ns
+sum_part ns zero = omega arith
+sum_part [] (suc k) = omega arith
+sum_part (n ∷ ns) (suc k) = omega (arith, sum_part ns k)
 
 pub at_more : (ns : List ℕ) (i : ℕ) → i < length ns → 2 * points_of (take i ns) + 2 * get_or ns i 0 ≡ 2 * points_of (take (i + 1) ns)
 at_more ns i h = let e : i + 1 ≡ suc i = omega arith in rw e (omega (arith, sum_more ns i h))
 
 pub at-fits : (ns : List ℕ) (i : ℕ) → i < length ns → 2 * points_of (take i ns) + 2 * get_or ns i 0 ≤ 2 * points_of ns
-at-fits ns i h = omega (arith, sum_more ns i h, sum-part ns (suc i))
+at-fits ns i h = omega (arith, sum_more ns i h, sum_part ns (suc i))
 
-pub part-is : (ns : List ℕ) (ds : List ℤ) (k from to w : ℕ) → from ≡ 2 * points_of (take k ns) → w ≡ get_or ns k 0 → to ≡ from + 2 * w → take (to - from) (drop from ds) ≡ part_of ns ds k
+pub part_is : (ns : List ℕ) (ds : List ℤ) (k from to w : ℕ) → from ≡ 2 * points_of (take k ns) → w ≡ get_or ns k 0 → to ≡ from + 2 * w → take (to - from) (drop from ds) ≡ part_of ns ds k
 unfolding part_of
-part-is ns ds k from to w a b c = let e : to - from ≡ 2 * get_or ns k 0 = omega arith in rw (e, a)
+part_is ns ds k from to w a b c = let e : to - from ≡ 2 * get_or ns k 0 = omega arith in rw (e, a)
 
 -- ---- the whole call
 
@@ -56,29 +56,29 @@ module _ (ns : List ℕ) (ss : List Float) (ds cs : List ℤ) (k room : ℕ) whe
   unfolding misshapen
   parted e h = let a = agreed ns ss ds cs (rw e) in record { there = h; starts = a.0; deltas = a.1 }
 
-  pub call_shape : (l : List ℕ) → l ≡ replicate room 0 → shaped ns ss ds cs ≡ false → leaves (Refused Shape 0) l ≡ writePointsOf ns ss ds cs k room
-  unfolding writePointsOf writeVerdict noSpline misshapen
+  pub call_shape : (l : List ℕ) → l ≡ replicate room 0 → shaped ns ss ds cs ≡ false → leaves (Refused Shape 0) l ≡ write_points_of ns ss ds cs k room
+  unfolding write_points_of write_verdict no_spline misshapen
   call_shape l z e = rw (z, e)
 
   module _ (good : shaped ns ss ds cs ≡ true) where
-    pub call_none : (l : List ℕ) → l ≡ replicate room 0 → length ns ≤ k → leaves (Refused Shape 0) l ≡ writePointsOf ns ss ds cs k room
-    unfolding writePointsOf writeVerdict noSpline misshapen
+    pub call_none : (l : List ℕ) → l ≡ replicate room 0 → length ns ≤ k → leaves (Refused Shape 0) l ≡ write_points_of ns ss ds cs k room
+    unfolding write_points_of write_verdict no_spline misshapen
     call_none l z h = rw (z, good, le-leb (length ns) k h)
 
     module _ (there : k < length ns) (l l' : List ℕ) (zs : l ≡ replicate room 0) (r : WriteAnswer)
-        (one : OneLeaves (textAt (part_of ns ds k) (startingPoint (get_or ss (2 * k) nan) (get_or ss (2 * k + 1) nan)))
-        (oneVerdict k (part_of ns ds k) (startingPoint (get_or ss (2 * k) nan) (get_or ss (2 * k + 1) nan)) (length l)) r l l') where
+        (one : OneLeaves (text_at (part_of ns ds k) (starting_point (get_or ss (2 * k) nan) (get_or ss (2 * k + 1) nan)))
+        (one_verdict k (part_of ns ds k) (starting_point (get_or ss (2 * k) nan) (get_or ss (2 * k + 1) nan)) (length l)) r l l') where
       abbrev itsText : List ℕ
-      itsText = textAt (part_of ns ds k) (startingPoint (get_or ss (2 * k) nan) (get_or ss (2 * k + 1) nan))
+      itsText = text_at (part_of ns ds k) (starting_point (get_or ss (2 * k) nan) (get_or ss (2 * k + 1) nan))
 
       abbrev itsVerdict : Verdict
-      itsVerdict = oneVerdict k (part_of ns ds k) (startingPoint (get_or ss (2 * k) nan) (get_or ss (2 * k + 1) nan)) room
+      itsVerdict = one_verdict k (part_of ns ds k) (starting_point (get_or ss (2 * k) nan) (get_or ss (2 * k + 1) nan)) room
 
       length-l : length l ≡ room
       length-l = ap length zs ∙ length-replicate room 0
 
-      call-is : writing.outcome room itsText itsVerdict ≡ writePointsOf ns ss ds cs k room
-      unfolding writePointsOf writeVerdict noSpline misshapen splineVerdict splineText startX startY deltasOf deltasAt part_of
+      call-is : writing.outcome room itsText itsVerdict ≡ write_points_of ns ss ds cs k room
+      unfolding write_points_of write_verdict no_spline misshapen spline_verdict spline_text start_x start_y deltas_of deltas_at part_of
       call-is = rw (good, lt-leb (length ns) k there)
 
       roomy : (v : Verdict) → and_then v (cond (ltb room (length itsText)) (Fault Room k) Fine) ≡ Fine → length itsText ≤ room
@@ -89,18 +89,18 @@ module _ (ns : List ℕ) (ss : List Float) (ds cs : List ℤ) (k room : ℕ) whe
           go true x e = let z : ◌≡◌ {A = ℕ} 0 1 = cc in absurd (omega arith)
           go false x e = ltb-false room (length itsText) x
 
-      pub call-done : (n : ℕ) → r ≡ Done n → leaves (Done n) l' ≡ writePointsOf ns ss ds cs k room
+      pub call-done : (n : ℕ) → r ≡ Done n → leaves (Done n) l' ≡ write_points_of ns ss ds cs k room
       call-done n e = go itsVerdict refl (rw length-l at one) ∙ call-is
         where
           go : (v : Verdict) → itsVerdict ≡ v → OneLeaves itsText v r l l' → leaves (Done n) l' ≡ writing.outcome room itsText v
           go Fine x o =
               let is : n ≡ length itsText = cc o.leaves.0 in
-              let h = roomy (begun k (part_of ns ds k) (startingPoint (get_or ss (2 * k) nan) (get_or ss (2 * k + 1) nan))) x in
-              rw (is, o.leaves.1, zs, zeros-after room itsText h)
+              let h = roomy (begun k (part_of ns ds k) (starting_point (get_or ss (2 * k) nan) (get_or ss (2 * k + 1) nan))) x in
+              rw (is, o.leaves.1, zs, zeros_after room itsText h)
           go (Fault c p) x o = let z : ◌≡◌ {A = ℕ} 0 1 = cc o.leaves in absurd (omega arith)
 
       pub call-refused : (code : Code) (place : ℕ) (l'' : List ℕ) → l'' ≡ replicate (length l') 0 → length l' ≡ length l → r ≡ Refused code place
-          → leaves (Refused code place) l'' ≡ writePointsOf ns ss ds cs k room
+          → leaves (Refused code place) l'' ≡ write_points_of ns ss ds cs k room
       call-refused code place l'' z same e = go itsVerdict (rw length-l at one) ∙ call-is
         where
           go : (v : Verdict) → OneLeaves itsText v r l l' → leaves (Refused code place) l'' ≡ writing.outcome room itsText v

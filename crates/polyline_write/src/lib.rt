@@ -6,9 +6,9 @@ ghost use Rattle.std.specs.Prelude.{◌≡◌, ◌+◌, ◌*◌, ◌≤◌, leng
 ghost use Rattle.std.specs.Float.{nan};
 ghost use Rattle.shape.specs.Shape.{points_of};
 ghost use Rattle.writer.specs.Write.{leaves};
-ghost use Rattle.control_points.specs.ControlPoints.{startingPoint};
-ghost use Rattle.polyline.specs.Write.{textAt, writePointsOf};
-ghost use Rattle.polyline_spline.specs.Steps.{oneVerdict, OneLeaves};
+ghost use Rattle.control_points.specs.ControlPoints.{starting_point};
+ghost use Rattle.polyline.specs.Write.{text_at, write_points_of};
+ghost use Rattle.polyline_spline.specs.Steps.{one_verdict, OneLeaves};
 ghost use Rattle.polyline_write.specs.Steps.{part_of, Parted};
 
 use buffers::clear_u8;
@@ -46,7 +46,7 @@ fn write_spline(
     text: &mut [u8],
 ) -> WriteAnswer
     requires { Parted counts.now starts.now deltas.now k }
-    ensures { OneLeaves (textAt (part_of counts.now deltas.now k) (startingPoint (get_or starts.now (2 * k) nan) (get_or starts.now (2 * k + 1) nan))) (oneVerdict k (part_of counts.now deltas.now k) (startingPoint (get_or starts.now (2 * k) nan) (get_or starts.now (2 * k + 1) nan)) (length text.old)) result text.old text.new }
+    ensures { OneLeaves (text_at (part_of counts.now deltas.now k) (starting_point (get_or starts.now (2 * k) nan) (get_or starts.now (2 * k + 1) nan))) (one_verdict k (part_of counts.now deltas.now k) (starting_point (get_or starts.now (2 * k) nan) (get_or starts.now (2 * k + 1) nan)) (length text.old)) result text.old text.new }
 {
     let from = deltas_at(counts, k, deltas.len());
     let to = from + 2 * wide(counts[k]);
@@ -64,7 +64,7 @@ pub fn points_write(
     text: &mut [u8],
 ) -> WriteAnswer
     ensures { leaves result text.new
-        ≡ writePointsOf counts.now starts.now deltas.now coefficients.now spline (length text.old) }
+        ≡ write_points_of counts.now starts.now deltas.now coefficients.now spline (length text.old) }
 {
     clear_u8(text);
     if !shape_good(counts, starts, deltas, coefficients) {

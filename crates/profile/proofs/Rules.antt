@@ -8,25 +8,25 @@ use lib.Seq.{drop-cons}
 use Rattle.editions.specs.declared.Limits.{Limits}
 use Rattle.profile_rules.specs.declared.Finding.{Finding}
 use Rattle.profile_rules.specs.declared.Finding.TheVariants as Finding
-use Rattle.profile.specs.Profile.{firstFinding, splineFinding, splinesFinding}
+use Rattle.profile.specs.Profile.{first_finding, spline_finding, splines_finding}
 
-pub first-assoc : (a b c : Finding) → firstFinding a (firstFinding b c) ≡ firstFinding (firstFinding a b) c
-first-assoc Finding.Kept b c = refl
-first-assoc (Finding.Broken r k) b c = refl
+pub first_assoc : (a b c : Finding) → first_finding a (first_finding b c) ≡ first_finding (first_finding a b) c
+first_assoc Finding.Kept b c = refl
+first_assoc (Finding.Broken r k) b c = refl
 
-pub first-end : (a : Finding) → firstFinding a Finding.Kept ≡ a
-first-end Finding.Kept = refl
-first-end (Finding.Broken r k) = refl
+pub first_end : (a : Finding) → first_finding a Finding.Kept ≡ a
+first_end Finding.Kept = refl
+first_end (Finding.Broken r k) = refl
 
 module _ (l : Limits) (ns : List ℕ) (cs : List ℤ) where
   -- the spline k is next: what it and those before it say, and the rest
-  pub spline-turn : (found : Finding) (k : ℕ) → k < length ns
-      → firstFinding found (splinesFinding l (drop k ns) cs k) ≡ firstFinding (firstFinding found (splineFinding l (get_or ns k 0) cs k)) (splinesFinding l (drop (suc k) ns) cs (suc k))
-  unfolding splinesFinding
-  spline-turn found k h = rw (drop-cons ns k 0 h) (first-assoc found (splineFinding l (get_or ns k 0) cs k) (splinesFinding l (drop (suc k) ns) cs (suc k)))
+  pub spline_turn : (found : Finding) (k : ℕ) → k < length ns
+      → first_finding found (splines_finding l (drop k ns) cs k) ≡ first_finding (first_finding found (spline_finding l (get_or ns k 0) cs k)) (splines_finding l (drop (suc k) ns) cs (suc k))
+  unfolding splines_finding
+  spline_turn found k h = rw (drop-cons ns k 0 h) (first_assoc found (spline_finding l (get_or ns k 0) cs k) (splines_finding l (drop (suc k) ns) cs (suc k)))
 
-  pub splines-end : (found : Finding) (k : ℕ) → length ns ≤ k → firstFinding found (splinesFinding l (drop k ns) cs k) ≡ found
-  unfolding splinesFinding
-  splines-end found k h = rw (drop_of_length-le ns h) (first-end found)
+  pub splines_end : (found : Finding) (k : ℕ) → length ns ≤ k → first_finding found (splines_finding l (drop k ns) cs k) ≡ found
+  unfolding splines_finding
+  splines_end found k h = rw (drop_of_length-le ns h) (first_end found)
 
 -- Assumes nothing.

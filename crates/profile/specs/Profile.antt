@@ -10,9 +10,9 @@ use Rattle.editions.specs.declared.Edition.TheVariants.{Known, Unknown}
 use Rattle.profile_rules.specs.declared.Finding.{Finding}
 use Rattle.profile_rules.specs.declared.Finding.TheVariants as Finding
 pub use Rattle.editions.specs.Editions.{edition1, edition2}
-unfoldable pub use Rattle.editions.specs.Editions.{limitsOf}
-pub use Rattle.profile_rules.specs.Rules.{kept, firstFinding, counted, within}
-unfoldable pub use Rattle.profile_rules.specs.Rules.{zeroFrom, deltasFinding, sigmaFinding, colourFinding, splineFinding}
+unfoldable pub use Rattle.editions.specs.Editions.{limits_of}
+pub use Rattle.profile_rules.specs.Rules.{kept, first_finding, counted, within}
+unfoldable pub use Rattle.profile_rules.specs.Rules.{zero_from, deltas_finding, sigma_finding, colour_finding, spline_finding}
 use Rattle.profile.specs.declared.ProfileAnswer.{ProfileAnswer}
 use Rattle.profile.specs.declared.ProfileAnswer.TheVariants.{Meets, Broken, Refused}
 use Rattle.profile.specs.declared.ProfileTold.{ProfileTold}
@@ -20,16 +20,16 @@ use Rattle.profile.specs.declared.ProfileTold.{ProfileTold}
 -- ---- a description
 
 -- splines with these counts, of which the first is the spline k
-unfoldable pub splinesFinding : Limits → List ℕ → List ℤ → ℕ → Finding
-splinesFinding l [] cs k = Finding.Kept
-splinesFinding l (n ∷ ns) cs k = firstFinding (splineFinding l n cs k) (splinesFinding l ns cs (suc k))
+unfoldable pub splines_finding : Limits → List ℕ → List ℤ → ℕ → Finding
+splines_finding l [] cs k = Finding.Kept
+splines_finding l (n ∷ ns) cs k = first_finding (spline_finding l n cs k) (splines_finding l ns cs (suc k))
 
 -- 1: 1 to 4096 splines; 3: the adjustment; then spline by spline
-unfoldable pub rulesFinding : Limits → List ℕ → List ℤ → ℤ → Finding
-rulesFinding l ns cs adjustment =
-    firstFinding (kept (counted 4096 (length ns)) 1 0)
-    (firstFinding (kept (within l.least l.greatest adjustment) 3 0)
-    (splinesFinding l ns cs 0))
+unfoldable pub rules_finding : Limits → List ℕ → List ℤ → ℤ → Finding
+rules_finding l ns cs adjustment =
+    first_finding (kept (counted 4096 (length ns)) 1 0)
+    (first_finding (kept (within l.least l.greatest adjustment) 3 0)
+    (splines_finding l ns cs 0))
 
 abbrev pub answered : Finding → ProfileAnswer
 answered Finding.Kept = Meets
@@ -38,26 +38,26 @@ answered (Finding.Broken rule spline) = Broken rule spline
 -- ---- what a check answers
 
 -- a success is number 0 at place 0 with a count of 0; a broken rule is PROFILE at its spline, with the rule as first count; any other refusal has a count of 0
-abbrev pub toldOf : ProfileAnswer → ProfileTold
-toldOf Meets = record { number = 0; place = 0; first = 0 }
-toldOf (Broken rule spline) = record { number = number_of Code.Profile; place = spline; first = rule }
-toldOf (Refused c p) = record { number = number_of c; place = p; first = 0 }
+abbrev pub told_of : ProfileAnswer → ProfileTold
+told_of Meets = record { number = 0; place = 0; first = 0 }
+told_of (Broken rule spline) = record { number = number_of Code.Profile; place = spline; first = rule }
+told_of (Refused c p) = record { number = number_of c; place = p; first = 0 }
 
 pub record ProfileOutcome : Type 0 where
   pub answer : ProfileAnswer
   pub told : ProfileTold
 
 abbrev pub tells : ProfileAnswer → ProfileOutcome
-tells r = record { answer = r; told = toldOf r }
+tells r = record { answer = r; told = told_of r }
 
-abbrev pub byEdition : Edition → List ℕ → List ℤ → ℤ → ProfileAnswer
-byEdition Unknown ns cs adjustment = Refused Code.Edition 0
-byEdition (Known l) ns cs adjustment = answered (rulesFinding l ns cs adjustment)
+abbrev pub by_edition : Edition → List ℕ → List ℤ → ℤ → ProfileAnswer
+by_edition Unknown ns cs adjustment = Refused Code.Edition 0
+by_edition (Known l) ns cs adjustment = answered (rules_finding l ns cs adjustment)
 
 -- SHAPE, EDITION, then the rules
 unfoldable pub answer_of : Description → ℤ → ℕ → ProfileAnswer
 answer_of d adjustment edition =
-    cond (Shape.shaped d.counts d.starts d.deltas d.coefficients) (byEdition (limitsOf edition) d.counts d.coefficients adjustment) (Refused Code.Shape 0)
+    cond (Shape.shaped d.counts d.starts d.deltas d.coefficients) (by_edition (limits_of edition) d.counts d.coefficients adjustment) (Refused Code.Shape 0)
 
-unfoldable pub profileOf : Description → ℤ → ℕ → ProfileOutcome
-profileOf d adjustment edition = tells (answer_of d adjustment edition)
+unfoldable pub profile_of : Description → ℤ → ℕ → ProfileOutcome
+profile_of d adjustment edition = tells (answer_of d adjustment edition)

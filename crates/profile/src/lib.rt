@@ -2,8 +2,8 @@
 #![tactic(auto)]
 
 ghost use Rattle.std.specs.Prelude.{◌≡◌, ◌*◌, ◌≤◌, length};
-ghost use Rattle.dequantize.specs.Judge.{descriptionOf};
-ghost use Rattle.profile.specs.Profile.{toldOf, splinesFinding, rulesFinding, answered, tells, profileOf};
+ghost use Rattle.dequantize.specs.Judge.{description_of};
+ghost use Rattle.profile.specs.Profile.{told_of, splines_finding, rules_finding, answered, tells, profile_of};
 
 use codes::Code;
 use editions::{Edition, Limits, limits_of};
@@ -27,7 +27,7 @@ pub struct ProfileTold {
 
 fn splines_finding(counts: &[u32], c: &[i32], limits: Limits) -> Finding
     requires { 128 * length counts.now ≤ length c.now }
-    ensures { result ≡ splinesFinding limits counts.now c.now 0 }
+    ensures { result ≡ splines_finding limits counts.now c.now 0 }
 {
     let mut found = Finding::Kept;
     let mut k = 0;
@@ -41,7 +41,7 @@ fn splines_finding(counts: &[u32], c: &[i32], limits: Limits) -> Finding
 
 fn rules_finding(counts: &[u32], c: &[i32], adjustment: i32, limits: Limits) -> Finding
     requires { 128 * length counts.now ≤ length c.now }
-    ensures { result ≡ rulesFinding limits counts.now c.now adjustment }
+    ensures { result ≡ rules_finding limits counts.now c.now adjustment }
 {
     let many = kept(counted(counts.len(), 4096), 1, 0);
     let adjusted = kept(within(adjustment, limits.least, limits.greatest), 3, 0);
@@ -67,7 +67,7 @@ pub fn profile(
     adjustment: i32,
     edition: u32,
 ) -> ProfileAnswer
-    ensures { tells result ≡ profileOf (descriptionOf counts.now starts.now deltas.now coefficients.now) adjustment edition }
+    ensures { tells result ≡ profile_of (description_of counts.now starts.now deltas.now coefficients.now) adjustment edition }
 {
     if !shape::shape_good(counts, starts, deltas, coefficients) {
         return ProfileAnswer::Refused(Code::Shape, 0);
@@ -80,7 +80,7 @@ pub fn profile(
 
 // A broken rule is PROFILE at its spline, and the rule is its first count.
 pub fn told(answer: ProfileAnswer) -> ProfileTold
-    ensures { result ≡ toldOf answer }
+    ensures { result ≡ told_of answer }
 {
     match answer {
         ProfileAnswer::Meets => ProfileTold {

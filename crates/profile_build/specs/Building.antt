@@ -4,19 +4,19 @@ use Rattle.codes.specs.declared.Code.{Code}
 use Rattle.codes.specs.declared.Code.TheVariants as Code
 use Rattle.dequantize.specs.Judge.{Description}
 use Rattle.build_answer.specs.declared.BuildAnswer.{BuildAnswer}
-use Rattle.table.specs.Table.{BuildRooms, Setting, BuildOutcome, zeros, buildOf}
+use Rattle.table.specs.Table.{BuildRooms, Setting, BuildOutcome, zeros, build_of}
 use Rattle.verdict.specs.Verdict.{sized}
 use Rattle.profile.specs.declared.ProfileAnswer.{ProfileAnswer}
 use Rattle.profile.specs.Profile.{answer_of}
 use Rattle.profile_told.specs.declared.ProfileBuildAnswer.{ProfileBuildAnswer}
 use Rattle.profile_told.specs.declared.ProfileBuildAnswer.TheVariants.{Done, Broken, Refused}
 use Rattle.profile_told.specs.declared.ProfileBuildTold.{ProfileBuildTold}
-use Rattle.profile_told.specs.Told.{toldOf}
+use Rattle.profile_told.specs.Told.{told_of}
 
 -- what a build answers, as an answer of building by profile
-abbrev pub ofBuild : BuildAnswer → ProfileBuildAnswer
-ofBuild (BuildAnswer.Done s n a f) = Done s n a f
-ofBuild (BuildAnswer.Refused c p) = Refused c p
+abbrev pub of_build : BuildAnswer → ProfileBuildAnswer
+of_build (BuildAnswer.Done s n a f) = Done s n a f
+of_build (BuildAnswer.Refused c p) = Refused c p
 
 -- the answer, what it tells, and the six lent buffers
 pub record ProfileBuildOutcome : Type 0 where
@@ -32,7 +32,7 @@ pub record ProfileBuildOutcome : Type 0 where
 abbrev pub leaves : ProfileBuildAnswer → List Float → List Float → List Float → List ℕ → List ℕ → List ℕ → ProfileBuildOutcome
 leaves r path walk segments owners starts entries = record {
   answer = r;
-  told = toldOf r;
+  told = told_of r;
   path = path;
   walk = walk;
   segments = segments;
@@ -42,23 +42,23 @@ leaves r path walk segments owners starts entries = record {
 }
 
 -- every lent cell zero
-unfoldable pub stoppedWith : BuildRooms → ProfileBuildAnswer → ProfileBuildOutcome
-stoppedWith r answer =
+unfoldable pub stopped_with : BuildRooms → ProfileBuildAnswer → ProfileBuildOutcome
+stopped_with r answer =
     leaves answer (zeros r.path) (zeros r.walk) (zeros r.segments) (replicate r.owners 0) (replicate r.starts 0) (replicate r.entries 0)
 
 -- what a build answers and leaves, every cell
-abbrev pub asBuilt : BuildOutcome → ProfileBuildOutcome
-asBuilt o = leaves (ofBuild o.answer) o.path o.walk o.segments o.owners o.starts o.entries
+abbrev pub as_built : BuildOutcome → ProfileBuildOutcome
+as_built o = leaves (of_build o.answer) o.path o.walk o.segments o.owners o.starts o.entries
 
 -- SIZE, then the check of the profile
-unfoldable pub checkProfileOf : Description → ℤ → ℕ → ℕ → ℕ → ProfileAnswer
-checkProfileOf d adjustment width height edition = cond (sized width height) (answer_of d adjustment edition) (ProfileAnswer.Refused Code.Size 0)
+unfoldable pub check_profile_of : Description → ℤ → ℕ → ℕ → ℕ → ProfileAnswer
+check_profile_of d adjustment width height edition = cond (sized width height) (answer_of d adjustment edition) (ProfileAnswer.Refused Code.Size 0)
 
-abbrev pub afterCheck : BuildRooms → ProfileAnswer → BuildOutcome → ProfileBuildOutcome
-afterCheck r (ProfileAnswer.Refused c p) o = stoppedWith r (Refused c p)
-afterCheck r (ProfileAnswer.Broken rule spline) o = stoppedWith r (Broken rule spline)
-afterCheck r ProfileAnswer.Meets o = asBuilt o
+abbrev pub after_check : BuildRooms → ProfileAnswer → BuildOutcome → ProfileBuildOutcome
+after_check r (ProfileAnswer.Refused c p) o = stopped_with r (Refused c p)
+after_check r (ProfileAnswer.Broken rule spline) o = stopped_with r (Broken rule spline)
+after_check r ProfileAnswer.Meets o = as_built o
 
 -- SIZE, SHAPE, EDITION, PROFILE, then as building
-unfoldable pub buildProfileOf : Description → Setting → ℕ → BuildRooms → ProfileBuildOutcome
-buildProfileOf d i edition r = afterCheck r (checkProfileOf d i.adjustment i.width i.height edition) (buildOf d i r)
+unfoldable pub build_profile_of : Description → Setting → ℕ → BuildRooms → ProfileBuildOutcome
+build_profile_of d i edition r = after_check r (check_profile_of d i.adjustment i.width i.height edition) (build_of d i r)

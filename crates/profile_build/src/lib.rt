@@ -2,9 +2,9 @@
 #![tactic(auto)]
 
 ghost use Rattle.std.specs.Prelude.{◌≡◌};
-ghost use Rattle.dequantize.specs.Judge.{descriptionOf};
+ghost use Rattle.dequantize.specs.Judge.{description_of};
 ghost use Rattle.table.specs.Table.{rooms_of, setting_of};
-ghost use Rattle.profile_build.specs.Building.{ofBuild, checkProfileOf, leaves, stoppedWith, buildProfileOf};
+ghost use Rattle.profile_build.specs.Building.{of_build, check_profile_of, leaves, stopped_with, build_profile_of};
 
 use codes::Code;
 use profile::ProfileAnswer;
@@ -12,7 +12,7 @@ use profile_told::{ProfileBuildAnswer, size_good};
 use table::BuildAnswer;
 
 fn of_build(answer: BuildAnswer) -> ProfileBuildAnswer
-    ensures { result ≡ ofBuild answer }
+    ensures { result ≡ of_build answer }
 {
     match answer {
         BuildAnswer::Done(segments, entries, estimate, faint) => ProfileBuildAnswer::Done(
@@ -33,7 +33,7 @@ fn check(
     height: u32,
     edition: u32,
 ) -> ProfileAnswer
-    ensures { result ≡ checkProfileOf (descriptionOf counts.now starts.now deltas.now coefficients.now) adjustment width height edition }
+    ensures { result ≡ check_profile_of (description_of counts.now starts.now deltas.now coefficients.now) adjustment width height edition }
 {
     if !size_good(width, height) {
         return ProfileAnswer::Refused(Code::Size, 0);
@@ -52,7 +52,7 @@ fn stop(
     entries: &mut [u32],
 ) -> ProfileBuildAnswer
     ensures { leaves result path.new walk.new segments.new owners.new row_starts.new entries.new
-        ≡ stoppedWith (rooms_of path.old walk.old segments.old owners.old row_starts.old entries.old) answer }
+        ≡ stopped_with (rooms_of path.old walk.old segments.old owners.old row_starts.old entries.old) answer }
 {
     wipe::wipe(path, walk, segments, owners, row_starts, entries);
     answer
@@ -80,7 +80,7 @@ pub fn build_profile(
     entries: &mut [u32],
 ) -> ProfileBuildAnswer
     ensures { leaves result path.new walk.new segments.new owners.new row_starts.new entries.new
-        ≡ buildProfileOf (descriptionOf counts.now starts.now deltas.now coefficients.now) (setting_of adjustment width height y_to_x y_to_b high_precision level10) edition (rooms_of path.old walk.old segments.old owners.old row_starts.old entries.old) }
+        ≡ build_profile_of (description_of counts.now starts.now deltas.now coefficients.now) (setting_of adjustment width height y_to_x y_to_b high_precision level10) edition (rooms_of path.old walk.old segments.old owners.old row_starts.old entries.old) }
 {
     match check(
         counts,

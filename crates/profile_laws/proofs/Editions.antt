@@ -10,9 +10,9 @@ use Rattle.dequantize.specs.Judge.{Description}
 use Rattle.editions.specs.declared.Limits.{Limits}
 use Rattle.editions.specs.declared.Edition.TheVariants.{Known}
 use Rattle.profile.specs.declared.ProfileAnswer.TheVariants.{Meets}
-use Rattle.profile.specs.Profile.{edition1, edition2, limitsOf, answer_of}
+use Rattle.profile.specs.Profile.{edition1, edition2, limits_of, answer_of}
 use Rattle.profile_laws.specs.Rules.{SplineMeets, MeetsRules, Allows, two, Meeting, Says, meets}
-use Rattle.profile_laws.proofs.Says.{allows-limits, says-exactly, said}
+use Rattle.profile_laws.proofs.Says.{allows_limits, says_exactly, said}
 
 up : (a b c : ℤ) → T (le_z a b) → T (le_z b c) → T (le_z a c)
 up (pos a) (pos b) (pos c) h k = le→leb a c (le_trans (leb→le a b h) (leb→le b c k))
@@ -23,8 +23,8 @@ up (negsuc a) (pos b) (negsuc c) h k = absurd k
 up (negsuc a) (negsuc b) (pos c) h k = tt
 up (negsuc a) (negsuc b) (negsuc c) h k = le→leb c a (le_trans (leb→le c b k) (leb→le b a h))
 
-at-most-trans : {a b c : ℤ} → a ≤ℤ b → b ≤ℤ c → a ≤ℤ c
-at-most-trans {a} {b} {c} h k = le_z_yes (up a b c h.le k.le)
+at_most_trans : {a b c : ℤ} → a ≤ℤ b → b ≤ℤ c → a ≤ℤ c
+at_most_trans {a} {b} {c} h k = le_z_yes (up a b c h.le k.le)
 
 -- the second allows at least what the first allows
 pub record Wider (l m : Limits) : Type 0 where
@@ -33,10 +33,10 @@ pub record Wider (l m : Limits) : Type 0 where
   pub greatest : l.greatest ≤ℤ m.greatest
   pub sigma : l.sigma ≤ℤ m.sigma
 
-pub wider-meets : (l m : Limits) (d : Description) (a : ℤ) → Wider l m → MeetsRules l d a → MeetsRules m d a
-wider-meets l m d a w r = record {
+pub wider_meets : (l m : Limits) (d : Description) (a : ℤ) → Wider l m → MeetsRules l d a → MeetsRules m d a
+wider_meets l m d a w r = record {
   splines = r.splines;
-  adjusted = (at-most-trans w.least r.adjusted.0, at-most-trans r.adjusted.1 w.greatest);
+  adjusted = (at_most_trans w.least r.adjusted.0, at_most_trans r.adjusted.1 w.greatest);
   each = λ k h. spline k (r.each k h);
 }
   where
@@ -44,29 +44,29 @@ wider-meets l m d a w r = record {
     spline k s = record {
       deltas = (s.deltas.0, le_trans s.deltas.1 w.deltas);
       later = s.later;
-      first = (s.first.0, at-most-trans s.first.1 w.sigma);
+      first = (s.first.0, at_most_trans s.first.1 w.sigma);
       colours = s.colours;
     }
 
-pub edition-widens : Wider edition1 edition2
-edition-widens = record { deltas = omega arith; least = le_z_yes tt; greatest = le_z_yes tt; sigma = le_z_yes tt }
+pub edition_widens : Wider edition1 edition2
+edition_widens = record { deltas = omega arith; least = le_z_yes tt; greatest = le_z_yes tt; sigma = le_z_yes tt }
 
-allowed-one : (l : Limits) → Allows 1 l → edition1 ≡ l
-unfolding limitsOf
-allowed-one l w = let q : Known edition1 ≡ Known l = allows-limits 1 l w in cc
+allowed_one : (l : Limits) → Allows 1 l → edition1 ≡ l
+unfolding limits_of
+allowed_one l w = let q : Known edition1 ≡ Known l = allows_limits 1 l w in cc
 
-pub meeting-1-in-2 : (d : Description) (a : ℤ) → Meeting d a 1 → Meeting d a 2
-meeting-1-in-2 d a m = record {
+pub meeting_1_in_2 : (d : Description) (a : ℤ) → Meeting d a 1 → Meeting d a 2
+meeting_1_in_2 d a m = record {
   shape = m.shape;
   limits = edition2;
   allowed = two;
-  rules = wider-meets edition1 edition2 d a edition-widens (rw (allowed-one m.limits m.allowed) m.rules);
+  rules = wider_meets edition1 edition2 d a edition_widens (rw (allowed_one m.limits m.allowed) m.rules);
 }
 
-pub answer-1-in-2 : (d : Description) (a : ℤ) → answer_of d a 1 ≡ Meets → answer_of d a 2 ≡ Meets
-answer-1-in-2 d a e = go ((says-exactly d a 1 Meets).0 e)
+pub answer_1_in_2 : (d : Description) (a : ℤ) → answer_of d a 1 ≡ Meets → answer_of d a 2 ≡ Meets
+answer_1_in_2 d a e = go ((says_exactly d a 1 Meets).0 e)
   where
     go : Says d a 1 Meets → answer_of d a 2 ≡ Meets
-    go (meets m) = said d a 2 Meets (meets (meeting-1-in-2 d a m))
+    go (meets m) = said d a 2 Meets (meets (meeting_1_in_2 d a m))
 
 -- Assumes nothing.

@@ -1,10 +1,10 @@
 -- The codes of building by profile, and when each is given. Definitions only.
--- That a build by profile refuses exactly so is `build-refused-exactly` of proofs/Builds.antt.
+-- That a build by profile refuses exactly so is `build_refused_exactly` of proofs/Builds.antt.
 use Rattle.std.specs.Prelude.{◌≡◌, ◌⊎◌, ℕ, ◌^◌, ◌≤◌, ◌<◌}
 use Rattle.codes.specs.declared.Code.{Code}
 use Rattle.codes.specs.declared.Code.TheVariants as Code
 use Rattle.dequantize.specs.Judge.{Description, Shaped}
-use Rattle.table.specs.Table.{Setting, BuildRooms, buildOf}
+use Rattle.table.specs.Table.{Setting, BuildRooms, build_of}
 use Rattle.build_answer.specs.declared.BuildAnswer.{BuildAnswer}
 use Rattle.table.specs.Refusals.{BuildRefusal}
 use Rattle.profile_laws.specs.Rules.{NoEdition, Meeting, Breaking}
@@ -23,11 +23,11 @@ module _ (d : Description) (i : Setting) (e : ℕ) (r : BuildRooms) where
   -- a build is done, of a description that meets the profile
   pub record DoneByBuild (s n t f : ℕ) : Type 0 where
     pub fits : Plain
-    pub built : (buildOf d i r).answer ≡ BuildAnswer.Done s n t f
+    pub built : (build_of d i r).answer ≡ BuildAnswer.Done s n t f
 
   -- 22: SIZE and SHAPE have passed, and the edition is neither 1 nor 2; the place is 0
   pub record UnknownEdition (p : ℕ) : Type 0 where
-    pub first-place : p ≡ 0
+    pub first_place : p ≡ 0
     pub sized : Sized i
     pub shape : Shaped d
     pub none : NoEdition e

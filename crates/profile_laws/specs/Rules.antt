@@ -1,5 +1,5 @@
 -- The six rules of a profile over what an edition allows, each as a statement on numbers; a description that meets them, and the first one that is broken. Definitions only.
--- That a check says so exactly is `says-exactly` of proofs/Says.antt.
+-- That a check says so exactly is `says_exactly` of proofs/Says.antt.
 use Rattle.std.specs.Prelude.{◌≡◌, ℕ, ◌+◌, ◌*◌, ◌≤◌, ◌<◌, ℤ, pos, ◌≤ℤ◌, length, get_or}
 use Rattle.codes.specs.declared.Code.{Code}
 use Rattle.codes.specs.declared.Code.TheVariants as Code
@@ -17,14 +17,14 @@ abbrev pub FromToℤ : ℤ → ℤ → ℤ → Type 0
 FromToℤ least greatest z = (least ≤ℤ z) × (z ≤ℤ greatest)
 
 -- the coefficient i of X, of B and of sigma of the spline k
-abbrev pub xAt : Description → ℕ → ℕ → ℤ
-xAt d k i = get_or d.coefficients (128 * k + i) (pos 0)
+abbrev pub x_at : Description → ℕ → ℕ → ℤ
+x_at d k i = get_or d.coefficients (128 * k + i) (pos 0)
 
 abbrev pub b_at : Description → ℕ → ℕ → ℤ
 b_at d k i = get_or d.coefficients (128 * k + 64 + i) (pos 0)
 
-abbrev pub sigmaAt : Description → ℕ → ℕ → ℤ
-sigmaAt d k i = get_or d.coefficients (128 * k + 96 + i) (pos 0)
+abbrev pub sigma_at : Description → ℕ → ℕ → ℤ
+sigma_at d k i = get_or d.coefficients (128 * k + 96 + i) (pos 0)
 
 -- ---- the rules
 
@@ -43,15 +43,15 @@ module _ (l : Limits) (d : Description) (adjustment : ℤ) where
 
   -- 4: the sigma coefficients are zero after the first
   abbrev pub Rule4 : ℕ → Type 0
-  Rule4 k = (i : ℕ) → 0 < i → i < 32 → sigmaAt d k i ≡ pos 0
+  Rule4 k = (i : ℕ) → 0 < i → i < 32 → sigma_at d k i ≡ pos 0
 
   -- 5: the first sigma coefficient is 1 to the most
   abbrev pub Rule5 : ℕ → Type 0
-  Rule5 k = FromToℤ (pos 1) l.sigma (sigmaAt d k 0)
+  Rule5 k = FromToℤ (pos 1) l.sigma (sigma_at d k 0)
 
   -- 6: the X and B coefficients are all zero
   abbrev pub Rule6 : ℕ → Type 0
-  Rule6 k = (i : ℕ) → i < 32 → (xAt d k i ≡ pos 0) × (b_at d k i ≡ pos 0)
+  Rule6 k = (i : ℕ) → i < 32 → (x_at d k i ≡ pos 0) × (b_at d k i ≡ pos 0)
 
   pub record SplineMeets (k : ℕ) : Type 0 where
     pub deltas : Rule2 k

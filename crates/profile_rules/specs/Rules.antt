@@ -14,9 +14,9 @@ kept true rule spline = Finding.Kept
 kept false rule spline = Finding.Broken rule spline
 
 -- the first broken rule of two findings
-abbrev pub firstFinding : Finding → Finding → Finding
-firstFinding Finding.Kept b = b
-firstFinding (Finding.Broken rule spline) b = Finding.Broken rule spline
+abbrev pub first_finding : Finding → Finding → Finding
+first_finding Finding.Kept b = b
+first_finding (Finding.Broken rule spline) b = Finding.Broken rule spline
 
 -- ---- tests
 
@@ -28,24 +28,24 @@ abbrev pub within : ℤ → ℤ → ℤ → Bool
 within least greatest z = cond (le_z least z) (le_z z greatest) false
 
 -- so many numbers from an index on are all 0
-unfoldable pub zeroFrom : List ℤ → ℕ → ℕ → Bool
-zeroFrom cs from zero = true
-zeroFrom cs from (suc n) = cond (within (pos 0) (pos 0) (get_or cs from (pos 0))) (zeroFrom cs (suc from) n) false
+unfoldable pub zero_from : List ℤ → ℕ → ℕ → Bool
+zero_from cs from zero = true
+zero_from cs from (suc n) = cond (within (pos 0) (pos 0) (get_or cs from (pos 0))) (zero_from cs (suc from) n) false
 
 -- ---- the rules of the spline k, which has n double deltas
 
 -- 2: 1 to the most double deltas
-unfoldable pub deltasFinding : Limits → ℕ → ℕ → Finding
-deltasFinding l n k = kept (counted l.deltas n) 2 k
+unfoldable pub deltas_finding : Limits → ℕ → ℕ → Finding
+deltas_finding l n k = kept (counted l.deltas n) 2 k
 
 -- 4: sigma coefficients zero after the first; 5: the first sigma coefficient from 1 to the most
-unfoldable pub sigmaFinding : Limits → List ℤ → ℕ → Finding
-sigmaFinding l cs k =
-    firstFinding (kept (zeroFrom cs (128 * k + 97) 31) 4 k) (kept (within (pos 1) l.sigma (get_or cs (128 * k + 96) (pos 0))) 5 k)
+unfoldable pub sigma_finding : Limits → List ℤ → ℕ → Finding
+sigma_finding l cs k =
+    first_finding (kept (zero_from cs (128 * k + 97) 31) 4 k) (kept (within (pos 1) l.sigma (get_or cs (128 * k + 96) (pos 0))) 5 k)
 
 -- 6: X coefficients all zero, and B coefficients
-unfoldable pub colourFinding : List ℤ → ℕ → Finding
-colourFinding cs k = firstFinding (kept (zeroFrom cs (128 * k) 32) 6 k) (kept (zeroFrom cs (128 * k + 64) 32) 6 k)
+unfoldable pub colour_finding : List ℤ → ℕ → Finding
+colour_finding cs k = first_finding (kept (zero_from cs (128 * k) 32) 6 k) (kept (zero_from cs (128 * k + 64) 32) 6 k)
 
-unfoldable pub splineFinding : Limits → ℕ → List ℤ → ℕ → Finding
-splineFinding l n cs k = firstFinding (deltasFinding l n k) (firstFinding (sigmaFinding l cs k) (colourFinding cs k))
+unfoldable pub spline_finding : Limits → ℕ → List ℤ → ℕ → Finding
+spline_finding l n cs k = first_finding (deltas_finding l n k) (first_finding (sigma_finding l cs k) (colour_finding cs k))

@@ -2,7 +2,7 @@
 #![tactic(auto)]
 
 ghost use Rattle.std.specs.Prelude.{◌≡◌, ◌+◌, ◌*◌, ◌≤◌, ◌<◌, pos, length, get_or};
-ghost use Rattle.profile_rules.specs.Rules.{kept, firstFinding, counted, within, zeroFrom, deltasFinding, sigmaFinding, colourFinding, splineFinding};
+ghost use Rattle.profile_rules.specs.Rules.{kept, first_finding, counted, within, zero_from, deltas_finding, sigma_finding, colour_finding, spline_finding};
 
 use editions::Limits;
 
@@ -25,7 +25,7 @@ pub fn kept(test: bool, rule: u32, spline: usize) -> Finding
 }
 
 pub fn first_of(a: Finding, b: Finding) -> Finding
-    ensures { result ≡ firstFinding a b }
+    ensures { result ≡ first_finding a b }
 {
     match a {
         Finding::Kept => b,
@@ -59,7 +59,7 @@ fn within_at(c: &[i32], i: usize, least: i32, greatest: i32) -> bool
 // Whether n coefficients from an index on are all 0.
 fn zeros(c: &[i32], from: usize, n: usize) -> bool
     requires { from + n ≤ length c.now }
-    ensures { result ≡ zeroFrom c.now from n }
+    ensures { result ≡ zero_from c.now from n }
 {
     let mut i = 0;
     while i < n {
@@ -74,14 +74,14 @@ fn zeros(c: &[i32], from: usize, n: usize) -> bool
 // ---- the rules of the spline k
 
 fn deltas_finding(n: u32, k: usize, limits: Limits) -> Finding
-    ensures { result ≡ deltasFinding limits n k }
+    ensures { result ≡ deltas_finding limits n k }
 {
     kept(counted(n as usize, limits.deltas as usize), 2, k)
 }
 
 fn sigma_finding(c: &[i32], k: usize, limits: Limits) -> Finding
     requires { 128 * k + 128 ≤ length c.now }
-    ensures { result ≡ sigmaFinding limits c.now k }
+    ensures { result ≡ sigma_finding limits c.now k }
 {
     let later = kept(zeros(c, 128 * k + 97, 31), 4, k);
     let first = kept(within_at(c, 128 * k + 96, 1, limits.sigma), 5, k);
@@ -90,7 +90,7 @@ fn sigma_finding(c: &[i32], k: usize, limits: Limits) -> Finding
 
 fn colour_finding(c: &[i32], k: usize) -> Finding
     requires { 128 * k + 128 ≤ length c.now }
-    ensures { result ≡ colourFinding c.now k }
+    ensures { result ≡ colour_finding c.now k }
 {
     let x = kept(zeros(c, 128 * k, 32), 6, k);
     let b = kept(zeros(c, 128 * k + 64, 32), 6, k);
@@ -99,7 +99,7 @@ fn colour_finding(c: &[i32], k: usize) -> Finding
 
 pub fn spline_finding(n: u32, c: &[i32], k: usize, limits: Limits) -> Finding
     requires { 128 * k + 128 ≤ length c.now }
-    ensures { result ≡ splineFinding limits n c.now k }
+    ensures { result ≡ spline_finding limits n c.now k }
 {
     let deltas = deltas_finding(n, k, limits);
     let sigma = sigma_finding(c, k, limits);

@@ -3,7 +3,7 @@
 
 ghost use Rattle.std.specs.Prelude.{◌≡◌};
 ghost use Rattle.verdict.specs.Verdict.{sized};
-ghost use Rattle.profile_told.specs.Told.{toldOf};
+ghost use Rattle.profile_told.specs.Told.{told_of};
 
 use codes::Code;
 
@@ -37,7 +37,7 @@ pub fn size_good(width: u32, height: u32) -> bool
 
 // A broken rule is PROFILE at its spline, and the rule is its first count.
 pub fn told(answer: ProfileBuildAnswer) -> ProfileBuildTold
-    ensures { result ≡ toldOf answer }
+    ensures { result ≡ told_of answer }
 {
     match answer {
         ProfileBuildAnswer::Done(segments, entries, estimate, faint) => ProfileBuildTold {

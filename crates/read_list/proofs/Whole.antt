@@ -13,167 +13,167 @@ use borrow.Author.Tests.{lt-ltb, le-ltb}
 use Rattle.codes.specs.declared.Code.{Code}
 use Rattle.list.specs.declared.Next.{Next}
 use Rattle.shape.specs.Shape.{points_of}
-use Rattle.list.specs.List.{unpackSigned, packSigned, ListRooms, Got, got, stop, Splines, splines, Described, described, and_then, startsIn, splinesOf, describe, ended, afterStarts, lacking, read_of, startsList, splinesList}
-use Rattle.list.specs.Steps.{next_of, f32Of}
-use Rattle.list.proofs.Buffers.{next-is, next-not}
-use Rattle.list.proofs.Accepted.{starts-read, splines-read}
+use Rattle.list.specs.List.{unpack_signed, pack_signed, ListRooms, Got, got, stop, Splines, splines, Described, described, and_then, starts_in, splines_of, describe, ended, after_starts, lacking, read_of, starts_list, splines_list}
+use Rattle.list.specs.Steps.{next_of, f32_of}
+use Rattle.list.proofs.Buffers.{next_is, next_not}
+use Rattle.list.proofs.Accepted.{starts_read, splines_read}
 use Rattle.read_steps.specs.declared.Step.{Step}
 use Rattle.read_splines.specs.declared.Points.{Points}
 use Rattle.read_steps.specs.Steps.{floats, Front, Filled}
 use Rattle.read_splines.specs.Splines.{SplinesLeft}
-use Rattle.read_splines.proofs.Splines.{Gave, filled-gave, filled-stopped, went}
+use Rattle.read_splines.proofs.Splines.{Gave, filled_gave, filled_stopped, went}
 use Rattle.read_list.specs.declared.ReadAnswer.{ReadAnswer}
 use Rattle.read_list.specs.Rest.{RestLeft, ListLeft}
 
 -- ---- how far the splines go
 
-splines-length : (ns : List ℕ) (ds cs : List ℤ) → length ds ≡ 2 * points_of ns → length cs ≡ 128 * length ns → length (splinesList ns ds cs) ≡ 129 * length ns + 2 * points_of ns
-splines-length [] ds cs a b = refl
-splines-length (n ∷ ns) ds cs a b =
-    let es = map packSigned (take (2 * n) ds) in
-    let bs = map packSigned (take 128 cs) in
-    let others = splinesList ns (drop (2 * n) ds) (drop 128 cs) in
-    let e1 : length es ≡ 2 * n = length-map (take (2 * n) ds) packSigned ∙ length-take-le (2 * n) ds (omega arith) in
-    let e2 : length bs ≡ 128 = length-map (take 128 cs) packSigned ∙ length-take-le 128 cs (omega arith) in
-    let ih = splines-length ns (drop (2 * n) ds) (drop 128 cs) (length-drop (2 * n) ds ∙ omega arith) (length-drop 128 cs ∙ omega arith) in
+splines_length : (ns : List ℕ) (ds cs : List ℤ) → length ds ≡ 2 * points_of ns → length cs ≡ 128 * length ns → length (splines_list ns ds cs) ≡ 129 * length ns + 2 * points_of ns
+splines_length [] ds cs a b = refl
+splines_length (n ∷ ns) ds cs a b =
+    let es = map pack_signed (take (2 * n) ds) in
+    let bs = map pack_signed (take 128 cs) in
+    let others = splines_list ns (drop (2 * n) ds) (drop 128 cs) in
+    let e1 : length es ≡ 2 * n = length-map (take (2 * n) ds) pack_signed ∙ length-take-le (2 * n) ds (omega arith) in
+    let e2 : length bs ≡ 128 = length-map (take 128 cs) pack_signed ∙ length-take-le 128 cs (omega arith) in
+    let ih = splines_length ns (drop (2 * n) ds) (drop 128 cs) (length-drop (2 * n) ds ∙ omega arith) (length-drop 128 cs ∙ omega arith) in
     ap suc (length-append (es ++ bs) others) ∙ omega (arith, length-append es bs, e1, e2, ih)
 
-splines-went : (t left room s : ℕ) (l : List ℕ) (ns : List ℕ) (ds cs : List ℤ) (r : List ℕ) → splinesOf t left room s l ≡ got (splines ns ds cs) r
+splines_went : (t left room s : ℕ) (l : List ℕ) (ns : List ℕ) (ds cs : List ℤ) (r : List ℕ) → splines_of t left room s l ≡ got (splines ns ds cs) r
     → (length ns ≡ s) × (length l ≡ 129 * s + 2 * points_of ns + length r)
-splines-went t left room s l ns ds cs r e =
-    let v = splines-read t left room s l ns ds cs r e in
-    let k = splines-length ns ds cs v.deltas v.coefficients in
-    (v.count, ap length v.is ∙ length-append (splinesList ns ds cs) r ∙ omega (arith, k, v.count))
+splines_went t left room s l ns ds cs r e =
+    let v = splines_read t left room s l ns ds cs r e in
+    let k = splines_length ns ds cs v.deltas v.coefficients in
+    (v.count, ap length v.is ∙ length-append (splines_list ns ds cs) r ∙ omega (arith, k, v.count))
 
 -- ---- what follows the starts
 
-pub rest-stop : (g : Got Described) (k : Code) (p : ℕ) (n n' : List ℕ) (d d' c c' : List ℤ) → g ≡ stop k p → RestLeft g (ReadAnswer.Refused k p) n n' d d' c c'
-rest-stop g k p n n' d d' c c' e = subst (λ (x : Got Described). RestLeft x (ReadAnswer.Refused k p) n n' d d' c c') (sym e) refl
+pub rest_stop : (g : Got Described) (k : Code) (p : ℕ) (n n' : List ℕ) (d d' c c' : List ℤ) → g ≡ stop k p → RestLeft g (ReadAnswer.Refused k p) n n' d d' c c'
+rest_stop g k p n n' d d' c c' e = subst (λ (x : Got Described). RestLeft x (ReadAnswer.Refused k p) n n' d d' c c') (sym e) refl
 
-splines-stopped : (g : Got Splines) (k : Code) (p : ℕ) (n n' : List ℕ) (d d' c c' : List ℤ) → SplinesLeft g (Points.Stop k p) n n' d d' c c' → g ≡ stop k p
-splines-stopped (got (splines ns ds cs) r) k p n n' d d' c c' h = cc h.0
-splines-stopped (stop j q) k p n n' d d' c c' h = cc
+splines_stopped : (g : Got Splines) (k : Code) (p : ℕ) (n n' : List ℕ) (d d' c c' : List ℤ) → SplinesLeft g (Points.Stop k p) n n' d d' c c' → g ≡ stop k p
+splines_stopped (got (splines ns ds cs) r) k p n n' d d' c c' h = cc h.0
+splines_stopped (stop j q) k p n n' d d' c c' h = cc
 
-ended-trail : (t : ℕ) (x : Described) (l : List ℕ) → 0 < length l → ended t x l ≡ stop Code.Trail (t - length l)
-ended-trail t x [] h = absurd (not-suc-le-zero h)
-ended-trail t x (a ∷ l) h = refl
+ended_trail : (t : ℕ) (x : Described) (l : List ℕ) → 0 < length l → ended t x l ≡ stop Code.Trail (t - length l)
+ended_trail t x [] h = absurd (not-suc-le-zero h)
+ended_trail t x (a ∷ l) h = refl
 
-ended-none : (t : ℕ) (x : Described) (l : List ℕ) → length l ≡ 0 → ended t x l ≡ got x []
-ended-none t x [] h = refl
-ended-none t x (a ∷ l) h = absurd (omega arith)
+ended_none : (t : ℕ) (x : Described) (l : List ℕ) → length l ≡ 0 → ended t x l ≡ got x []
+ended_none t x [] h = refl
+ended_none t x (a ∷ l) h = absurd (omega arith)
 
 module _ (t limit room s : ℕ) where
-  pub after-short : (l : List ℕ) → next_of l ≡ Next.End → afterStarts t limit room s [] l ≡ stop Code.Short t
-  unfolding afterStarts
-  after-short l e = rw (next-not l e)
+  pub after_short : (l : List ℕ) → next_of l ≡ Next.End → after_starts t limit room s [] l ≡ stop Code.Short t
+  unfolding after_starts
+  after_short l e = rw (next_not l e)
 
-  after-at : (l : List ℕ) (u : ℕ) → next_of l ≡ Next.Value u
-      → afterStarts t limit room s [] l ≡ and_then (splinesOf t limit room s (drop 1 l)) (λ x l1. ended t (describe (unpackSigned u) [] x) l1)
-  unfolding afterStarts
-  after-at [] u e = cc
-  after-at (a ∷ l) u e = let p : a ≡ u = cc in rw p
+  after_at : (l : List ℕ) (u : ℕ) → next_of l ≡ Next.Value u
+      → after_starts t limit room s [] l ≡ and_then (splines_of t limit room s (drop 1 l)) (λ x l1. ended t (describe (unpack_signed u) [] x) l1)
+  unfolding after_starts
+  after_at [] u e = cc
+  after_at (a ∷ l) u e = let p : a ≡ u = cc in rw p
 
   module _ (l rest : List ℕ) (u : ℕ) (e : next_of l ≡ Next.Value u) (er : rest ≡ drop 1 l) (n n' : List ℕ) (d d' c c' : List ℤ) where
-    pub after_stop : (k : Code) (p : ℕ) → SplinesLeft (splinesOf t limit room s rest) (Points.Stop k p) n n' d d' c c' → afterStarts t limit room s [] l ≡ stop k p
-    after_stop k p h = after-at l u e ∙ rw (← er, splines-stopped (splinesOf t limit room s rest) k p n n' d d' c c' h)
+    pub after_stop : (k : Code) (p : ℕ) → SplinesLeft (splines_of t limit room s rest) (Points.Stop k p) n n' d d' c c' → after_starts t limit room s [] l ≡ stop k p
+    after_stop k p h = after_at l u e ∙ rw (← er, splines_stopped (splines_of t limit room s rest) k p n n' d d' c c' h)
 
-    module _ (m : ℕ) (h : SplinesLeft (splinesOf t limit room s rest) (Points.Count m) n n' d d' c c') where
-      pub after-trail : 129 * s + 2 * m < length rest → afterStarts t limit room s [] l ≡ stop Code.Trail (t - (length rest - (129 * s + 2 * m)))
-      after-trail g = after-at l u e ∙ rw (← er) (go (splinesOf t limit room s rest) refl h)
+    module _ (m : ℕ) (h : SplinesLeft (splines_of t limit room s rest) (Points.Count m) n n' d d' c c') where
+      pub after_trail : 129 * s + 2 * m < length rest → after_starts t limit room s [] l ≡ stop Code.Trail (t - (length rest - (129 * s + 2 * m)))
+      after_trail g = after_at l u e ∙ rw (← er) (go (splines_of t limit room s rest) refl h)
         where
-          go : (i : Got Splines) → splinesOf t limit room s rest ≡ i → SplinesLeft i (Points.Count m) n n' d d' c c'
-              → and_then i (λ x l1. ended t (describe (unpackSigned u) [] x) l1) ≡ stop Code.Trail (t - (length rest - (129 * s + 2 * m)))
+          go : (i : Got Splines) → splines_of t limit room s rest ≡ i → SplinesLeft i (Points.Count m) n n' d d' c c'
+              → and_then i (λ x l1. ended t (describe (unpack_signed u) [] x) l1) ≡ stop Code.Trail (t - (length rest - (129 * s + 2 * m)))
           go (got (splines ns ds cs) r) i h =
-              let w = splines-went t limit room s rest ns ds cs r i in
+              let w = splines_went t limit room s rest ns ds cs r i in
               let q : m ≡ points_of ns = cc h.0 in
               let len : length r ≡ length rest - (129 * s + 2 * m) = omega (arith, w.1) in
-              ended-trail t (described (unpackSigned u) [] ns ds cs) r (omega arith) ∙ rw len
+              ended_trail t (described (unpack_signed u) [] ns ds cs) r (omega arith) ∙ rw len
           go (stop j q) i h = let z : ◌≡◌ {A = ℕ} 0 1 = cc in absurd (omega arith)
 
-      pub after-done : length rest ≤ 129 * s + 2 * m → RestLeft (afterStarts t limit room s [] l) (ReadAnswer.Done s m (unpackSigned u)) n n' d d' c c'
-      after-done g =
-          let k : afterStarts t limit room s [] l ≡ and_then (splinesOf t limit room s rest) (λ x l1. ended t (describe (unpackSigned u) [] x) l1) = after-at l u e ∙ rw (← er) in
-          subst (λ (x : Got Described). RestLeft x (ReadAnswer.Done s m (unpackSigned u)) n n' d d' c c') (sym k) (go (splinesOf t limit room s rest) refl h)
+      pub after_done : length rest ≤ 129 * s + 2 * m → RestLeft (after_starts t limit room s [] l) (ReadAnswer.Done s m (unpack_signed u)) n n' d d' c c'
+      after_done g =
+          let k : after_starts t limit room s [] l ≡ and_then (splines_of t limit room s rest) (λ x l1. ended t (describe (unpack_signed u) [] x) l1) = after_at l u e ∙ rw (← er) in
+          subst (λ (x : Got Described). RestLeft x (ReadAnswer.Done s m (unpack_signed u)) n n' d d' c c') (sym k) (go (splines_of t limit room s rest) refl h)
         where
-          go : (i : Got Splines) → splinesOf t limit room s rest ≡ i → SplinesLeft i (Points.Count m) n n' d d' c c'
-              → RestLeft (and_then i (λ x l1. ended t (describe (unpackSigned u) [] x) l1)) (ReadAnswer.Done s m (unpackSigned u)) n n' d d' c c'
+          go : (i : Got Splines) → splines_of t limit room s rest ≡ i → SplinesLeft i (Points.Count m) n n' d d' c c'
+              → RestLeft (and_then i (λ x l1. ended t (describe (unpack_signed u) [] x) l1)) (ReadAnswer.Done s m (unpack_signed u)) n n' d d' c c'
           go (got (splines ns ds cs) r) i h =
-              let w = splines-went t limit room s rest ns ds cs r i in
+              let w = splines_went t limit room s rest ns ds cs r i in
               let q : m ≡ points_of ns = cc h.0 in
               let none : length r ≡ 0 = omega (arith, w.1) in
-              rw (ended-none t (described (unpackSigned u) [] ns ds cs) r none, q, ← w.0) (refl, h.1, h.2, h.3)
+              rw (ended_none t (described (unpack_signed u) [] ns ds cs) r none, q, ← w.0) (refl, h.1, h.2, h.3)
           go (stop j q) i h = let z : ◌≡◌ {A = ℕ} 0 1 = cc in absurd (omega arith)
 
 -- ---- the starts
 
 -- what follows the starts does not turn on them
-abbrev withStarts : List ℤ → Got Described → Got Described
-withStarts zs (got (described a ys ns ds cs) l) = got (described a zs ns ds cs) l
-withStarts zs (stop k p) = stop k p
+abbrev with_starts : List ℤ → Got Described → Got Described
+with_starts zs (got (described a ys ns ds cs) l) = got (described a zs ns ds cs) l
+with_starts zs (stop k p) = stop k p
 
-starts-aside : (t limit room s : ℕ) (zs : List ℤ) (l : List ℕ) → afterStarts t limit room s zs l ≡ withStarts zs (afterStarts t limit room s [] l)
-unfolding afterStarts
-starts-aside t limit room s zs [] = refl
-starts-aside t limit room s zs (u ∷ l) = go (splinesOf t limit room s l)
+starts_aside : (t limit room s : ℕ) (zs : List ℤ) (l : List ℕ) → after_starts t limit room s zs l ≡ with_starts zs (after_starts t limit room s [] l)
+unfolding after_starts
+starts_aside t limit room s zs [] = refl
+starts_aside t limit room s zs (u ∷ l) = go (splines_of t limit room s l)
   where
-    go : (g : Got Splines) → and_then g (λ x l1. ended t (describe (unpackSigned u) zs x) l1) ≡ withStarts zs (and_then g (λ x l1. ended t (describe (unpackSigned u) [] x) l1))
+    go : (g : Got Splines) → and_then g (λ x l1. ended t (describe (unpack_signed u) zs x) l1) ≡ with_starts zs (and_then g (λ x l1. ended t (describe (unpack_signed u) [] x) l1))
     go (got (splines ns ds cs) []) = refl
     go (got (splines ns ds cs) (b ∷ k)) = refl
     go (stop c p) = refl
 
-rest-starts : (g : Got Described) (zs : List ℤ) (r : ReadAnswer) (n n' : List ℕ) (f f' : List Float) (d d' c c' : List ℤ) → RestLeft g r n n' d d' c c' → Front (map f32Of zs) f f'
-    → ListLeft (withStarts zs g) r n n' f f' d d' c c'
-rest-starts (got (described a ys ns ds cs) l) zs r n n' f f' d d' c c' h w = (h.0, h.1, w, h.2, h.3)
-rest-starts (stop k p) zs r n n' f f' d d' c c' h w = h
+rest_starts : (g : Got Described) (zs : List ℤ) (r : ReadAnswer) (n n' : List ℕ) (f f' : List Float) (d d' c c' : List ℤ) → RestLeft g r n n' d d' c c' → Front (map f32_of zs) f f'
+    → ListLeft (with_starts zs g) r n n' f f' d d' c c'
+rest_starts (got (described a ys ns ds cs) l) zs r n n' f f' d d' c c' h w = (h.0, h.1, w, h.2, h.3)
+rest_starts (stop k p) zs r n n' f f' d d' c c' h w = h
 
-got-floats : (g : Got (List ℤ)) (vs : List Float) (r : List ℕ) → floats g ≡ got vs r → (zs : List ℤ) × (g ≡ got zs r) × (map f32Of zs ≡ vs)
-got-floats (got zs l) vs r e = let p : l ≡ r = cc in (zs, rw p, cc)
-got-floats (stop c p) vs r e = let z : ◌≡◌ {A = ℕ} 0 1 = cc in absurd (omega arith)
+got_floats : (g : Got (List ℤ)) (vs : List Float) (r : List ℕ) → floats g ≡ got vs r → (zs : List ℤ) × (g ≡ got zs r) × (map f32_of zs ≡ vs)
+got_floats (got zs l) vs r e = let p : l ≡ r = cc in (zs, rw p, cc)
+got_floats (stop c p) vs r e = let z : ◌≡◌ {A = ℕ} 0 1 = cc in absurd (omega arith)
 
-stop-floats : (g : Got (List ℤ)) (c : Code) (p : ℕ) → floats g ≡ stop c p → g ≡ stop c p
-stop-floats (got zs l) c p e = cc
-stop-floats (stop d q) c p e = cc
+stop_floats : (g : Got (List ℤ)) (c : Code) (p : ℕ) → floats g ≡ stop c p → g ≡ stop c p
+stop_floats (got zs l) c p e = cc
+stop_floats (stop d q) c p e = cc
 
-starts-length : (first : Bool) (x y : ℤ) (n : ℕ) (zs : List ℤ) → length zs ≡ 2 * n → length (startsList first x y zs) ≡ 2 * n
-starts-length first x y zero [] h = refl
-starts-length first x y zero (a ∷ zs) h = absurd (omega arith)
-starts-length first x y (suc n) [] h = absurd (omega arith)
-starts-length first x y (suc n) (a ∷ []) h = absurd (omega arith)
-starts-length true x y (suc n) (a ∷ b ∷ zs) h = omega (arith, starts-length false a b n zs (omega arith))
-starts-length false x y (suc n) (a ∷ b ∷ zs) h = omega (arith, starts-length false a b n zs (omega arith))
+starts_length : (first : Bool) (x y : ℤ) (n : ℕ) (zs : List ℤ) → length zs ≡ 2 * n → length (starts_list first x y zs) ≡ 2 * n
+starts_length first x y zero [] h = refl
+starts_length first x y zero (a ∷ zs) h = absurd (omega arith)
+starts_length first x y (suc n) [] h = absurd (omega arith)
+starts_length first x y (suc n) (a ∷ []) h = absurd (omega arith)
+starts_length true x y (suc n) (a ∷ b ∷ zs) h = omega (arith, starts_length false a b n zs (omega arith))
+starts_length false x y (suc n) (a ∷ b ∷ zs) h = omega (arith, starts_length false a b n zs (omega arith))
 
 -- ---- the whole list
 
-pub list-stop : (g : Got Described) (k : Code) (p : ℕ) (n n' : List ℕ) (f f' : List Float) (d d' c c' : List ℤ) → g ≡ stop k p → ListLeft g (ReadAnswer.Refused k p) n n' f f' d d' c c'
-list-stop g k p n n' f f' d d' c c' e = subst (λ (x : Got Described). ListLeft x (ReadAnswer.Refused k p) n n' f f' d d' c c') (sym e) refl
+pub list_stop : (g : Got Described) (k : Code) (p : ℕ) (n n' : List ℕ) (f f' : List Float) (d d' c c' : List ℤ) → g ≡ stop k p → ListLeft g (ReadAnswer.Refused k p) n n' f f' d d' c c'
+list_stop g k p n n' f f' d d' c c' e = subst (λ (x : Got Described). ListLeft x (ReadAnswer.Refused k p) n n' f f' d d' c c') (sym e) refl
 
 module _ (limit : ℕ) (rooms : ListRooms) (l : List ℕ) where
   pub read_short : next_of l ≡ Next.End → read_of limit rooms l ≡ stop Code.Short 0
   unfolding read_of
-  read_short e = rw (next-not l e)
+  read_short e = rw (next_not l e)
 
-  pub read-splines : (v : ℕ) → next_of l ≡ Next.Value v → limit ≤ v → read_of limit rooms l ≡ stop Code.Splines 0
+  pub read_splines : (v : ℕ) → next_of l ≡ Next.Value v → limit ≤ v → read_of limit rooms l ≡ stop Code.Splines 0
   unfolding read_of
-  read-splines v e h = rw (next-is l v e, lt-ltb limit (v + 1) (omega arith))
+  read_splines v e h = rw (next_is l v e, lt-ltb limit (v + 1) (omega arith))
 
-  read-room : (v : ℕ) → next_of l ≡ Next.Value v → v < limit → lacking rooms (v + 1) ≡ true → read_of limit rooms l ≡ stop Code.Room 0
+  read_room : (v : ℕ) → next_of l ≡ Next.Value v → v < limit → lacking rooms (v + 1) ≡ true → read_of limit rooms l ≡ stop Code.Room 0
   unfolding read_of
-  read-room v e h w = rw (next-is l v e, le-ltb limit (v + 1) (omega arith), w)
+  read_room v e h w = rw (next_is l v e, le-ltb limit (v + 1) (omega arith), w)
 
-  pub no-counts : (v : ℕ) → next_of l ≡ Next.Value v → v < limit → rooms.counts < v + 1 → read_of limit rooms l ≡ stop Code.Room 0
-  no-counts v e h a = read-room v e h (rw (lt-ltb rooms.counts (v + 1) a))
+  pub no_counts : (v : ℕ) → next_of l ≡ Next.Value v → v < limit → rooms.counts < v + 1 → read_of limit rooms l ≡ stop Code.Room 0
+  no_counts v e h a = read_room v e h (rw (lt-ltb rooms.counts (v + 1) a))
 
-  pub no-starts : (v : ℕ) → next_of l ≡ Next.Value v → v < limit → v + 1 ≤ rooms.counts → rooms.starts < 2 * (v + 1) → read_of limit rooms l ≡ stop Code.Room 0
-  no-starts v e h a b = read-room v e h (rw (le-ltb rooms.counts (v + 1) a, lt-ltb rooms.starts (2 * (v + 1)) b))
+  pub no_starts : (v : ℕ) → next_of l ≡ Next.Value v → v < limit → v + 1 ≤ rooms.counts → rooms.starts < 2 * (v + 1) → read_of limit rooms l ≡ stop Code.Room 0
+  no_starts v e h a b = read_room v e h (rw (le-ltb rooms.counts (v + 1) a, lt-ltb rooms.starts (2 * (v + 1)) b))
 
-  pub no-coefficients : (v : ℕ) → next_of l ≡ Next.Value v → v < limit → v + 1 ≤ rooms.counts → 2 * (v + 1) ≤ rooms.starts
+  pub no_coefficients : (v : ℕ) → next_of l ≡ Next.Value v → v < limit → v + 1 ≤ rooms.counts → 2 * (v + 1) ≤ rooms.starts
       → rooms.coefficients < 128 * (v + 1) → read_of limit rooms l ≡ stop Code.Room 0
-  no-coefficients v e h a b c =
-      read-room v e h (rw (le-ltb rooms.counts (v + 1) a, le-ltb rooms.starts (2 * (v + 1)) b, lt-ltb rooms.coefficients (128 * (v + 1)) c))
+  no_coefficients v e h a b c =
+      read_room v e h (rw (le-ltb rooms.counts (v + 1) a, le-ltb rooms.starts (2 * (v + 1)) b, lt-ltb rooms.coefficients (128 * (v + 1)) c))
 
 read_at : (limit : ℕ) (rooms : ListRooms) (l : List ℕ) (v : ℕ) → next_of l ≡ Next.Value v → v < limit → v + 1 ≤ rooms.counts → 2 * (v + 1) ≤ rooms.starts
     → 128 * (v + 1) ≤ rooms.coefficients
-    → read_of limit rooms l ≡ and_then (startsIn (length l) true (pos 0) (pos 0) (v + 1) (drop 1 l)) (λ zs l1. afterStarts (length l) limit rooms.deltas (v + 1) zs l1)
+    → read_of limit rooms l ≡ and_then (starts_in (length l) true (pos 0) (pos 0) (v + 1) (drop 1 l)) (λ zs l1. after_starts (length l) limit rooms.deltas (v + 1) zs l1)
 unfolding read_of
 read_at limit rooms [] v e h a b c = cc
 read_at limit rooms (x ∷ l) v e h a b c =
@@ -183,37 +183,37 @@ read_at limit rooms (x ∷ l) v e h a b c =
 module _ (limit : ℕ) (rooms : ListRooms) (l rest : List ℕ) (v : ℕ) (e : next_of l ≡ Next.Value v) (h : v < limit) (a : v + 1 ≤ rooms.counts)
     (b : 2 * (v + 1) ≤ rooms.starts) (c : 128 * (v + 1) ≤ rooms.coefficients) (er : rest ≡ drop 1 l) (f f' : List Float) where
   abbrev Starts : Got (List ℤ)
-  Starts = startsIn (length l) true (pos 0) (pos 0) (v + 1) rest
+  Starts = starts_in (length l) true (pos 0) (pos 0) (v + 1) rest
 
-  at-starts : read_of limit rooms l ≡ and_then Starts (λ zs l1. afterStarts (length l) limit rooms.deltas (v + 1) zs l1)
-  at-starts = read_at limit rooms l v e h a b c ∙ rw (← er)
+  at_starts : read_of limit rooms l ≡ and_then Starts (λ zs l1. after_starts (length l) limit rooms.deltas (v + 1) zs l1)
+  at_starts = read_at limit rooms l v e h a b c ∙ rw (← er)
 
-  pub read-starts-stop : (k : Code) (p : ℕ) → Filled (floats Starts) (Step.Stop k p) f f' → read_of limit rooms l ≡ stop k p
-  read-starts-stop k p w = at-starts ∙ rw (stop-floats Starts k p (filled-stopped (floats Starts) f f' k p w))
+  pub read_starts_stop : (k : Code) (p : ℕ) → Filled (floats Starts) (Step.Stop k p) f f' → read_of limit rooms l ≡ stop k p
+  read_starts_stop k p w = at_starts ∙ rw (stop_floats Starts k p (filled_stopped (floats Starts) f f' k p w))
 
   module _ (w : Filled (floats Starts) Step.Done f f') where
     gave : Gave (floats Starts) f f'
-    gave = filled-gave (floats Starts) f f' w
+    gave = filled_gave (floats Starts) f f' w
 
-    read : (zs : List ℤ) × (Starts ≡ got zs gave.rest) × (map f32Of zs ≡ gave.vs)
-    read = got-floats Starts gave.vs gave.rest gave.is
+    read : (zs : List ℤ) × (Starts ≡ got zs gave.rest) × (map f32_of zs ≡ gave.vs)
+    read = got_floats Starts gave.vs gave.rest gave.is
 
     far : (gave.rest ≡ drop (2 * (v + 1)) rest) × (2 * (v + 1) ≤ length rest)
     far =
-        let x = starts-read (length l) true (pos 0) (pos 0) (v + 1) rest read.0 gave.rest read.1 in
-        went rest (startsList true (pos 0) (pos 0) read.0) gave.rest (2 * (v + 1)) x.0 (starts-length true (pos 0) (pos 0) (v + 1) read.0 x.1)
+        let x = starts_read (length l) true (pos 0) (pos 0) (v + 1) rest read.0 gave.rest read.1 in
+        went rest (starts_list true (pos 0) (pos 0) read.0) gave.rest (2 * (v + 1)) x.0 (starts_length true (pos 0) (pos 0) (v + 1) read.0 x.1)
 
-    pub read-long : 2 * (v + 1) ≤ length rest
-    read-long = far.1
+    pub read_long : 2 * (v + 1) ≤ length rest
+    read_long = far.1
 
-    pub read-after : (tail : List ℕ) → tail ≡ drop (2 * (v + 1)) rest → (r : ReadAnswer) (n n' : List ℕ) (d d' c c' : List ℤ)
-        → RestLeft (afterStarts (length l) limit rooms.deltas (v + 1) [] tail) r n n' d d' c c' → ListLeft (read_of limit rooms l) r n n' f f' d d' c c'
-    read-after tail et r n n' d d' c' c'' k =
+    pub read_after : (tail : List ℕ) → tail ≡ drop (2 * (v + 1)) rest → (r : ReadAnswer) (n n' : List ℕ) (d d' c c' : List ℤ)
+        → RestLeft (after_starts (length l) limit rooms.deltas (v + 1) [] tail) r n n' d d' c c' → ListLeft (read_of limit rooms l) r n n' f f' d d' c c'
+    read_after tail et r n n' d d' c' c'' k =
         let x : gave.rest ≡ tail = far.0 ∙ sym et in
-        let y : read_of limit rooms l ≡ withStarts read.0 (afterStarts (length l) limit rooms.deltas (v + 1) [] tail)
-        = at-starts ∙ rw (read.1, x) (starts-aside (length l) limit rooms.deltas (v + 1) read.0 tail) in
-        let z : Front (map f32Of read.0) f f' = gave.left ∙ rw (← read.2) in
+        let y : read_of limit rooms l ≡ with_starts read.0 (after_starts (length l) limit rooms.deltas (v + 1) [] tail)
+        = at_starts ∙ rw (read.1, x) (starts_aside (length l) limit rooms.deltas (v + 1) read.0 tail) in
+        let z : Front (map f32_of read.0) f f' = gave.left ∙ rw (← read.2) in
         subst (λ (q : Got Described). ListLeft q r n n' f f' d d' c' c'') (sym y)
-        (rest-starts (afterStarts (length l) limit rooms.deltas (v + 1) [] tail) read.0 r n n' f f' d d' c' c'' k z)
+        (rest_starts (after_starts (length l) limit rooms.deltas (v + 1) [] tail) read.0 r n n' f f' d d' c' c'' k z)
 
 -- Assumes nothing.

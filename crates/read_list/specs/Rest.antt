@@ -2,7 +2,7 @@
 use Rattle.std.specs.Prelude.{◌≡◌, List, map, ℕ, length, ℤ, Float}
 use Rattle.shape.specs.Shape.{points_of}
 use Rattle.list.specs.List.{Got, got, stop, ListRooms, Described, described}
-use Rattle.list.specs.Steps.{f32Of}
+use Rattle.list.specs.Steps.{f32_of}
 use Rattle.read_steps.specs.Steps.{Front}
 use Rattle.read_list.specs.declared.ReadAnswer.{ReadAnswer}
 
@@ -19,5 +19,5 @@ RestLeft (stop k p) r n n' d d' c c' = r ≡ ReadAnswer.Refused k p
 -- the whole list
 abbrev pub ListLeft : Got Described → ReadAnswer → List ℕ → List ℕ → List Float → List Float → List ℤ → List ℤ → List ℤ → List ℤ → Type 0
 ListLeft (got (described a zs ns ds cs) l) r n n' s s' d d' c c' =
-    (r ≡ ReadAnswer.Done (length ns) (points_of ns) a) × Front ns n n' × Front (map f32Of zs) s s' × Front ds d d' × Front cs c c'
+    (r ≡ ReadAnswer.Done (length ns) (points_of ns) a) × Front ns n n' × Front (map f32_of zs) s s' × Front ds d d' × Front cs c c'
 ListLeft (stop k p) r n n' s s' d d' c c' = r ≡ ReadAnswer.Refused k p

@@ -2,7 +2,7 @@
 #![tactic(auto)]
 
 ghost use Rattle.std.specs.Prelude.{[], ◌*◌, ◌≤◌, length};
-ghost use Rattle.list.specs.List.{afterStarts, read_of};
+ghost use Rattle.list.specs.List.{after_starts, read_of};
 ghost use Rattle.read_list.specs.Rest.{rooms_of, RestLeft, ListLeft};
 
 use codes::Code;
@@ -28,7 +28,7 @@ fn read_rest(
     coefficients: &mut [i32],
 ) -> ReadAnswer
     requires { (s ≤ length counts.old) × (128 * s ≤ length coefficients.old) × (length list.now ≤ total) }
-    ensures { RestLeft (afterStarts total limit (length deltas.old) s [] list.now) result counts.old counts.new deltas.old deltas.new coefficients.old coefficients.new }
+    ensures { RestLeft (after_starts total limit (length deltas.old) s [] list.now) result counts.old counts.new deltas.old deltas.new coefficients.old coefficients.new }
 {
     let Next::Value(u) = head(list) else {
         return ReadAnswer::Refused(Code::Short, total);

@@ -12,15 +12,15 @@ use borrow.Author.Tests.{lt-ltb, le-ltb}
 use Rattle.codes.specs.declared.Code.{Code}
 use Rattle.list.specs.declared.Next.{Next}
 use Rattle.shape.specs.Shape.{points_of}
-use Rattle.list.specs.List.{packSigned, Got, got, stop, Spline, spline, Splines, splines, and_then, ontoSplines, deltasIn, coefficientsIn, splineIn, splinesOf}
+use Rattle.list.specs.List.{pack_signed, Got, got, stop, Spline, spline, Splines, splines, and_then, onto_splines, deltas_in, coefficients_in, spline_in, splines_of}
 use Rattle.list.specs.Steps.{next_of}
-use Rattle.list.proofs.Buffers.{part-tail, next-is, next-not}
-use Rattle.list.proofs.Accepted.{deltas-read, SplineRead, spline-read}
+use Rattle.list.proofs.Buffers.{part_tail, next_is, next_not}
+use Rattle.list.proofs.Accepted.{deltas_read, SplineRead, spline_read}
 use Rattle.read_steps.specs.declared.Step.{Step}
 use Rattle.read_splines.specs.declared.Points.{Points}
 use Rattle.read_steps.specs.Steps.{Front, Filled}
 use Rattle.read_splines.specs.Splines.{SplineLeft, SplinesLeft}
-use Rattle.read_steps.proofs.Turns.{take-one, keep_one}
+use Rattle.read_steps.proofs.Turns.{take_one, keep_one}
 
 -- ---- what a step gave
 
@@ -31,76 +31,76 @@ pub record Gave {A : Type 0} (g : Got (List A)) (old new : List A) : Type 0 wher
   pub left : Front vs old new
 
 module _ {A : Type 0} where
-  pub filled-gave : (g : Got (List A)) (old new : List A) → Filled g Step.Done old new → Gave g old new
-  filled-gave (got vs l) old new h = record { vs = vs; rest = l; is = refl; left = h.1 }
-  filled-gave (stop c p) old new h = let z : ◌≡◌ {A = ℕ} 0 1 = cc in absurd (omega arith)
+  pub filled_gave : (g : Got (List A)) (old new : List A) → Filled g Step.Done old new → Gave g old new
+  filled_gave (got vs l) old new h = record { vs = vs; rest = l; is = refl; left = h.1 }
+  filled_gave (stop c p) old new h = let z : ◌≡◌ {A = ℕ} 0 1 = cc in absurd (omega arith)
 
-  pub filled-stopped : (g : Got (List A)) (old new : List A) (c : Code) (p : ℕ) → Filled g (Step.Stop c p) old new → g ≡ stop c p
-  filled-stopped (got vs l) old new c p h = cc h.0
-  filled-stopped (stop d q) old new c p h = cc
+  pub filled_stopped : (g : Got (List A)) (old new : List A) (c : Code) (p : ℕ) → Filled g (Step.Stop c p) old new → g ≡ stop c p
+  filled_stopped (got vs l) old new c p h = cc h.0
+  filled_stopped (stop d q) old new c p h = cc
 
 -- a list that begins with n values goes on after them
 pub went : (l w r : List ℕ) (n : ℕ) → l ≡ w ++ r → length w ≡ n → (r ≡ drop n l) × (n ≤ length l)
 went l w r n e h = (sym (ap (drop n) e ∙ drop_at w r n h), omega (arith, ap length e ∙ length-append w r))
 
-pub packed-went : (l : List ℕ) (vs : List ℤ) (r : List ℕ) (n : ℕ) → l ≡ map packSigned vs ++ r → length vs ≡ n → (r ≡ drop n l) × (n ≤ length l)
-packed-went l vs r n e h = went l (map packSigned vs) r n e (length-map vs packSigned ∙ h)
+pub packed_went : (l : List ℕ) (vs : List ℤ) (r : List ℕ) (n : ℕ) → l ≡ map pack_signed vs ++ r → length vs ≡ n → (r ≡ drop n l) × (n ≤ length l)
+packed_went l vs r n e h = went l (map pack_signed vs) r n e (length-map vs pack_signed ∙ h)
 
 -- ---- one spline
 
-pub spline-stop : (g : Got Spline) (k : Code) (p : ℕ) (d d' c c' : List ℤ) → g ≡ stop k p → SplineLeft g (Points.Stop k p) d d' c c'
-spline-stop g k p d d' c c' e = subst (λ (x : Got Spline). SplineLeft x (Points.Stop k p) d d' c c') (sym e) refl
+pub spline_stop : (g : Got Spline) (k : Code) (p : ℕ) (d d' c c' : List ℤ) → g ≡ stop k p → SplineLeft g (Points.Stop k p) d d' c c'
+spline_stop g k p d d' c c' e = subst (λ (x : Got Spline). SplineLeft x (Points.Stop k p) d d' c c') (sym e) refl
 
 module _ (t left room : ℕ) (l : List ℕ) where
-  pub spline-short : next_of l ≡ Next.End → splineIn t left room l ≡ stop Code.Short t
-  unfolding splineIn
-  spline-short e = rw (next-not l e)
+  pub spline_short : next_of l ≡ Next.End → spline_in t left room l ≡ stop Code.Short t
+  unfolding spline_in
+  spline_short e = rw (next_not l e)
 
-  pub spline-over : (n : ℕ) → next_of l ≡ Next.Value n → left < n → splineIn t left room l ≡ stop Code.Points (t - length l)
-  unfolding splineIn
-  spline-over n e h = rw (next-is l n e, lt-ltb left n h)
+  pub spline_over : (n : ℕ) → next_of l ≡ Next.Value n → left < n → spline_in t left room l ≡ stop Code.Points (t - length l)
+  unfolding spline_in
+  spline_over n e h = rw (next_is l n e, lt-ltb left n h)
 
-  pub spline-room : (n : ℕ) → next_of l ≡ Next.Value n → n ≤ left → room < 2 * n → splineIn t left room l ≡ stop Code.Room (t - length l)
-  unfolding splineIn
-  spline-room n e h g = rw (next-is l n e, le-ltb left n h, lt-ltb room (2 * n) g)
+  pub spline_room : (n : ℕ) → next_of l ≡ Next.Value n → n ≤ left → room < 2 * n → spline_in t left room l ≡ stop Code.Room (t - length l)
+  unfolding spline_in
+  spline_room n e h g = rw (next_is l n e, le-ltb left n h, lt-ltb room (2 * n) g)
 
-spline-at : (t left room : ℕ) (l : List ℕ) (n : ℕ) → next_of l ≡ Next.Value n → n ≤ left → 2 * n ≤ room
-    → splineIn t left room l ≡ and_then (deltasIn t n (drop 1 l)) (λ ds l1. and_then (coefficientsIn t 128 l1) (λ cs l2. got (spline n ds cs) l2))
-unfolding splineIn
-spline-at t left room [] n e h g = cc
-spline-at t left room (a ∷ l) n e h g =
+spline_at : (t left room : ℕ) (l : List ℕ) (n : ℕ) → next_of l ≡ Next.Value n → n ≤ left → 2 * n ≤ room
+    → spline_in t left room l ≡ and_then (deltas_in t n (drop 1 l)) (λ ds l1. and_then (coefficients_in t 128 l1) (λ cs l2. got (spline n ds cs) l2))
+unfolding spline_in
+spline_at t left room [] n e h g = cc
+spline_at t left room (a ∷ l) n e h g =
     let p : a ≡ n = cc in
     rw (p, le-ltb left n h, le-ltb room (2 * n) g)
 
 -- its double deltas have been read, from the part after its count
 module _ (t left room : ℕ) (l after : List ℕ) (n : ℕ) (e : next_of l ≡ Next.Value n) (h : n ≤ left) (g : 2 * n ≤ room) (ea : after ≡ drop 1 l) (d d' : List ℤ) where
-  pub spline-deltas-stop : (k : Code) (p : ℕ) → Filled (deltasIn t n after) (Step.Stop k p) d d' → splineIn t left room l ≡ stop k p
-  spline-deltas-stop k p f = spline-at t left room l n e h g ∙ rw (← ea, filled-stopped (deltasIn t n after) d d' k p f)
+  pub spline_deltas_stop : (k : Code) (p : ℕ) → Filled (deltas_in t n after) (Step.Stop k p) d d' → spline_in t left room l ≡ stop k p
+  spline_deltas_stop k p f = spline_at t left room l n e h g ∙ rw (← ea, filled_stopped (deltas_in t n after) d d' k p f)
 
-  module _ (f : Filled (deltasIn t n after) Step.Done d d') where
-    gave : Gave (deltasIn t n after) d d'
-    gave = filled-gave (deltasIn t n after) d d' f
+  module _ (f : Filled (deltas_in t n after) Step.Done d d') where
+    gave : Gave (deltas_in t n after) d d'
+    gave = filled_gave (deltas_in t n after) d d' f
 
     far : (gave.rest ≡ drop (2 * n) after) × (2 * n ≤ length after)
     far =
-        let x = deltas-read t n after gave.vs gave.rest gave.is in
-        packed-went after gave.vs gave.rest (2 * n) x.0 x.1
+        let x = deltas_read t n after gave.vs gave.rest gave.is in
+        packed_went after gave.vs gave.rest (2 * n) x.0 x.1
 
-    pub spline-after : 2 * n ≤ length after
-    spline-after = far.1
+    pub spline_after : 2 * n ≤ length after
+    spline_after = far.1
 
     -- and its coefficients from the part after those
     module _ (tail : List ℕ) (et : tail ≡ drop (2 * n) after) (c c' : List ℤ) where
-      at_tail : splineIn t left room l ≡ and_then (coefficientsIn t 128 tail) (λ cs l2. got (spline n gave.vs cs) l2)
-      at_tail = spline-at t left room l n e h g ∙ rw (← ea, gave.is, far.0, ← et)
+      at_tail : spline_in t left room l ≡ and_then (coefficients_in t 128 tail) (λ cs l2. got (spline n gave.vs cs) l2)
+      at_tail = spline_at t left room l n e h g ∙ rw (← ea, gave.is, far.0, ← et)
 
-      pub spline-coefficients-stop : (k : Code) (p : ℕ) → Filled (coefficientsIn t 128 tail) (Step.Stop k p) c c' → splineIn t left room l ≡ stop k p
-      spline-coefficients-stop k p b = at_tail ∙ rw (filled-stopped (coefficientsIn t 128 tail) c c' k p b)
+      pub spline_coefficients_stop : (k : Code) (p : ℕ) → Filled (coefficients_in t 128 tail) (Step.Stop k p) c c' → spline_in t left room l ≡ stop k p
+      spline_coefficients_stop k p b = at_tail ∙ rw (filled_stopped (coefficients_in t 128 tail) c c' k p b)
 
-      pub spline-done : Filled (coefficientsIn t 128 tail) Step.Done c c' → SplineLeft (splineIn t left room l) (Points.Count n) d d' c c'
-      spline-done b =
-          let k = filled-gave (coefficientsIn t 128 tail) c c' b in
-          let is : splineIn t left room l ≡ got (spline n gave.vs k.vs) k.rest
+      pub spline_done : Filled (coefficients_in t 128 tail) Step.Done c c' → SplineLeft (spline_in t left room l) (Points.Count n) d d' c c'
+      spline_done b =
+          let k = filled_gave (coefficients_in t 128 tail) c c' b in
+          let is : spline_in t left room l ≡ got (spline n gave.vs k.vs) k.rest
           = at_tail ∙ ap (λ (x : Got (List ℤ)). and_then x (λ cs l2. got (spline n gave.vs cs) l2)) k.is in
           subst (λ (x : Got Spline). SplineLeft x (Points.Count n) d d' c c') (sym is) (refl, gave.left, k.left)
 
@@ -109,29 +109,29 @@ module _ (t left room : ℕ) (l after : List ℕ) (n : ℕ) (e : next_of l ≡ N
 pub record Took (t left room : ℕ) (l : List ℕ) (n : ℕ) (d d' c c' : List ℤ) : Type 0 where
   pub ds : List ℤ
   pub cs : List ℤ
-  pub is : splineIn t left room l ≡ got (spline n ds cs) (drop (2 * n + 129) l)
+  pub is : spline_in t left room l ≡ got (spline n ds cs) (drop (2 * n + 129) l)
   pub long : 2 * n + 129 ≤ length l
   pub under : n ≤ left
   pub fits : 2 * n ≤ room
   pub deltas : length ds ≡ 2 * n
   pub coefficients : length cs ≡ 128
-  pub newD : Front ds d d'
+  pub new_d : Front ds d d'
   pub new_c : Front cs c c'
 
-spline-went : (t left room : ℕ) (l : List ℕ) (n : ℕ) (ds cs : List ℤ) (r : List ℕ) → SplineRead t left room l n ds cs r
+spline_went : (t left room : ℕ) (l : List ℕ) (n : ℕ) (ds cs : List ℤ) (r : List ℕ) → SplineRead t left room l n ds cs r
     → (r ≡ drop (2 * n + 129) l) × (2 * n + 129 ≤ length l)
-spline-went t left room l n ds cs r v =
-    went l (n ∷ (map packSigned ds ++ map packSigned cs)) r (2 * n + 129)
-    (v.is ∙ ap (λ (m : List ℕ). n ∷ m) (sym (append_assoc (map packSigned ds) (map packSigned cs) r)))
-    (ap suc (length-append (map packSigned ds) (map packSigned cs)) ∙ omega (arith, length-map ds packSigned, length-map cs packSigned, v.deltas, v.coefficients))
+spline_went t left room l n ds cs r v =
+    went l (n ∷ (map pack_signed ds ++ map pack_signed cs)) r (2 * n + 129)
+    (v.is ∙ ap (λ (m : List ℕ). n ∷ m) (sym (append_assoc (map pack_signed ds) (map pack_signed cs) r)))
+    (ap suc (length-append (map pack_signed ds) (map pack_signed cs)) ∙ omega (arith, length-map ds pack_signed, length-map cs pack_signed, v.deltas, v.coefficients))
 
-pub took : (t left room : ℕ) (l : List ℕ) (n : ℕ) (d d' c c' : List ℤ) → SplineLeft (splineIn t left room l) (Points.Count n) d d' c c' → Took t left room l n d d' c c'
-took t left room l n d d' c c' h = go (splineIn t left room l) refl h
+pub took : (t left room : ℕ) (l : List ℕ) (n : ℕ) (d d' c c' : List ℤ) → SplineLeft (spline_in t left room l) (Points.Count n) d d' c c' → Took t left room l n d d' c c'
+took t left room l n d d' c c' h = go (spline_in t left room l) refl h
   where
-    whole : (ds cs : List ℤ) (r : List ℕ) → splineIn t left room l ≡ got (spline n ds cs) r → Front ds d d' → Front cs c c' → Took t left room l n d d' c c'
+    whole : (ds cs : List ℤ) (r : List ℕ) → spline_in t left room l ≡ got (spline n ds cs) r → Front ds d d' → Front cs c c' → Took t left room l n d d' c c'
     whole ds cs r e x y =
-        let v = spline-read t left room l n ds cs r e in
-        let w = spline-went t left room l n ds cs r v in
+        let v = spline_read t left room l n ds cs r e in
+        let w = spline_went t left room l n ds cs r v in
         record {
           ds = ds;
           cs = cs;
@@ -141,75 +141,75 @@ took t left room l n d d' c c' h = go (splineIn t left room l) refl h
           fits = v.fits;
           deltas = v.deltas;
           coefficients = v.coefficients;
-          newD = x;
+          new_d = x;
           new_c = y;
         }
 
-    go : (g : Got Spline) → splineIn t left room l ≡ g → SplineLeft g (Points.Count n) d d' c c' → Took t left room l n d d' c c'
+    go : (g : Got Spline) → spline_in t left room l ≡ g → SplineLeft g (Points.Count n) d d' c c' → Took t left room l n d d' c c'
     go (got (spline m ds cs) r) e h =
         let p : m ≡ n = cc h.0 in
         whole ds cs r (e ∙ rw p) h.1 h.2
     go (stop k p) e h = let z : ◌≡◌ {A = ℕ} 0 1 = cc in absurd (omega arith)
 
-spline-stopped : (g : Got Spline) (k : Code) (p : ℕ) (d d' c c' : List ℤ) → SplineLeft g (Points.Stop k p) d d' c c' → g ≡ stop k p
-spline-stopped (got (spline m ds cs) r) k p d d' c c' h = cc h.0
-spline-stopped (stop j q) k p d d' c c' h = cc
+spline_stopped : (g : Got Spline) (k : Code) (p : ℕ) (d d' c c' : List ℤ) → SplineLeft g (Points.Stop k p) d d' c c' → g ≡ stop k p
+spline_stopped (got (spline m ds cs) r) k p d d' c c' h = cc h.0
+spline_stopped (stop j q) k p d d' c c' h = cc
 
 -- ---- all splines
 
-pub splines-one : (t left room m : ℕ) (l : List ℕ) (n : ℕ) (ds cs : List ℤ) (r : List ℕ) → 0 < m → splineIn t left room l ≡ got (spline n ds cs) r
-    → splinesOf t left room m l ≡ ontoSplines (spline n ds cs) (splinesOf t (left - n) (room - 2 * n) (m - 1) r)
-unfolding splinesOf
-splines-one t left room zero l n ds cs r h e = absurd (not-suc-le-zero h)
-splines-one t left room (suc m) l n ds cs r h e =
+pub splines_one : (t left room m : ℕ) (l : List ℕ) (n : ℕ) (ds cs : List ℤ) (r : List ℕ) → 0 < m → spline_in t left room l ≡ got (spline n ds cs) r
+    → splines_of t left room m l ≡ onto_splines (spline n ds cs) (splines_of t (left - n) (room - 2 * n) (m - 1) r)
+unfolding splines_of
+splines_one t left room zero l n ds cs r h e = absurd (not-suc-le-zero h)
+splines_one t left room (suc m) l n ds cs r h e =
     let s : suc m - 1 ≡ m = omega arith in
     rw (e, s)
 
-splines-stop : (t left room m : ℕ) (l : List ℕ) (k : Code) (p : ℕ) → 0 < m → splineIn t left room l ≡ stop k p → splinesOf t left room m l ≡ stop k p
-unfolding splinesOf
-splines-stop t left room zero l k p h e = absurd (not-suc-le-zero h)
-splines-stop t left room (suc m) l k p h e = rw e
+splines_stop : (t left room m : ℕ) (l : List ℕ) (k : Code) (p : ℕ) → 0 < m → spline_in t left room l ≡ stop k p → splines_of t left room m l ≡ stop k p
+unfolding splines_of
+splines_stop t left room zero l k p h e = absurd (not-suc-le-zero h)
+splines_stop t left room (suc m) l k p h e = rw e
 
 -- splines that were read before others
 abbrev pub before : List ℕ → List ℤ → List ℤ → Got Splines → Got Splines
 before ms es bs (got (splines ns ds cs) l) = got (splines (ms ++ ns) (es ++ ds) (bs ++ cs)) l
 before ms es bs (stop k p) = stop k p
 
-before-none : (g : Got Splines) → g ≡ before [] [] [] g
-before-none (got (splines ns ds cs) l) = refl
-before-none (stop k p) = refl
+before_none : (g : Got Splines) → g ≡ before [] [] [] g
+before_none (got (splines ns ds cs) l) = refl
+before_none (stop k p) = refl
 
-before-one : (ms : List ℕ) (n : ℕ) (es ds bs cs : List ℤ) (g : Got Splines)
-    → before ms es bs (ontoSplines (spline n ds cs) g) ≡ before (ms ++ (n ∷ [])) (es ++ ds) (bs ++ cs) g
-before-one ms n es ds bs cs (got (splines a b c) l) = rw (append_assoc ms (n ∷ []) a, append_assoc es ds b, append_assoc bs cs c)
-before-one ms n es ds bs cs (stop k p) = refl
+before_one : (ms : List ℕ) (n : ℕ) (es ds bs cs : List ℤ) (g : Got Splines)
+    → before ms es bs (onto_splines (spline n ds cs) g) ≡ before (ms ++ (n ∷ [])) (es ++ ds) (bs ++ cs) g
+before_one ms n es ds bs cs (got (splines a b c) l) = rw (append_assoc ms (n ∷ []) a, append_assoc es ds b, append_assoc bs cs c)
+before_one ms n es ds bs cs (stop k p) = refl
 
-before-end : (ms : List ℕ) (es bs : List ℤ) (t left room : ℕ) (l : List ℕ) → before ms es bs (splinesOf t left room 0 l) ≡ got (splines ms es bs) l
-unfolding splinesOf
-before-end ms es bs t left room l = rw (append-nil ms, append-nil es, append-nil bs)
+before_end : (ms : List ℕ) (es bs : List ℤ) (t left room : ℕ) (l : List ℕ) → before ms es bs (splines_of t left room 0 l) ≡ got (splines ms es bs) l
+unfolding splines_of
+before_end ms es bs t left room l = rw (append-nil ms, append-nil es, append-nil bs)
 
-sum-snoc : (ms : List ℕ) (n : ℕ) → points_of (ms ++ (n ∷ [])) ≡ points_of ms + n
-sum-snoc [] n = omega arith
-sum-snoc (m ∷ ms) n = omega (arith, sum-snoc ms n)
+sum_snoc : (ms : List ℕ) (n : ℕ) → points_of (ms ++ (n ∷ [])) ≡ points_of ms + n
+sum_snoc [] n = omega arith
+sum_snoc (m ∷ ms) n = omega (arith, sum_snoc ms n)
 
 -- a part of a buffer has come back with values at its front
 module _ {A : Type 0} (D : List A) (d : ℕ) (vs p' : List A) (h : d + length vs ≤ length D) (e : Front vs (take (length D - d) (drop d D)) p') where
   spliced : take d D ++ (p' ++ drop (length D - d) (drop d D)) ≡ (take d D ++ vs) ++ drop (d + length vs) D
   spliced =
-      rw (e, part-tail d D, drop-drop (length D - d) d D, drop-drop (length vs) d D, drop_of_length-le D {i = d + (length D - d)} (omega arith), append-nil)
+      rw (e, part_tail d D, drop-drop (length D - d) d D, drop-drop (length vs) d D, drop_of_length-le D {i = d + (length D - d)} (omega arith), append-nil)
       (sym (append_assoc (take d D) vs (drop (d + length vs) D)))
 
   seam : length (take d D ++ vs) ≡ d + length vs
   seam = length-append (take d D) vs ∙ rw (length-take-le d D (omega arith))
 
-  splice-take : take (d + length vs) (take d D ++ (p' ++ drop (length D - d) (drop d D))) ≡ take d D ++ vs
-  splice-take = rw spliced (take_at (take d D ++ vs) (drop (d + length vs) D) (d + length vs) seam)
+  splice_take : take (d + length vs) (take d D ++ (p' ++ drop (length D - d) (drop d D))) ≡ take d D ++ vs
+  splice_take = rw spliced (take_at (take d D ++ vs) (drop (d + length vs) D) (d + length vs) seam)
 
-  splice-drop : drop (d + length vs) (take d D ++ (p' ++ drop (length D - d) (drop d D))) ≡ drop (d + length vs) D
-  splice-drop = rw spliced (drop_at (take d D ++ vs) (drop (d + length vs) D) (d + length vs) seam)
+  splice_drop : drop (d + length vs) (take d D ++ (p' ++ drop (length D - d) (drop d D))) ≡ drop (d + length vs) D
+  splice_drop = rw spliced (drop_at (take d D ++ vs) (drop (d + length vs) D) (d + length vs) seam)
 
-  splice-length : length (take d D ++ (p' ++ drop (length D - d) (drop d D))) ≡ length D
-  splice-length = rw spliced (length-append (take d D ++ vs) (drop (d + length vs) D) ∙ rw (seam, length-drop (d + length vs) D) (omega arith))
+  splice_length : length (take d D ++ (p' ++ drop (length D - d) (drop d D))) ≡ length D
+  splice_length = rw spliced (length-append (take d D ++ vs) (drop (d + length vs) D) ∙ rw (seam, length-drop (d + length vs) D) (omega arith))
 
 kept : {A : Type 0} (l old : List A) (i k : ℕ) (new : List A) → drop (i + k) new ≡ drop (i + k) l → drop i l ≡ drop i old → drop (i + k) new ≡ drop (i + k) old
 kept l old i k new x y = x ∙ sym (drop-drop k i l) ∙ ap (drop k) y ∙ drop-drop k i old
@@ -223,14 +223,14 @@ pub record Going (list : List ℕ) (total limit s : ℕ) (N₀ : List ℕ) (D₀
   pub cells : k ≡ 128 * i
   pub under : left + points_of (take i N) ≡ limit
   pub in_d : d ≤ length D
-  pub lenN : length N ≡ length N₀
-  pub lenD : length D ≡ length D₀
-  pub lenC : length C ≡ length C₀
-  pub lenR : length rest ≤ total
-  pub keepN : drop i N ≡ drop i N₀
+  pub len_n : length N ≡ length N₀
+  pub len_d : length D ≡ length D₀
+  pub len_c : length C ≡ length C₀
+  pub len_r : length rest ≤ total
+  pub keep_n : drop i N ≡ drop i N₀
   pub keep_d : drop d D ≡ drop d D₀
-  pub keepC : drop k C ≡ drop k C₀
-  pub so : splinesOf total limit (length D₀) s list ≡ before (take i N) (take d D) (take k C) (splinesOf total left (length D - d) (s - i) rest)
+  pub keep_c : drop k C ≡ drop k C₀
+  pub so : splines_of total limit (length D₀) s list ≡ before (take i N) (take d D) (take k C) (splines_of total left (length D - d) (s - i) rest)
 
 module _ (list : List ℕ) (total limit s : ℕ) (N₀ : List ℕ) (D₀ C₀ : List ℤ) where
   pub going_start : length list ≤ total → Going list total limit s N₀ D₀ C₀ N₀ D₀ C₀ list limit 0 0 0
@@ -239,51 +239,51 @@ module _ (list : List ℕ) (total limit s : ℕ) (N₀ : List ℕ) (D₀ C₀ : 
     cells = refl;
     under = omega arith;
     in_d = omega arith;
-    lenN = refl;
-    lenD = refl;
-    lenC = refl;
-    lenR = h;
-    keepN = refl;
+    len_n = refl;
+    len_d = refl;
+    len_c = refl;
+    len_r = h;
+    keep_n = refl;
     keep_d = refl;
-    keepC = refl;
-    so = rw (sub-zero (length D₀), sub-zero s) (before-none (splinesOf total limit (length D₀) s list));
+    keep_c = refl;
+    so = rw (sub-zero (length D₀), sub-zero s) (before_none (splines_of total limit (length D₀) s list));
   }
 
   module _ (N : List ℕ) (D C : List ℤ) (rest : List ℕ) (left i d k : ℕ) (now : Going list total limit s N₀ D₀ C₀ N D C rest left i d k) where
     pub going_done : s ≤ i → s ≤ length N₀ → 128 * s ≤ length C₀
-        → SplinesLeft (splinesOf total limit (length D₀) s list) (Points.Count (limit - left)) N₀ N D₀ D C₀ C
+        → SplinesLeft (splines_of total limit (length D₀) s list) (Points.Count (limit - left)) N₀ N D₀ D C₀ C
     going_done h roomN roomC =
         let z : s - i ≡ 0 = omega arith in
-        let f : splinesOf total limit (length D₀) s list ≡ got (splines (take i N) (take d D) (take k C)) rest
-        = now.so ∙ rw z (before-end (take i N) (take d D) (take k C) total left (length D - d) rest) in
-        let inN : i ≤ length N = omega (arith, now.turns, now.lenN) in
-        let in_c : k ≤ length C = omega (arith, now.turns, now.lenC, now.cells) in
+        let f : splines_of total limit (length D₀) s list ≡ got (splines (take i N) (take d D) (take k C)) rest
+        = now.so ∙ rw z (before_end (take i N) (take d D) (take k C) total left (length D - d) rest) in
+        let inN : i ≤ length N = omega (arith, now.turns, now.len_n) in
+        let in_c : k ≤ length C = omega (arith, now.turns, now.len_c, now.cells) in
         subst (λ (x : Got Splines). SplinesLeft x (Points.Count (limit - left)) N₀ N D₀ D C₀ C) (sym f)
-        (ap Points.Count (omega (arith, now.under)), front N N₀ i inN now.keepN, front D D₀ d now.in_d now.keep_d, front C C₀ k in_c now.keepC)
+        (ap Points.Count (omega (arith, now.under)), front N N₀ i inN now.keep_n, front D D₀ d now.in_d now.keep_d, front C C₀ k in_c now.keep_c)
 
     module _ (more : i < s) (roomC : 128 * s ≤ length C₀) (roomN : s ≤ length N₀) (d' c' : List ℤ) where
       abbrev Left : Points → Type 0
-      Left r = SplineLeft (splineIn total left (length (take (length D - d) (drop d D))) rest) r (take (length D - d) (drop d D)) d' (take (length C - k) (drop k C)) c'
+      Left r = SplineLeft (spline_in total left (length (take (length D - d) (drop d D))) rest) r (take (length D - d) (drop d D)) d' (take (length C - k) (drop k C)) c'
 
-      pub going-stop : (c : Code) (p : ℕ) → Left (Points.Stop c p)
-          → (N' : List ℕ) (D' C' : List ℤ) → SplinesLeft (splinesOf total limit (length D₀) s list) (Points.Stop c p) N₀ N' D₀ D' C₀ C'
-      going-stop c p h N' D' C' =
-          let room : length (take (length D - d) (drop d D)) ≡ length D - d = rw (part-tail d D) (length-drop d D) in
-          let e = spline-stopped (splineIn total left (length (take (length D - d) (drop d D))) rest) c p (take (length D - d) (drop d D)) d' (take (length C - k) (drop k C)) c' h in
-          let f : splinesOf total limit (length D₀) s list ≡ stop c p
-          = now.so ∙ rw (splines-stop total left (length D - d) (s - i) rest c p (omega arith) (rw room at e)) in
+      pub going_stop : (c : Code) (p : ℕ) → Left (Points.Stop c p)
+          → (N' : List ℕ) (D' C' : List ℤ) → SplinesLeft (splines_of total limit (length D₀) s list) (Points.Stop c p) N₀ N' D₀ D' C₀ C'
+      going_stop c p h N' D' C' =
+          let room : length (take (length D - d) (drop d D)) ≡ length D - d = rw (part_tail d D) (length-drop d D) in
+          let e = spline_stopped (spline_in total left (length (take (length D - d) (drop d D))) rest) c p (take (length D - d) (drop d D)) d' (take (length C - k) (drop k C)) c' h in
+          let f : splines_of total limit (length D₀) s list ≡ stop c p
+          = now.so ∙ rw (splines_stop total left (length D - d) (s - i) rest c p (omega arith) (rw room at e)) in
           subst (λ (x : Got Splines). SplinesLeft x (Points.Stop c p) N₀ N' D₀ D' C₀ C') (sym f) refl
 
       module _ (n : ℕ) (h : Left (Points.Count n)) where
         it : Took total left (length (take (length D - d) (drop d D))) rest n (take (length D - d) (drop d D)) d' (take (length C - k) (drop k C)) c'
         it = took total left (length (take (length D - d) (drop d D))) rest n (take (length D - d) (drop d D)) d' (take (length C - k) (drop k C)) c' h
 
-        step : (ds cs : List ℤ) → splineIn total left (length D - d) rest ≡ got (spline n ds cs) (drop (2 * n + 129) rest)
+        step : (ds cs : List ℤ) → spline_in total left (length D - d) rest ≡ got (spline n ds cs) (drop (2 * n + 129) rest)
             → (D' C' : List ℤ) (N' : List ℕ) → take (d + 2 * n) D' ≡ take d D ++ ds → take (k + 128) C' ≡ take k C ++ cs → take (i + 1) N' ≡ take i N ++ (n ∷ [])
             → length D' ≡ length D
-            → before (take i N) (take d D) (take k C) (splinesOf total left (length D - d) (s - i) rest)
+            → before (take i N) (take d D) (take k C) (splines_of total left (length D - d) (s - i) rest)
             ≡ before (take (i + 1) N') (take (d + 2 * n) D') (take (k + 128) C')
-            (splinesOf total (left - n) (length D' - (d + 2 * n)) (s - (i + 1)) (take (length rest - (2 * n + 129)) (drop (2 * n + 129) rest)))
+            (splines_of total (left - n) (length D' - (d + 2 * n)) (s - (i + 1)) (take (length rest - (2 * n + 129)) (drop (2 * n + 129) rest)))
         step ds cs e D' C' N' x y z w =
             let r1 : s - i - 1 ≡ s - (i + 1) = omega arith in
             let r2 : length D - d - 2 * n ≡ length D - (d + 2 * n) = omega arith in
@@ -292,44 +292,44 @@ module _ (list : List ℕ) (total limit s : ℕ) (N₀ : List ℕ) (D₀ C₀ : 
               y,
               z,
               w,
-              part-tail (2 * n + 129) rest,
-              splines-one total left (length D - d) (s - i) rest n ds cs (drop (2 * n + 129) rest) (omega arith) e,
+              part_tail (2 * n + 129) rest,
+              splines_one total left (length D - d) (s - i) rest n ds cs (drop (2 * n + 129) rest) (omega arith) e,
               r1,
               r2,
             )
-            (before-one (take i N) n (take d D) ds (take k C) cs (splinesOf total (left - n) (length D - (d + 2 * n)) (s - (i + 1)) (drop (2 * n + 129) rest)))
+            (before_one (take i N) n (take d D) ds (take k C) cs (splines_of total (left - n) (length D - (d + 2 * n)) (s - (i + 1)) (drop (2 * n + 129) rest)))
 
-        pub going-long : 2 * n + 129 ≤ length rest
-        going-long = it.long
+        pub going_long : 2 * n + 129 ≤ length rest
+        going_long = it.long
 
-        pub going-left : n ≤ left
-        going-left = it.under
+        pub going_left : n ≤ left
+        going_left = it.under
 
-        pub going-turn : Going list total limit s N₀ D₀ C₀ (set N i n) (take d D ++ (d' ++ drop (length D - d) (drop d D)))
+        pub going_turn : Going list total limit s N₀ D₀ C₀ (set N i n) (take d D ++ (d' ++ drop (length D - d) (drop d D)))
             (take k C ++ (c' ++ drop (length C - k) (drop k C))) (take (length rest - (2 * n + 129)) (drop (2 * n + 129) rest)) (left - n) (i + 1) (d + 2 * n) (k + 128)
-        going-turn =
-            let room : length (take (length D - d) (drop d D)) ≡ length D - d = rw (part-tail d D) (length-drop d D) in
+        going_turn =
+            let room : length (take (length D - d) (drop d D)) ≡ length D - d = rw (part_tail d D) (length-drop d D) in
             let fitD : d + length it.ds ≤ length D = omega (arith, it.deltas, it.fits, now.in_d, room) in
-            let fitC : k + length it.cs ≤ length C = omega (arith, it.coefficients, now.cells, now.lenC) in
+            let fitC : k + length it.cs ≤ length C = omega (arith, it.coefficients, now.cells, now.len_c) in
             let endD : d + length it.ds ≡ d + 2 * n = ap (λ (x : ℕ). d + x) it.deltas in
             let endC : k + length it.cs ≡ k + 128 = ap (λ (x : ℕ). k + x) it.coefficients in
-            let atN : i < length N = omega (arith, now.lenN) in
+            let atN : i < length N = omega (arith, now.len_n) in
             record {
               turns = omega arith;
               cells = omega (arith, now.cells);
-              under = rw (take-one N i n atN, sum-snoc (take i N) n) (omega (arith, now.under, it.under));
-              in_d = rw (splice-length D d it.ds d' fitD it.newD) (omega arith);
-              lenN = length-set N i n ∙ now.lenN;
-              lenD = splice-length D d it.ds d' fitD it.newD ∙ now.lenD;
-              lenC = splice-length C k it.cs c' fitC it.new_c ∙ now.lenC;
-              lenR = rw (part-tail (2 * n + 129) rest) (omega (arith, length-drop (2 * n + 129) rest, now.lenR));
-              keepN = keep_one N N₀ i n now.keepN;
-              keep_d = kept D D₀ d (2 * n) (take d D ++ (d' ++ drop (length D - d) (drop d D))) (rw endD at (splice-drop D d it.ds d' fitD it.newD)) now.keep_d;
-              keepC = kept C C₀ k 128 (take k C ++ (c' ++ drop (length C - k) (drop k C))) (rw endC at (splice-drop C k it.cs c' fitC it.new_c)) now.keepC;
+              under = rw (take_one N i n atN, sum_snoc (take i N) n) (omega (arith, now.under, it.under));
+              in_d = rw (splice_length D d it.ds d' fitD it.new_d) (omega arith);
+              len_n = length-set N i n ∙ now.len_n;
+              len_d = splice_length D d it.ds d' fitD it.new_d ∙ now.len_d;
+              len_c = splice_length C k it.cs c' fitC it.new_c ∙ now.len_c;
+              len_r = rw (part_tail (2 * n + 129) rest) (omega (arith, length-drop (2 * n + 129) rest, now.len_r));
+              keep_n = keep_one N N₀ i n now.keep_n;
+              keep_d = kept D D₀ d (2 * n) (take d D ++ (d' ++ drop (length D - d) (drop d D))) (rw endD at (splice_drop D d it.ds d' fitD it.new_d)) now.keep_d;
+              keep_c = kept C C₀ k 128 (take k C ++ (c' ++ drop (length C - k) (drop k C))) (rw endC at (splice_drop C k it.cs c' fitC it.new_c)) now.keep_c;
               so = now.so ∙ step it.ds it.cs (rw room at it.is)
                   (take d D ++ (d' ++ drop (length D - d) (drop d D))) (take k C ++ (c' ++ drop (length C - k) (drop k C))) (set N i n)
-                  (rw endD at (splice-take D d it.ds d' fitD it.newD)) (rw endC at (splice-take C k it.cs c' fitC it.new_c))
-                  (take-one N i n atN) (splice-length D d it.ds d' fitD it.newD);
+                  (rw endD at (splice_take D d it.ds d' fitD it.new_d)) (rw endC at (splice_take C k it.cs c' fitC it.new_c))
+                  (take_one N i n atN) (splice_length D d it.ds d' fitD it.new_d);
             }
 
 -- Assumes nothing.

@@ -2,7 +2,7 @@
 #![tactic(auto)]
 
 ghost use Rattle.std.specs.Prelude.{◌*◌, ◌≤◌, ◌<◌, length};
-ghost use Rattle.list.specs.List.{splineIn, splinesOf};
+ghost use Rattle.list.specs.List.{spline_in, splines_of};
 ghost use Rattle.read_splines.specs.Splines.{SplineLeft, SplinesLeft};
 
 use codes::Code;
@@ -24,7 +24,7 @@ pub fn read_spline(
     coefficients: &mut [i32],
 ) -> Points
     requires { (128 ≤ length coefficients.old) × (length list.now ≤ total) }
-    ensures { SplineLeft (splineIn total left (length deltas.old) list.now) result deltas.old deltas.new coefficients.old coefficients.new }
+    ensures { SplineLeft (spline_in total left (length deltas.old) list.now) result deltas.old deltas.new coefficients.old coefficients.new }
 {
     let Next::Value(n) = head(list) else {
         return Points::Stop(Code::Short, total);
@@ -59,7 +59,7 @@ pub fn read_splines(
     coefficients: &mut [i32],
 ) -> Points
     requires { (s ≤ length counts.old) × (128 * s ≤ length coefficients.old) × (length list.now ≤ total) }
-    ensures { SplinesLeft (splinesOf total limit (length deltas.old) s list.now) result counts.old counts.new deltas.old deltas.new coefficients.old coefficients.new }
+    ensures { SplinesLeft (splines_of total limit (length deltas.old) s list.now) result counts.old counts.new deltas.old deltas.new coefficients.old coefficients.new }
 {
     let mut rest = list;
     let mut left = limit;

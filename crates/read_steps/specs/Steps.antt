@@ -1,7 +1,7 @@
 -- What each loop leaves in the buffer that it is lent: on success its values and then what was there, after a stop nothing is said.
 use Rattle.std.specs.Prelude.{◌≡◌, List, [], ◌∷◌, ◌++◌, map, ℕ, length, drop, ℤ, Float}
 use Rattle.list.specs.List.{Got, got, stop}
-use Rattle.list.specs.Steps.{f32Of}
+use Rattle.list.specs.Steps.{f32_of}
 use Rattle.read_steps.specs.declared.Pair.{Pair}
 use Rattle.read_steps.specs.declared.Step.{Step}
 
@@ -13,7 +13,7 @@ pair_of (a ∷ b ∷ l) = Pair.Both a b
 
 -- whole numbers as f32
 abbrev pub floats : Got (List ℤ) → Got (List Float)
-floats (got zs l) = got (map f32Of zs) l
+floats (got zs l) = got (map f32_of zs) l
 floats (stop c p) = stop c p
 
 -- the values stand in front, and the rest is as it was

@@ -4,8 +4,8 @@
 
 ghost use Rattle.std.specs.Prelude.{◌≡◌, Bool, ◌*◌, ◌≤◌, ◌<◌, ◌^◌, leb, pos, nat_abs, ◌+ℤ◌, length};
 ghost use Rattle.std.specs.Int.Signed.{mag};
-ghost use Rattle.list.specs.List.{unpackSigned, posLimit, deltaLimit, beyond, coordinate, startsIn, deltasIn, coefficientsIn};
-ghost use Rattle.list.specs.Steps.{f32Of};
+ghost use Rattle.list.specs.List.{unpack_signed, pos_limit, delta_limit, beyond, coordinate, starts_in, deltas_in, coefficients_in};
+ghost use Rattle.list.specs.Steps.{f32_of};
 ghost use Rattle.read_steps.specs.Steps.{pair_of, floats, Filled};
 
 use codes::Code;
@@ -37,7 +37,7 @@ pub fn two(list: &[u32]) -> Pair
 
 // A packed value of 2^31 - 1 or more unpacks to a magnitude of 2^30 or more.
 pub fn wild(a: u32, b: u32) -> bool
-    ensures { result ≡ beyond deltaLimit (unpackSigned a) (unpackSigned b) }
+    ensures { result ≡ beyond delta_limit (unpack_signed a) (unpack_signed b) }
 {
     if 2147483647 <= a {
         true
@@ -48,7 +48,7 @@ pub fn wild(a: u32, b: u32) -> bool
 
 pub fn read_deltas(list: &[u32], total: usize, n: usize, out: &mut [i32]) -> Step
     requires { (2 * n ≤ length out.old) × (length list.now ≤ total) }
-    ensures { Filled (deltasIn total n list.now) result out.old out.new }
+    ensures { Filled (deltas_in total n list.now) result out.old out.new }
 {
     let mut rest = list;
     let mut left = n;
@@ -72,7 +72,7 @@ pub fn read_deltas(list: &[u32], total: usize, n: usize, out: &mut [i32]) -> Ste
 
 pub fn read_coefficients(list: &[u32], total: usize, n: usize, out: &mut [i32]) -> Step
     requires { n ≤ length out.old }
-    ensures { Filled (coefficientsIn total n list.now) result out.old out.new }
+    ensures { Filled (coefficients_in total n list.now) result out.old out.new }
 {
     let mut rest = list;
     let mut i = 0;
@@ -107,13 +107,13 @@ pub fn coordinate_of(first: bool, last: i64, u: u32) -> i64
 }
 
 pub fn is_far(x: i64) -> bool
-    ensures { result ≡ leb posLimit (nat_abs x) }
+    ensures { result ≡ leb pos_limit (nat_abs x) }
 {
     if -8388608 < x { 8388608 <= x } else { true }
 }
 
 pub fn far(x: i64, y: i64) -> bool
-    ensures { result ≡ beyond posLimit x y }
+    ensures { result ≡ beyond pos_limit x y }
 {
     if is_far(x) { true } else { is_far(y) }
 }
@@ -121,14 +121,14 @@ pub fn far(x: i64, y: i64) -> bool
 // A whole number below 2^23 in magnitude is an f32.
 pub fn start_of(x: i64) -> f32
     requires { mag x < 2 ^ 23 }
-    ensures { result ≡ f32Of x }
+    ensures { result ≡ f32_of x }
 {
     x as f32
 }
 
 pub fn read_starts(list: &[u32], total: usize, n: usize, out: &mut [f32]) -> Step
     requires { (2 * n ≤ length out.old) × (length list.now ≤ total) }
-    ensures { Filled (floats (startsIn total Bool.true (pos 0) (pos 0) n list.now)) result out.old out.new }
+    ensures { Filled (floats (starts_in total Bool.true (pos 0) (pos 0) n list.now)) result out.old out.new }
 {
     let mut rest = list;
     let mut left = n;

@@ -5,24 +5,24 @@ use mathlib.Core.List.{List, []}
 use Prim.Native.Nat.{ℕ}
 use lib.IntN.{ℤ}
 use Rattle.codes.specs.declared.Code.{Code}
-use Rattle.list.specs.List.{ListRooms, Got, got, stop, Described, described, limitOf, read_of, list_of, Valid}
-use Rattle.list.proofs.RoundTrip.{Holds, written-is-read}
+use Rattle.list.specs.List.{ListRooms, Got, got, stop, Described, described, limit_of, read_of, list_of, Valid}
+use Rattle.list.proofs.RoundTrip.{Holds, written_is_read}
 use Rattle.read_list.specs.declared.ReadAnswer.{ReadAnswer}
-use Rattle.reader.specs.Read.{ReadOutcome, outcome, readOutcome}
+use Rattle.reader.specs.Read.{ReadOutcome, outcome, read_outcome}
 use Rattle.reader.specs.Refusals.{ReadRefusal, ReadRefused}
 use Rattle.reader.proofs.Refusals as table
 
 module _ (configured pixels : ℕ) (rooms : ListRooms) (list : List ℕ) where
   -- any two outcomes that the contract allows are equal
-  pub one-outcome : (a b : ReadOutcome) → a ≡ readOutcome configured pixels rooms list → b ≡ readOutcome configured pixels rooms list → a ≡ b
-  one-outcome a b p q = p ∙ sym q
+  pub one_outcome : (a b : ReadOutcome) → a ≡ read_outcome configured pixels rooms list → b ≡ read_outcome configured pixels rooms list → a ≡ b
+  one_outcome a b p q = p ∙ sym q
 
-  module _ (o : ReadOutcome) (is : o ≡ readOutcome configured pixels rooms list) where
+  module _ (o : ReadOutcome) (is : o ≡ read_outcome configured pixels rooms list) where
     -- what is refused is in the table
-    pub refused-exactly : (c : Code) (p : ℕ) → o.answer ≡ ReadAnswer.Refused c p → ReadRefusal (limitOf configured pixels) rooms list c p
-    refused-exactly c p e =
-        table.refused-exactly (limitOf configured pixels) rooms list c p
-        (stopped (read_of (limitOf configured pixels) rooms list) (sym (ap ReadOutcome.answer is) ∙ e))
+    pub refused_exactly : (c : Code) (p : ℕ) → o.answer ≡ ReadAnswer.Refused c p → ReadRefusal (limit_of configured pixels) rooms list c p
+    refused_exactly c p e =
+        table.refused_exactly (limit_of configured pixels) rooms list c p
+        (stopped (read_of (limit_of configured pixels) rooms list) (sym (ap ReadOutcome.answer is) ∙ e))
       where
         stopped : (g : Got Described) → (outcome rooms g).answer ≡ ReadAnswer.Refused c p → g ≡ stop c p
         stopped (got (described a zs ns ds cs) l) e = cc
@@ -32,17 +32,17 @@ module _ (configured pixels : ℕ) (rooms : ListRooms) (list : List ℕ) where
             rw (x, y)
 
     -- what is in the table is refused, and leaves zeros
-    pub given-exactly : (c : Code) (p : ℕ) → ReadRefusal (limitOf configured pixels) rooms list c p → ReadRefused rooms c p o
-    given-exactly c p h =
-        let e = table.given-exactly (limitOf configured pixels) rooms list c h.due h.rest h.reached h.given in
-        let at : read_of (limitOf configured pixels) rooms list ≡ stop c p = e ∙ ap (λ (q : ℕ). stop c q) (sym h.place) in
+    pub given_exactly : (c : Code) (p : ℕ) → ReadRefusal (limit_of configured pixels) rooms list c p → ReadRefused rooms c p o
+    given_exactly c p h =
+        let e = table.given_exactly (limit_of configured pixels) rooms list c h.due h.rest h.reached h.given in
+        let at : read_of (limit_of configured pixels) rooms list ≡ stop c p = e ∙ ap (λ (q : ℕ). stop c q) (sym h.place) in
         subst (ReadRefused rooms c p) (sym (is ∙ ap (outcome rooms) at))
         (record { answer = refl; told = refl; counts = refl; starts = refl; deltas = refl; coefficients = refl })
 
 -- what is written is read: the outcome of the list of a valid description is that description
-pub read-after-write : (configured pixels : ℕ) (rooms : ListRooms) (a : ℤ) (zs : List ℤ) (ns : List ℕ) (ds cs : List ℤ)
-    → Valid (limitOf configured pixels) zs ns ds cs → Holds rooms zs ns ds cs
-    → readOutcome configured pixels rooms (list_of (described a zs ns ds cs)) ≡ outcome rooms (got (described a zs ns ds cs) [])
-read-after-write configured pixels rooms a zs ns ds cs v h = ap (outcome rooms) (written-is-read (limitOf configured pixels) rooms a zs ns ds cs v h)
+pub read_after_write : (configured pixels : ℕ) (rooms : ListRooms) (a : ℤ) (zs : List ℤ) (ns : List ℕ) (ds cs : List ℤ)
+    → Valid (limit_of configured pixels) zs ns ds cs → Holds rooms zs ns ds cs
+    → read_outcome configured pixels rooms (list_of (described a zs ns ds cs)) ≡ outcome rooms (got (described a zs ns ds cs) [])
+read_after_write configured pixels rooms a zs ns ds cs v h = ap (outcome rooms) (written_is_read (limit_of configured pixels) rooms a zs ns ds cs v h)
 
 -- Assumes nothing.

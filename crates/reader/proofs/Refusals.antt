@@ -12,19 +12,19 @@ use lib.ListN.{length}
 use lib.IntN.{ℤ, pos, nat_abs}
 use borrow.Author.Tests.{lt-ltb, le-ltb, ltb-true, ltb-false}
 use Rattle.codes.specs.declared.Code.{Code}
-use Rattle.codes.proofs.Decides.{Decides, at_most, less-than, either-decides}
-use Rattle.list.specs.List.{unpackSigned, posLimit, deltaLimit, beyond, ListRooms, Got, got, stop, Spline, spline, Splines, splines, Described, and_then, onto, coordinate, startsIn, deltasIn, coefficientsIn, splineIn, ontoSplines, splinesOf, describe, ended, afterStarts, lacking, read_of}
+use Rattle.codes.proofs.Decides.{Decides, at_most, less_than, either_decides}
+use Rattle.list.specs.List.{unpack_signed, pos_limit, delta_limit, beyond, ListRooms, Got, got, stop, Spline, spline, Splines, splines, Described, and_then, onto, coordinate, starts_in, deltas_in, coefficients_in, spline_in, onto_splines, splines_of, describe, ended, after_starts, lacking, read_of}
 use Rattle.list.specs.List as L
-use Rattle.reader.specs.Refusals.{Due, count, starts, adjustment, points, deltas, coefficients, nothing, wants, Reached, begin, counted, started, all-started, adjusted, pointed, moved, all_moved, weighed, all-weighed, all_pointed, DueRefusal, short, many-splines, far-start, many-points, far-delta, left_over, no_room, no-deltas, place_of, ReadRefusal, Far, Close, FewCells, EnoughCells}
+use Rattle.reader.specs.Refusals.{Due, count, starts, adjustment, points, deltas, coefficients, nothing, wants, Reached, begin, counted, started, all_started, adjusted, pointed, moved, all_moved, weighed, all_weighed, all_pointed, DueRefusal, short, many_splines, far_start, many_points, far_delta, left_over, no_room, no_deltas, place_of, ReadRefusal, Far, Close, FewCells, EnoughCells}
 
 -- ---- the tests of the code, and what the table says of numbers
 
-decides-far : (limit : ℕ) (x y : ℤ) → Decides (beyond limit x y) (Far limit x y) (Close limit x y)
-decides-far limit x y = either-decides (at_most limit (nat_abs x)) (at_most limit (nat_abs y))
+decides_far : (limit : ℕ) (x y : ℤ) → Decides (beyond limit x y) (Far limit x y) (Close limit x y)
+decides_far limit x y = either_decides (at_most limit (nat_abs x)) (at_most limit (nat_abs y))
 
-decides-cells : (rooms : ListRooms) (s : ℕ) → Decides (lacking rooms s) (FewCells rooms s) (EnoughCells rooms s)
-decides-cells rooms s =
-    either-decides (less-than rooms.counts s) (either-decides (less-than rooms.starts (2 * s)) (less-than rooms.coefficients (128 * s)))
+decides_cells : (rooms : ListRooms) (s : ℕ) → Decides (lacking rooms s) (FewCells rooms s) (EnoughCells rooms s)
+decides_cells rooms s =
+    either_decides (less_than rooms.counts s) (either_decides (less_than rooms.starts (2 * s)) (less_than rooms.coefficients (128 * s)))
 
 -- ---- one direction
 
@@ -42,134 +42,134 @@ abbrev follow : {A : Type 0} → Got A → (List ℕ → Fate) → Fate
 follow (got a l) k = k l
 follow (stop c p) k = at c p
 
-fate-stop : {A : Type 0} (g : Got A) (c : Code) (p : ℕ) → fate g ≡ at c p → g ≡ stop c p
-fate-stop (got a l) c p e = cc
-fate-stop (stop d q) c p e =
+fate_stop : {A : Type 0} (g : Got A) (c : Code) (p : ℕ) → fate g ≡ at c p → g ≡ stop c p
+fate_stop (got a l) c p e = cc
+fate_stop (stop d q) c p e =
     let x : d ≡ c = cc in
     let y : q ≡ p = cc in
     rw (x, y)
 
-follow-onto : {A : Type 0} (vs : List A) (g : Got (List A)) (k : List ℕ → Fate) → follow (onto vs g) k ≡ follow g k
-follow-onto vs (got ws l) k = refl
-follow-onto vs (stop c p) k = refl
+follow_onto : {A : Type 0} (vs : List A) (g : Got (List A)) (k : List ℕ → Fate) → follow (onto vs g) k ≡ follow g k
+follow_onto vs (got ws l) k = refl
+follow_onto vs (stop c p) k = refl
 
-follow-splines : (x : Spline) (g : Got Splines) (k : List ℕ → Fate) → follow (ontoSplines x g) k ≡ follow g k
-follow-splines (spline n es bs) (got (splines ns ds cs) l) k = refl
-follow-splines (spline n es bs) (stop c p) k = refl
+follow_splines : (x : Spline) (g : Got Splines) (k : List ℕ → Fate) → follow (onto_splines x g) k ≡ follow g k
+follow_splines (spline n es bs) (got (splines ns ds cs) l) k = refl
+follow_splines (spline n es bs) (stop c p) k = refl
 
-fate-then : {A B : Type 0} (g : Got A) (f : A → List ℕ → Got B) (h : List ℕ → Fate) → ((a : A) (l : List ℕ) → fate (f a l) ≡ h l) → fate (and_then g f) ≡ follow g h
-fate-then (got a l) f h e = e a l
-fate-then (stop c p) f h e = refl
+fate_then : {A B : Type 0} (g : Got A) (f : A → List ℕ → Got B) (h : List ℕ → Fate) → ((a : A) (l : List ℕ) → fate (f a l) ≡ h l) → fate (and_then g f) ≡ follow g h
+fate_then (got a l) f h e = e a l
+fate_then (stop c p) f h e = refl
 
 module _ (limit : ℕ) (rooms : ListRooms) (t : ℕ) where
   abbrev end : List ℕ → Fate
   end [] = done
   end (a ∷ r) = at Code.Trail (t - length (a ∷ r))
 
-  abbrev splinesFrom : ℕ → ℕ → List ℕ → Fate
-  splinesFrom s used r = follow (splinesOf t (limit - used) (rooms.deltas - 2 * used) s r) end
+  abbrev splines_from : ℕ → ℕ → List ℕ → Fate
+  splines_from s used r = follow (splines_of t (limit - used) (rooms.deltas - 2 * used) s r) end
 
-  abbrev coefficientsFrom : ℕ → ℕ → ℕ → List ℕ → Fate
-  coefficientsFrom s used n r = follow (coefficientsIn t n r) (splinesFrom s used)
+  abbrev coefficients_from : ℕ → ℕ → ℕ → List ℕ → Fate
+  coefficients_from s used n r = follow (coefficients_in t n r) (splines_from s used)
 
-  abbrev deltasFrom : ℕ → ℕ → ℕ → List ℕ → Fate
-  deltasFrom s used n r = follow (deltasIn t n r) (coefficientsFrom s used 128)
+  abbrev deltas_from : ℕ → ℕ → ℕ → List ℕ → Fate
+  deltas_from s used n r = follow (deltas_in t n r) (coefficients_from s used 128)
 
-  abbrev adjustmentFrom : ℕ → List ℕ → Fate
-  adjustmentFrom s [] = at Code.Short t
-  adjustmentFrom s (u ∷ r) = splinesFrom s 0 r
+  abbrev adjustment_from : ℕ → List ℕ → Fate
+  adjustment_from s [] = at Code.Short t
+  adjustment_from s (u ∷ r) = splines_from s 0 r
 
-  abbrev startsFrom : ℕ → ℕ → Bool → ℤ → ℤ → List ℕ → Fate
-  startsFrom s n first x y r = follow (startsIn t first x y n r) (adjustmentFrom s)
+  abbrev starts_from : ℕ → ℕ → Bool → ℤ → ℤ → List ℕ → Fate
+  starts_from s n first x y r = follow (starts_in t first x y n r) (adjustment_from s)
 
-  abbrev countFrom : List ℕ → Fate
-  countFrom [] = at Code.Short t
-  countFrom (v ∷ r) =
+  abbrev count_from : List ℕ → Fate
+  count_from [] = at Code.Short t
+  count_from (v ∷ r) =
       cond (ltb limit (v + 1)) (at Code.Splines (t - length (v ∷ r)))
-      (cond (lacking rooms (v + 1)) (at Code.Room (t - length (v ∷ r))) (startsFrom (v + 1) (v + 1) true (pos 0) (pos 0) r))
+      (cond (lacking rooms (v + 1)) (at Code.Room (t - length (v ∷ r))) (starts_from (v + 1) (v + 1) true (pos 0) (pos 0) r))
 
   abbrev from : Due → List ℕ → Fate
-  from count r = countFrom r
-  from (starts s n first x y) r = startsFrom s n first x y r
-  from (adjustment s) r = adjustmentFrom s r
-  from (points s used) r = splinesFrom s used r
-  from (deltas s used n) r = deltasFrom s used n r
-  from (coefficients s used n) r = coefficientsFrom s used n r
+  from count r = count_from r
+  from (starts s n first x y) r = starts_from s n first x y r
+  from (adjustment s) r = adjustment_from s r
+  from (points s used) r = splines_from s used r
+  from (deltas s used n) r = deltas_from s used n r
+  from (coefficients s used n) r = coefficients_from s used n r
   from nothing r = end r
 
   -- ---- one step
 
-  starts-step : (s n : ℕ) (first : Bool) (x y : ℤ) (a b : ℕ) (r : List ℕ) → beyond posLimit (coordinate first x a) (coordinate first y b) ≡ false
-      → startsFrom s (suc n) first x y (a ∷ b ∷ r) ≡ startsFrom s n false (coordinate first x a) (coordinate first y b) r
-  unfolding startsIn
-  starts-step s n first x y a b r e =
-      rw e (follow-onto (coordinate first x a ∷ coordinate first y b ∷ []) (startsIn t false (coordinate first x a) (coordinate first y b) n r) (adjustmentFrom s))
+  starts_step : (s n : ℕ) (first : Bool) (x y : ℤ) (a b : ℕ) (r : List ℕ) → beyond pos_limit (coordinate first x a) (coordinate first y b) ≡ false
+      → starts_from s (suc n) first x y (a ∷ b ∷ r) ≡ starts_from s n false (coordinate first x a) (coordinate first y b) r
+  unfolding starts_in
+  starts_step s n first x y a b r e =
+      rw e (follow_onto (coordinate first x a ∷ coordinate first y b ∷ []) (starts_in t false (coordinate first x a) (coordinate first y b) n r) (adjustment_from s))
 
-  deltas-step : (s used n a b : ℕ) (r : List ℕ) → beyond deltaLimit (unpackSigned a) (unpackSigned b) ≡ false
-      → deltasFrom s used (suc n) (a ∷ b ∷ r) ≡ deltasFrom s used n r
-  unfolding deltasIn
-  deltas-step s used n a b r e = rw e (follow-onto (unpackSigned a ∷ unpackSigned b ∷ []) (deltasIn t n r) (coefficientsFrom s used 128))
+  deltas_step : (s used n a b : ℕ) (r : List ℕ) → beyond delta_limit (unpack_signed a) (unpack_signed b) ≡ false
+      → deltas_from s used (suc n) (a ∷ b ∷ r) ≡ deltas_from s used n r
+  unfolding deltas_in
+  deltas_step s used n a b r e = rw e (follow_onto (unpack_signed a ∷ unpack_signed b ∷ []) (deltas_in t n r) (coefficients_from s used 128))
 
-  coefficients-step : (s used n u : ℕ) (r : List ℕ) → coefficientsFrom s used (suc n) (u ∷ r) ≡ coefficientsFrom s used n r
-  unfolding coefficientsIn
-  coefficients-step s used n u r = follow-onto (unpackSigned u ∷ []) (coefficientsIn t n r) (splinesFrom s used)
+  coefficients_step : (s used n u : ℕ) (r : List ℕ) → coefficients_from s used (suc n) (u ∷ r) ≡ coefficients_from s used n r
+  unfolding coefficients_in
+  coefficients_step s used n u r = follow_onto (unpack_signed u ∷ []) (coefficients_in t n r) (splines_from s used)
 
   -- a point count
-  abbrev pointsFrom : ℕ → ℕ → ℕ → List ℕ → Fate
-  pointsFrom s used n r =
+  abbrev points_from : ℕ → ℕ → ℕ → List ℕ → Fate
+  points_from s used n r =
       cond (ltb (limit - used) n) (at Code.Points (t - length (n ∷ r)))
-      (cond (ltb (rooms.deltas - 2 * used) (2 * n)) (at Code.Room (t - length (n ∷ r))) (deltasFrom s (used + n) n r))
+      (cond (ltb (rooms.deltas - 2 * used) (2 * n)) (at Code.Room (t - length (n ∷ r))) (deltas_from s (used + n) n r))
 
-  points-step : (s used n : ℕ) (r : List ℕ) → splinesFrom (suc s) used (n ∷ r) ≡ pointsFrom s used n r
-  unfolding splinesOf splineIn
-  points-step s used n r = test (ltb (limit - used) n) (ltb (rooms.deltas - 2 * used) (2 * n))
+  points_step : (s used n : ℕ) (r : List ℕ) → splines_from (suc s) used (n ∷ r) ≡ points_from s used n r
+  unfolding splines_of spline_in
+  points_step s used n r = test (ltb (limit - used) n) (ltb (rooms.deltas - 2 * used) (2 * n))
     where
       others : Spline → List ℕ → Got Splines
-      others x l1 = ontoSplines x (splinesOf t (limit - used - L.points x) (rooms.deltas - 2 * used - 2 * L.points x) s l1)
+      others x l1 = onto_splines x (splines_of t (limit - used - L.points x) (rooms.deltas - 2 * used - 2 * L.points x) s l1)
 
-      last : (ds : List ℤ) (g : Got (List ℤ)) → follow (and_then (and_then g (λ cs l2. got (spline n ds cs) l2)) others) end ≡ follow g (splinesFrom s (used + n))
+      last : (ds : List ℤ) (g : Got (List ℤ)) → follow (and_then (and_then g (λ cs l2. got (spline n ds cs) l2)) others) end ≡ follow g (splines_from s (used + n))
       last ds (stop c p) = refl
       last ds (got cs l2) =
           let x : limit - used - n ≡ limit - (used + n) = omega arith in
           let y : rooms.deltas - 2 * used - 2 * n ≡ rooms.deltas - 2 * (used + n) = omega arith in
-          rw (x, y) (follow-splines (spline n ds cs) (splinesOf t (limit - (used + n)) (rooms.deltas - 2 * (used + n)) s l2) end)
+          rw (x, y) (follow_splines (spline n ds cs) (splines_of t (limit - (used + n)) (rooms.deltas - 2 * (used + n)) s l2) end)
 
-      first : (g : Got (List ℤ)) → follow (and_then (and_then g (λ ds l1. and_then (coefficientsIn t 128 l1) (λ cs l2. got (spline n ds cs) l2))) others) end
-          ≡ follow g (coefficientsFrom s (used + n) 128)
+      first : (g : Got (List ℤ)) → follow (and_then (and_then g (λ ds l1. and_then (coefficients_in t 128 l1) (λ cs l2. got (spline n ds cs) l2))) others) end
+          ≡ follow g (coefficients_from s (used + n) 128)
       first (stop c p) = refl
-      first (got ds l1) = last ds (coefficientsIn t 128 l1)
+      first (got ds l1) = last ds (coefficients_in t 128 l1)
 
       test : (p q : Bool)
           → follow (and_then (cond p (stop Code.Points (t - length (n ∷ r))) (cond q (stop Code.Room (t - length (n ∷ r)))
-          (and_then (deltasIn t n r) (λ ds l1. and_then (coefficientsIn t 128 l1) (λ cs l2. got (spline n ds cs) l2))))) others) end
-          ≡ cond p (at Code.Points (t - length (n ∷ r))) (cond q (at Code.Room (t - length (n ∷ r))) (deltasFrom s (used + n) n r))
+          (and_then (deltas_in t n r) (λ ds l1. and_then (coefficients_in t 128 l1) (λ cs l2. got (spline n ds cs) l2))))) others) end
+          ≡ cond p (at Code.Points (t - length (n ∷ r))) (cond q (at Code.Room (t - length (n ∷ r))) (deltas_from s (used + n) n r))
       test true q = refl
       test false true = refl
-      test false false = first (deltasIn t n r)
+      test false false = first (deltas_in t n r)
 
-  points_on : (s used n : ℕ) (r : List ℕ) → used + n ≤ limit → 2 * (used + n) ≤ rooms.deltas → splinesFrom (suc s) used (n ∷ r) ≡ deltasFrom s (used + n) n r
-  points_on s used n r h w = points-step s used n r ∙ rw (le-ltb (limit - used) n (omega arith), le-ltb (rooms.deltas - 2 * used) (2 * n) (omega arith))
+  points_on : (s used n : ℕ) (r : List ℕ) → used + n ≤ limit → 2 * (used + n) ≤ rooms.deltas → splines_from (suc s) used (n ∷ r) ≡ deltas_from s (used + n) n r
+  points_on s used n r h w = points_step s used n r ∙ rw (le-ltb (limit - used) n (omega arith), le-ltb (rooms.deltas - 2 * used) (2 * n) (omega arith))
 
-  splines-end : (used : ℕ) (r : List ℕ) → splinesFrom zero used r ≡ end r
-  unfolding splinesOf
-  splines-end used r = refl
+  splines_end : (used : ℕ) (r : List ℕ) → splines_from zero used r ≡ end r
+  unfolding splines_of
+  splines_end used r = refl
 
-  deltas-end : (s used : ℕ) (r : List ℕ) → deltasFrom s used zero r ≡ coefficientsFrom s used 128 r
-  unfolding deltasIn
-  deltas-end s used r = refl
+  deltas_end : (s used : ℕ) (r : List ℕ) → deltas_from s used zero r ≡ coefficients_from s used 128 r
+  unfolding deltas_in
+  deltas_end s used r = refl
 
-  coefficients-end : (s used : ℕ) (r : List ℕ) → coefficientsFrom s used zero r ≡ splinesFrom s used r
-  unfolding coefficientsIn
-  coefficients-end s used r = refl
+  coefficients_end : (s used : ℕ) (r : List ℕ) → coefficients_from s used zero r ≡ splines_from s used r
+  unfolding coefficients_in
+  coefficients_end s used r = refl
 
-  starts-end : (s : ℕ) (first : Bool) (x y : ℤ) (r : List ℕ) → startsFrom s zero first x y r ≡ adjustmentFrom s r
-  unfolding startsIn
-  starts-end s first x y r = refl
+  starts_end : (s : ℕ) (first : Bool) (x y : ℤ) (r : List ℕ) → starts_from s zero first x y r ≡ adjustment_from s r
+  unfolding starts_in
+  starts_end s first x y r = refl
 
   -- ---- what the table says is what becomes of reading there
 
   ends : (d : Due) (r : List ℕ) → length r < wants d → from d r ≡ at Code.Short t
-  unfolding startsIn deltasIn coefficientsIn splinesOf splineIn
+  unfolding starts_in deltas_in coefficients_in splines_of spline_in
   ends count [] h = refl
   ends count (a ∷ r) h = absurd (omega arith)
   ends (starts s zero first x y) r h = absurd (not-suc-le-zero h)
@@ -204,78 +204,78 @@ module _ (limit : ℕ) (rooms : ListRooms) (t : ℕ) where
   under begin = tt
   under (counted q h w) = tt
   under (started q h) = tt
-  under (all-started q) = tt
+  under (all_started q) = tt
   under (adjusted q) = (omega arith, omega arith)
   under (pointed q h w) = (h, w)
   under (moved q h) = under q
   under (all_moved q) = under q
   under (weighed q) = under q
-  under (all-weighed q) = under q
+  under (all_weighed q) = under q
   under (all_pointed q) = tt
 
-  given-at : {c : Code} {d : Due} {r : List ℕ} → Under d → DueRefusal limit rooms c d r → from d r ≡ at c (place_of c t r)
-  unfolding startsIn deltasIn coefficientsIn
-  given-at u (short {d} {r} h) = ends d r h
-  given-at u (many-splines {v} {r} h) = rw (lt-ltb limit (v + 1) h)
-  given-at u (far-start {first = first} {x = x} {y = y} {a = a} {b = b} h) = rw ((decides-far posLimit (coordinate first x a) (coordinate first y b)).passes h)
-  given-at u (many-points {s} {used} {n} {r} h) = points-step s used n r ∙ rw (lt-ltb (limit - used) n (omega (arith, u.0)))
-  given-at u (far-delta {a = a} {b = b} h) = rw ((decides-far deltaLimit (unpackSigned a) (unpackSigned b)).passes h)
-  given-at u left_over = refl
-  given-at u (no_room {v} {r} h w) = rw (le-ltb limit (v + 1) h, (decides-cells rooms (v + 1)).passes w)
-  given-at u (no-deltas {s} {used} {n} {r} h w) =
-      points-step s used n r ∙ rw (le-ltb (limit - used) n (omega arith), lt-ltb (rooms.deltas - 2 * used) (2 * n) (omega (arith, u.1)))
+  given_at : {c : Code} {d : Due} {r : List ℕ} → Under d → DueRefusal limit rooms c d r → from d r ≡ at c (place_of c t r)
+  unfolding starts_in deltas_in coefficients_in
+  given_at u (short {d} {r} h) = ends d r h
+  given_at u (many_splines {v} {r} h) = rw (lt-ltb limit (v + 1) h)
+  given_at u (far_start {first = first} {x = x} {y = y} {a = a} {b = b} h) = rw ((decides_far pos_limit (coordinate first x a) (coordinate first y b)).passes h)
+  given_at u (many_points {s} {used} {n} {r} h) = points_step s used n r ∙ rw (lt-ltb (limit - used) n (omega (arith, u.0)))
+  given_at u (far_delta {a = a} {b = b} h) = rw ((decides_far delta_limit (unpack_signed a) (unpack_signed b)).passes h)
+  given_at u left_over = refl
+  given_at u (no_room {v} {r} h w) = rw (le-ltb limit (v + 1) h, (decides_cells rooms (v + 1)).passes w)
+  given_at u (no_deltas {s} {used} {n} {r} h w) =
+      points_step s used n r ∙ rw (le-ltb (limit - used) n (omega arith), lt-ltb (rooms.deltas - 2 * used) (2 * n) (omega (arith, u.1)))
 
   -- ---- and the same at every point that is reached
 
-  reached-from : {l : List ℕ} {d : Due} {r : List ℕ} → Reached limit rooms l d r → countFrom l ≡ from d r
-  reached-from begin = refl
-  reached-from (counted {v} {r} q h w) = reached-from q ∙ rw (le-ltb limit (v + 1) h, (decides-cells rooms (v + 1)).fails w)
-  reached-from (started {s} {n} {first} {x} {y} {a} {b} {r} q h) = reached-from q ∙ starts-step s n first x y a b r ((decides-far posLimit (coordinate first x a) (coordinate first y b)).fails h)
-  reached-from (all-started {s} {first} {x} {y} {r} q) = reached-from q ∙ starts-end s first x y r
-  reached-from (adjusted q) = reached-from q
-  reached-from (pointed {s} {used} {n} {r} q h w) = reached-from q ∙ points_on s used n r h w
-  reached-from (moved {s} {used} {n} {a} {b} {r} q h) = reached-from q ∙ deltas-step s used n a b r ((decides-far deltaLimit (unpackSigned a) (unpackSigned b)).fails h)
-  reached-from (all_moved {s} {used} {r} q) = reached-from q ∙ deltas-end s used r
-  reached-from (weighed {s} {used} {n} {u} {r} q) = reached-from q ∙ coefficients-step s used n u r
-  reached-from (all-weighed {s} {used} {r} q) = reached-from q ∙ coefficients-end s used r
-  reached-from (all_pointed {used} {r} q) = reached-from q ∙ splines-end used r
+  reached_from : {l : List ℕ} {d : Due} {r : List ℕ} → Reached limit rooms l d r → count_from l ≡ from d r
+  reached_from begin = refl
+  reached_from (counted {v} {r} q h w) = reached_from q ∙ rw (le-ltb limit (v + 1) h, (decides_cells rooms (v + 1)).fails w)
+  reached_from (started {s} {n} {first} {x} {y} {a} {b} {r} q h) = reached_from q ∙ starts_step s n first x y a b r ((decides_far pos_limit (coordinate first x a) (coordinate first y b)).fails h)
+  reached_from (all_started {s} {first} {x} {y} {r} q) = reached_from q ∙ starts_end s first x y r
+  reached_from (adjusted q) = reached_from q
+  reached_from (pointed {s} {used} {n} {r} q h w) = reached_from q ∙ points_on s used n r h w
+  reached_from (moved {s} {used} {n} {a} {b} {r} q h) = reached_from q ∙ deltas_step s used n a b r ((decides_far delta_limit (unpack_signed a) (unpack_signed b)).fails h)
+  reached_from (all_moved {s} {used} {r} q) = reached_from q ∙ deltas_end s used r
+  reached_from (weighed {s} {used} {n} {u} {r} q) = reached_from q ∙ coefficients_step s used n u r
+  reached_from (all_weighed {s} {used} {r} q) = reached_from q ∙ coefficients_end s used r
+  reached_from (all_pointed {used} {r} q) = reached_from q ∙ splines_end used r
 
   -- ---- the definition
 
-  ended-fate : (x : Described) (l : List ℕ) → fate (ended t x l) ≡ end l
-  ended-fate x [] = refl
-  ended-fate x (a ∷ l) = refl
+  ended_fate : (x : Described) (l : List ℕ) → fate (ended t x l) ≡ end l
+  ended_fate x [] = refl
+  ended_fate x (a ∷ l) = refl
 
-  after-fate : (s : ℕ) (zs : List ℤ) (l : List ℕ) → fate (afterStarts t limit rooms.deltas s zs l) ≡ adjustmentFrom s l
-  unfolding afterStarts
-  after-fate s zs [] = refl
-  after-fate s zs (u ∷ l) =
+  after_fate : (s : ℕ) (zs : List ℤ) (l : List ℕ) → fate (after_starts t limit rooms.deltas s zs l) ≡ adjustment_from s l
+  unfolding after_starts
+  after_fate s zs [] = refl
+  after_fate s zs (u ∷ l) =
       rw (sub-zero limit, sub-zero rooms.deltas)
-      (fate-then (splinesOf t limit rooms.deltas s l) (λ x l1. ended t (describe (unpackSigned u) zs x) l1) end (λ x l1. ended-fate (describe (unpackSigned u) zs x) l1))
+      (fate_then (splines_of t limit rooms.deltas s l) (λ x l1. ended t (describe (unpack_signed u) zs x) l1) end (λ x l1. ended_fate (describe (unpack_signed u) zs x) l1))
 
-read-fate : (limit : ℕ) (rooms : ListRooms) (l : List ℕ) → fate (read_of limit rooms l) ≡ countFrom limit rooms (length l) l
+read_fate : (limit : ℕ) (rooms : ListRooms) (l : List ℕ) → fate (read_of limit rooms l) ≡ count_from limit rooms (length l) l
 unfolding read_of
-read-fate limit rooms [] = refl
-read-fate limit rooms (v ∷ l) =
+read_fate limit rooms [] = refl
+read_fate limit rooms (v ∷ l) =
     let t = length (v ∷ l) in
     let none : t - t ≡ 0 = omega arith in
     rw none (test (ltb limit (v + 1)) (lacking rooms (v + 1)))
   where
     test : (p q : Bool)
-        → fate (cond p (stop Code.Splines 0) (cond q (stop Code.Room 0) (and_then (startsIn (length (v ∷ l)) true (pos 0) (pos 0) (v + 1) l)
-        (λ zs l1. afterStarts (length (v ∷ l)) limit rooms.deltas (v + 1) zs l1))))
-        ≡ cond p (at Code.Splines 0) (cond q (at Code.Room 0) (startsFrom limit rooms (length (v ∷ l)) (v + 1) (v + 1) true (pos 0) (pos 0) l))
+        → fate (cond p (stop Code.Splines 0) (cond q (stop Code.Room 0) (and_then (starts_in (length (v ∷ l)) true (pos 0) (pos 0) (v + 1) l)
+        (λ zs l1. after_starts (length (v ∷ l)) limit rooms.deltas (v + 1) zs l1))))
+        ≡ cond p (at Code.Splines 0) (cond q (at Code.Room 0) (starts_from limit rooms (length (v ∷ l)) (v + 1) (v + 1) true (pos 0) (pos 0) l))
     test true q = refl
     test false true = refl
     test false false =
-        fate-then (startsIn (length (v ∷ l)) true (pos 0) (pos 0) (v + 1) l) (λ zs l1. afterStarts (length (v ∷ l)) limit rooms.deltas (v + 1) zs l1)
-        (adjustmentFrom limit rooms (length (v ∷ l)) (v + 1)) (λ zs l1. after-fate limit rooms (length (v ∷ l)) (v + 1) zs l1)
+        fate_then (starts_in (length (v ∷ l)) true (pos 0) (pos 0) (v + 1) l) (λ zs l1. after_starts (length (v ∷ l)) limit rooms.deltas (v + 1) zs l1)
+        (adjustment_from limit rooms (length (v ∷ l)) (v + 1)) (λ zs l1. after_fate limit rooms (length (v ∷ l)) (v + 1) zs l1)
 
 -- what the table says is given
-pub given-exactly : (limit : ℕ) (rooms : ListRooms) (l : List ℕ) (c : Code) (d : Due) (r : List ℕ) → Reached limit rooms l d r → DueRefusal limit rooms c d r
+pub given_exactly : (limit : ℕ) (rooms : ListRooms) (l : List ℕ) (c : Code) (d : Due) (r : List ℕ) → Reached limit rooms l d r → DueRefusal limit rooms c d r
     → read_of limit rooms l ≡ stop c (place_of c (length l) r)
-given-exactly limit rooms l c d r q g =
-    fate-stop (read_of limit rooms l) c (place_of c (length l) r) (read-fate limit rooms l ∙ reached-from limit rooms (length l) q ∙ given-at limit rooms (length l) (under limit rooms (length l) q) g)
+given_exactly limit rooms l c d r q g =
+    fate_stop (read_of limit rooms l) c (place_of c (length l) r) (read_fate limit rooms l ∙ reached_from limit rooms (length l) q ∙ given_at limit rooms (length l) (under limit rooms (length l) q) g)
 
 -- ---- what is given is in the table
 
@@ -290,87 +290,87 @@ module _ (limit : ℕ) (rooms : ListRooms) (l : List ℕ) (f : Fate) where
 
   stopped : {c : Code} (d : Due) (r : List ℕ) → Reached limit rooms l d r → DueRefusal limit rooms c d r → from limit rooms t d r ≡ f → Met limit rooms l f
   stopped d r q g e =
-      subst (Met limit rooms l) (sym (given-at limit rooms t (under limit rooms t q) g) ∙ e)
+      subst (Met limit rooms l) (sym (given_at limit rooms t (under limit rooms t q) g) ∙ e)
       (record { due = d; rest = r; reached = q; given = g; place = refl })
 
-  find-end : (r : List ℕ) → Reached limit rooms l nothing r → end limit rooms t r ≡ f → Met limit rooms l f
-  find-end [] q e = subst (Met limit rooms l) e q
-  find-end (a ∷ r) q e = stopped nothing (a ∷ r) q left_over e
+  find_end : (r : List ℕ) → Reached limit rooms l nothing r → end limit rooms t r ≡ f → Met limit rooms l f
+  find_end [] q e = subst (Met limit rooms l) e q
+  find_end (a ∷ r) q e = stopped nothing (a ∷ r) q left_over e
 
-  module _ (s used : ℕ) (on : (r : List ℕ) → Reached limit rooms l (points s used) r → splinesFrom limit rooms t s used r ≡ f → Met limit rooms l f) where
-    find-coefficients : (n : ℕ) (r : List ℕ) → Reached limit rooms l (coefficients s used n) r → coefficientsFrom limit rooms t s used n r ≡ f → Met limit rooms l f
-    find-coefficients zero r q e = on r (all-weighed q) (sym (coefficients-end limit rooms t s used r) ∙ e)
-    find-coefficients (suc n) [] q e = stopped (coefficients s used (suc n)) [] q (short (omega arith)) e
-    find-coefficients (suc n) (u ∷ r) q e = find-coefficients n r (weighed q) (sym (coefficients-step limit rooms t s used n u r) ∙ e)
+  module _ (s used : ℕ) (on : (r : List ℕ) → Reached limit rooms l (points s used) r → splines_from limit rooms t s used r ≡ f → Met limit rooms l f) where
+    find_coefficients : (n : ℕ) (r : List ℕ) → Reached limit rooms l (coefficients s used n) r → coefficients_from limit rooms t s used n r ≡ f → Met limit rooms l f
+    find_coefficients zero r q e = on r (all_weighed q) (sym (coefficients_end limit rooms t s used r) ∙ e)
+    find_coefficients (suc n) [] q e = stopped (coefficients s used (suc n)) [] q (short (omega arith)) e
+    find_coefficients (suc n) (u ∷ r) q e = find_coefficients n r (weighed q) (sym (coefficients_step limit rooms t s used n u r) ∙ e)
 
-    find-deltas : (n : ℕ) (r : List ℕ) → Reached limit rooms l (deltas s used n) r → deltasFrom limit rooms t s used n r ≡ f → Met limit rooms l f
-    find-deltas zero r q e = find-coefficients 128 r (all_moved q) (sym (deltas-end limit rooms t s used r) ∙ e)
-    find-deltas (suc n) [] q e = stopped (deltas s used (suc n)) [] q (short (omega arith)) e
-    find-deltas (suc n) (a ∷ []) q e = stopped (deltas s used (suc n)) (a ∷ []) q (short (omega arith)) e
-    find-deltas (suc n) (a ∷ b ∷ r) q e = test (beyond deltaLimit (unpackSigned a) (unpackSigned b)) refl (λ q' e'. find-deltas n r q' e')
+    find_deltas : (n : ℕ) (r : List ℕ) → Reached limit rooms l (deltas s used n) r → deltas_from limit rooms t s used n r ≡ f → Met limit rooms l f
+    find_deltas zero r q e = find_coefficients 128 r (all_moved q) (sym (deltas_end limit rooms t s used r) ∙ e)
+    find_deltas (suc n) [] q e = stopped (deltas s used (suc n)) [] q (short (omega arith)) e
+    find_deltas (suc n) (a ∷ []) q e = stopped (deltas s used (suc n)) (a ∷ []) q (short (omega arith)) e
+    find_deltas (suc n) (a ∷ b ∷ r) q e = test (beyond delta_limit (unpack_signed a) (unpack_signed b)) refl (λ q' e'. find_deltas n r q' e')
       where
-        test : (w : Bool) → beyond deltaLimit (unpackSigned a) (unpackSigned b) ≡ w
-            → (Reached limit rooms l (deltas s used n) r → deltasFrom limit rooms t s used n r ≡ f → Met limit rooms l f) → Met limit rooms l f
-        test true w next = stopped (deltas s used (suc n)) (a ∷ b ∷ r) q (far-delta ((decides-far deltaLimit (unpackSigned a) (unpackSigned b)).passed w)) e
-        test false w next = next (moved q ((decides-far deltaLimit (unpackSigned a) (unpackSigned b)).failed w)) (sym (deltas-step limit rooms t s used n a b r w) ∙ e)
+        test : (w : Bool) → beyond delta_limit (unpack_signed a) (unpack_signed b) ≡ w
+            → (Reached limit rooms l (deltas s used n) r → deltas_from limit rooms t s used n r ≡ f → Met limit rooms l f) → Met limit rooms l f
+        test true w next = stopped (deltas s used (suc n)) (a ∷ b ∷ r) q (far_delta ((decides_far delta_limit (unpack_signed a) (unpack_signed b)).passed w)) e
+        test false w next = next (moved q ((decides_far delta_limit (unpack_signed a) (unpack_signed b)).failed w)) (sym (deltas_step limit rooms t s used n a b r w) ∙ e)
 
-  find-splines : (s used : ℕ) (r : List ℕ) → Reached limit rooms l (points s used) r → splinesFrom limit rooms t s used r ≡ f → Met limit rooms l f
-  find-splines zero used r q e = find-end r (all_pointed q) (sym (splines-end limit rooms t used r) ∙ e)
-  find-splines (suc s) used [] q e = stopped (points (suc s) used) [] q (short (omega arith)) e
-  find-splines (suc s) used (n ∷ r) q e =
-      test (ltb limit (used + n)) (ltb rooms.deltas (2 * (used + n))) refl refl (λ r' q' e'. find-splines s (used + n) r' q' e')
+  find_splines : (s used : ℕ) (r : List ℕ) → Reached limit rooms l (points s used) r → splines_from limit rooms t s used r ≡ f → Met limit rooms l f
+  find_splines zero used r q e = find_end r (all_pointed q) (sym (splines_end limit rooms t used r) ∙ e)
+  find_splines (suc s) used [] q e = stopped (points (suc s) used) [] q (short (omega arith)) e
+  find_splines (suc s) used (n ∷ r) q e =
+      test (ltb limit (used + n)) (ltb rooms.deltas (2 * (used + n))) refl refl (λ r' q' e'. find_splines s (used + n) r' q' e')
     where
       test : (x y : Bool) → ltb limit (used + n) ≡ x → ltb rooms.deltas (2 * (used + n)) ≡ y
-          → ((r' : List ℕ) → Reached limit rooms l (points s (used + n)) r' → splinesFrom limit rooms t s (used + n) r' ≡ f → Met limit rooms l f)
+          → ((r' : List ℕ) → Reached limit rooms l (points s (used + n)) r' → splines_from limit rooms t s (used + n) r' ≡ f → Met limit rooms l f)
           → Met limit rooms l f
-      test true y h w next = stopped (points (suc s) used) (n ∷ r) q (many-points (ltb-true limit (used + n) h)) e
+      test true y h w next = stopped (points (suc s) used) (n ∷ r) q (many_points (ltb-true limit (used + n) h)) e
       test false true h w next =
-          stopped (points (suc s) used) (n ∷ r) q (no-deltas (ltb-false limit (used + n) h) (ltb-true rooms.deltas (2 * (used + n)) w)) e
+          stopped (points (suc s) used) (n ∷ r) q (no_deltas (ltb-false limit (used + n) h) (ltb-true rooms.deltas (2 * (used + n)) w)) e
       test false false h w next =
           let within = ltb-false limit (used + n) h in
           let fits = ltb-false rooms.deltas (2 * (used + n)) w in
-          find-deltas s (used + n) next n r (pointed q within fits) (sym (points_on limit rooms t s used n r within fits) ∙ e)
+          find_deltas s (used + n) next n r (pointed q within fits) (sym (points_on limit rooms t s used n r within fits) ∙ e)
 
-  find-adjustment : (s : ℕ) (r : List ℕ) → Reached limit rooms l (adjustment s) r → adjustmentFrom limit rooms t s r ≡ f → Met limit rooms l f
-  find-adjustment s [] q e = stopped (adjustment s) [] q (short (omega arith)) e
-  find-adjustment s (u ∷ r) q e = find-splines s 0 r (adjusted q) e
+  find_adjustment : (s : ℕ) (r : List ℕ) → Reached limit rooms l (adjustment s) r → adjustment_from limit rooms t s r ≡ f → Met limit rooms l f
+  find_adjustment s [] q e = stopped (adjustment s) [] q (short (omega arith)) e
+  find_adjustment s (u ∷ r) q e = find_splines s 0 r (adjusted q) e
 
-  find-starts : (s n : ℕ) (first : Bool) (x y : ℤ) (r : List ℕ) → Reached limit rooms l (starts s n first x y) r → startsFrom limit rooms t s n first x y r ≡ f → Met limit rooms l f
-  find-starts s zero first x y r q e = find-adjustment s r (all-started q) (sym (starts-end limit rooms t s first x y r) ∙ e)
-  find-starts s (suc n) first x y [] q e = stopped (starts s (suc n) first x y) [] q (short (omega arith)) e
-  find-starts s (suc n) first x y (a ∷ []) q e = stopped (starts s (suc n) first x y) (a ∷ []) q (short (omega arith)) e
-  find-starts s (suc n) first x y (a ∷ b ∷ r) q e =
-      test (beyond posLimit (coordinate first x a) (coordinate first y b)) refl
-      (λ q' e'. find-starts s n false (coordinate first x a) (coordinate first y b) r q' e')
+  find_starts : (s n : ℕ) (first : Bool) (x y : ℤ) (r : List ℕ) → Reached limit rooms l (starts s n first x y) r → starts_from limit rooms t s n first x y r ≡ f → Met limit rooms l f
+  find_starts s zero first x y r q e = find_adjustment s r (all_started q) (sym (starts_end limit rooms t s first x y r) ∙ e)
+  find_starts s (suc n) first x y [] q e = stopped (starts s (suc n) first x y) [] q (short (omega arith)) e
+  find_starts s (suc n) first x y (a ∷ []) q e = stopped (starts s (suc n) first x y) (a ∷ []) q (short (omega arith)) e
+  find_starts s (suc n) first x y (a ∷ b ∷ r) q e =
+      test (beyond pos_limit (coordinate first x a) (coordinate first y b)) refl
+      (λ q' e'. find_starts s n false (coordinate first x a) (coordinate first y b) r q' e')
     where
-      test : (w : Bool) → beyond posLimit (coordinate first x a) (coordinate first y b) ≡ w
+      test : (w : Bool) → beyond pos_limit (coordinate first x a) (coordinate first y b) ≡ w
           → (Reached limit rooms l (starts s n false (coordinate first x a) (coordinate first y b)) r
-          → startsFrom limit rooms t s n false (coordinate first x a) (coordinate first y b) r ≡ f → Met limit rooms l f)
+          → starts_from limit rooms t s n false (coordinate first x a) (coordinate first y b) r ≡ f → Met limit rooms l f)
           → Met limit rooms l f
-      test true w next = stopped (starts s (suc n) first x y) (a ∷ b ∷ r) q (far-start ((decides-far posLimit (coordinate first x a) (coordinate first y b)).passed w)) e
-      test false w next = next (started q ((decides-far posLimit (coordinate first x a) (coordinate first y b)).failed w)) (sym (starts-step limit rooms t s n first x y a b r w) ∙ e)
+      test true w next = stopped (starts s (suc n) first x y) (a ∷ b ∷ r) q (far_start ((decides_far pos_limit (coordinate first x a) (coordinate first y b)).passed w)) e
+      test false w next = next (started q ((decides_far pos_limit (coordinate first x a) (coordinate first y b)).failed w)) (sym (starts_step limit rooms t s n first x y a b r w) ∙ e)
 
-  find-count : (r : List ℕ) → Reached limit rooms l count r → countFrom limit rooms t r ≡ f → Met limit rooms l f
-  find-count [] q e = stopped count [] q (short (omega arith)) e
-  find-count (v ∷ r) q e = test (ltb limit (v + 1)) (lacking rooms (v + 1)) refl refl
+  find_count : (r : List ℕ) → Reached limit rooms l count r → count_from limit rooms t r ≡ f → Met limit rooms l f
+  find_count [] q e = stopped count [] q (short (omega arith)) e
+  find_count (v ∷ r) q e = test (ltb limit (v + 1)) (lacking rooms (v + 1)) refl refl
     where
       test : (x y : Bool) → ltb limit (v + 1) ≡ x → lacking rooms (v + 1) ≡ y → Met limit rooms l f
-      test true y h w = stopped count (v ∷ r) q (many-splines (ltb-true limit (v + 1) h)) e
-      test false true h w = stopped count (v ∷ r) q (no_room (ltb-false limit (v + 1) h) ((decides-cells rooms (v + 1)).passed w)) e
+      test true y h w = stopped count (v ∷ r) q (many_splines (ltb-true limit (v + 1) h)) e
+      test false true h w = stopped count (v ∷ r) q (no_room (ltb-false limit (v + 1) h) ((decides_cells rooms (v + 1)).passed w)) e
       test false false h w =
-          find-starts (v + 1) (v + 1) true (pos 0) (pos 0) r (counted q (ltb-false limit (v + 1) h) ((decides-cells rooms (v + 1)).failed w))
+          find_starts (v + 1) (v + 1) true (pos 0) (pos 0) r (counted q (ltb-false limit (v + 1) h) ((decides_cells rooms (v + 1)).failed w))
           (rw (h, w) at e)
 
 -- what is given is said by the table
-pub refused-exactly : (limit : ℕ) (rooms : ListRooms) (l : List ℕ) (c : Code) (p : ℕ) → read_of limit rooms l ≡ stop c p → ReadRefusal limit rooms l c p
-refused-exactly limit rooms l c p e = find-count limit rooms l (at c p) l begin (sym (read-fate limit rooms l) ∙ ap fate e)
+pub refused_exactly : (limit : ℕ) (rooms : ListRooms) (l : List ℕ) (c : Code) (p : ℕ) → read_of limit rooms l ≡ stop c p → ReadRefusal limit rooms l c p
+refused_exactly limit rooms l c p e = find_count limit rooms l (at c p) l begin (sym (read_fate limit rooms l) ∙ ap fate e)
 
 -- a list is read exactly when reading reaches its end
-pub read-reached : (limit : ℕ) (rooms : ListRooms) (l : List ℕ) (x : Described) (r : List ℕ) → read_of limit rooms l ≡ got x r → Reached limit rooms l nothing []
-read-reached limit rooms l x r e = find-count limit rooms l done l begin (sym (read-fate limit rooms l) ∙ ap fate e)
+pub read_reached : (limit : ℕ) (rooms : ListRooms) (l : List ℕ) (x : Described) (r : List ℕ) → read_of limit rooms l ≡ got x r → Reached limit rooms l nothing []
+read_reached limit rooms l x r e = find_count limit rooms l done l begin (sym (read_fate limit rooms l) ∙ ap fate e)
 
-pub reached-read : (limit : ℕ) (rooms : ListRooms) (l : List ℕ) → Reached limit rooms l nothing [] → (x : Described) × (r : List ℕ) × (read_of limit rooms l ≡ got x r)
-reached-read limit rooms l q = go (read_of limit rooms l) (read-fate limit rooms l ∙ reached-from limit rooms (length l) q)
+pub reached_read : (limit : ℕ) (rooms : ListRooms) (l : List ℕ) → Reached limit rooms l nothing [] → (x : Described) × (r : List ℕ) × (read_of limit rooms l ≡ got x r)
+reached_read limit rooms l q = go (read_of limit rooms l) (read_fate limit rooms l ∙ reached_from limit rooms (length l) q)
   where
     go : (g : Got Described) → fate g ≡ done → (x : Described) × (r : List ℕ) × (g ≡ got x r)
     go (got x r) e = (x, r, refl)

@@ -8,21 +8,21 @@ use lib.IntN.{ℤ, pos}
 use lib.Ieee.{Float}
 use Rattle.codes.specs.declared.Code.{Code}
 use Rattle.shape.specs.Shape.{points_of}
-use Rattle.list.specs.List.{ListRooms, Got, got, stop, Described, described, limitOf, read_of}
-use Rattle.list.specs.Steps.{f32Of, zeroF32}
+use Rattle.list.specs.List.{ListRooms, Got, got, stop, Described, described, limit_of, read_of}
+use Rattle.list.specs.Steps.{f32_of, zero_f32}
 use Rattle.read_list.specs.declared.ReadAnswer.{ReadAnswer}
-use Rattle.reader.specs.Read.{leaves, rooms_of, outcome, readOutcome}
+use Rattle.reader.specs.Read.{leaves, rooms_of, outcome, read_outcome}
 use Rattle.reader.specs.Rest.{ListLeft, Wiped}
 
 -- ---- zeros before, and zeros after a refusal
 
-pub drop-replicate : {A : Type 0} (k n : ℕ) (z : A) → drop k (replicate n z) ≡ replicate (n - k) z
-drop-replicate zero n z = rw sub-zero
-drop-replicate (suc k) zero z = rw zero-sub
-drop-replicate (suc k) (suc n) z = rw suc-sub-suc (drop-replicate k n z)
+pub drop_replicate : {A : Type 0} (k n : ℕ) (z : A) → drop k (replicate n z) ≡ replicate (n - k) z
+drop_replicate zero n z = rw sub-zero
+drop_replicate (suc k) zero z = rw zero-sub
+drop_replicate (suc k) (suc n) z = rw suc-sub-suc (drop_replicate k n z)
 
 pub refused : (g : Got Described) (k : Code) (p : ℕ) (n n' : List ℕ) (s s' : List Float) (d d' c c' : List ℤ) (rooms : ListRooms) → ListLeft g (ReadAnswer.Refused k p) n n' s s' d d' c c'
-    → leaves (ReadAnswer.Refused k p) (replicate rooms.counts 0) (replicate rooms.starts zeroF32) (replicate rooms.deltas (pos 0)) (replicate rooms.coefficients (pos 0)) ≡ outcome rooms g
+    → leaves (ReadAnswer.Refused k p) (replicate rooms.counts 0) (replicate rooms.starts zero_f32) (replicate rooms.deltas (pos 0)) (replicate rooms.coefficients (pos 0)) ≡ outcome rooms g
 refused (got (described a zs ns ds cs) l) k p n n' s s' d d' c c' rooms h = cc h.0
 refused (stop j q) k p n n' s s' d d' c c' rooms h =
     let x : j ≡ k = cc in
@@ -30,7 +30,7 @@ refused (stop j q) k p n n' s s' d d' c c' rooms h =
     rw (x, y)
 
 pub done : (g : Got Described) (i m : ℕ) (a : ℤ) (n' : List ℕ) (s' : List Float) (d' c' : List ℤ) (rooms : ListRooms)
-    → ListLeft g (ReadAnswer.Done i m a) (replicate rooms.counts 0) n' (replicate rooms.starts zeroF32) s' (replicate rooms.deltas (pos 0)) d' (replicate rooms.coefficients (pos 0)) c'
+    → ListLeft g (ReadAnswer.Done i m a) (replicate rooms.counts 0) n' (replicate rooms.starts zero_f32) s' (replicate rooms.deltas (pos 0)) d' (replicate rooms.coefficients (pos 0)) c'
     → leaves (ReadAnswer.Done i m a) n' s' d' c' ≡ outcome rooms g
 done (stop j q) i m a n' s' d' c' rooms h = cc
 done (got (described b zs ns ds cs) l) i m a n' s' d' c' rooms h =
@@ -45,35 +45,35 @@ done (got (described b zs ns ds cs) l) i m a n' s' d' c' rooms h =
       x,
       y,
       w,
-      drop-replicate {A = ℕ} (length ns) rooms.counts 0,
-      drop-replicate (length (map f32Of zs)) rooms.starts zeroF32,
-      drop-replicate (length ds) rooms.deltas (pos 0),
-      drop-replicate (length cs) rooms.coefficients (pos 0),
+      drop_replicate {A = ℕ} (length ns) rooms.counts 0,
+      drop_replicate (length (map f32_of zs)) rooms.starts zero_f32,
+      drop_replicate (length ds) rooms.deltas (pos 0),
+      drop_replicate (length cs) rooms.coefficients (pos 0),
     )
 
-module _ (configured pixels limit : ℕ) (el : limit ≡ limitOf configured pixels) (list : List ℕ) (n wn : List ℕ) (s ws : List Float) (d wd c wc : List ℤ) (w : Wiped n wn s ws d wd c wc) where
+module _ (configured pixels limit : ℕ) (el : limit ≡ limit_of configured pixels) (list : List ℕ) (n wn : List ℕ) (s ws : List Float) (d wd c wc : List ℤ) (w : Wiped n wn s ws d wd c wc) where
   same : rooms_of wn ws wd wc ≡ rooms_of n s d c
   same =
       rw (
         ap length w.counts ∙ length-replicate {A = ℕ} (length n) 0,
-        ap length w.starts ∙ length-replicate (length s) zeroF32,
+        ap length w.starts ∙ length-replicate (length s) zero_f32,
         ap length w.deltas ∙ length-replicate (length d) (pos 0),
         ap length w.coefficients ∙ length-replicate (length c) (pos 0),
       )
 
   pub read_done : (i m : ℕ) (a : ℤ) (n' : List ℕ) (s' : List Float) (d' c' : List ℤ)
       → ListLeft (read_of limit (rooms_of wn ws wd wc) list) (ReadAnswer.Done i m a) wn n' ws s' wd d' wc c'
-      → leaves (ReadAnswer.Done i m a) n' s' d' c' ≡ readOutcome configured pixels (rooms_of n s d c) list
+      → leaves (ReadAnswer.Done i m a) n' s' d' c' ≡ read_outcome configured pixels (rooms_of n s d c) list
   read_done i m a n' s' d' c' h =
-      done (read_of (limitOf configured pixels) (rooms_of n s d c) list) i m a n' s' d' c' (rooms_of n s d c)
+      done (read_of (limit_of configured pixels) (rooms_of n s d c) list) i m a n' s' d' c' (rooms_of n s d c)
       (rw (same, el, w.counts, w.starts, w.deltas, w.coefficients) at h)
 
-  pub read-refused : (k : Code) (p : ℕ) (n' n'' : List ℕ) (s' s'' : List Float) (d' d'' c' c'' : List ℤ)
+  pub read_refused : (k : Code) (p : ℕ) (n' n'' : List ℕ) (s' s'' : List Float) (d' d'' c' c'' : List ℤ)
       → ListLeft (read_of limit (rooms_of wn ws wd wc) list) (ReadAnswer.Refused k p) wn n' ws s' wd d' wc c'
       → length n' ≡ length wn → length s' ≡ length ws → length d' ≡ length wd → length c' ≡ length wc → Wiped n' n'' s' s'' d' d'' c' c''
-      → leaves (ReadAnswer.Refused k p) n'' s'' d'' c'' ≡ readOutcome configured pixels (rooms_of n s d c) list
-  read-refused k p n' n'' s' s'' d' d'' c' c'' h ln ls ld lc v =
+      → leaves (ReadAnswer.Refused k p) n'' s'' d'' c'' ≡ read_outcome configured pixels (rooms_of n s d c) list
+  read_refused k p n' n'' s' s'' d' d'' c' c'' h ln ls ld lc v =
       rw (v.counts, v.starts, v.deltas, v.coefficients, ln ∙ ap ListRooms.counts same, ls ∙ ap ListRooms.starts same, ld ∙ ap ListRooms.deltas same, lc ∙ ap ListRooms.coefficients same)
-      (refused (read_of (limitOf configured pixels) (rooms_of n s d c) list) k p wn n' ws s' wd d' wc c' (rooms_of n s d c) (rw (same, el) at h))
+      (refused (read_of (limit_of configured pixels) (rooms_of n s d c) list) k p wn n' ws s' wd d' wc c' (rooms_of n s d c) (rw (same, el) at h))
 
 -- Assumes nothing.

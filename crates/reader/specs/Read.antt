@@ -3,8 +3,8 @@ use Rattle.std.specs.Prelude.{List, ◌++◌, map, ℕ, ◌-◌, length, replica
 use Rattle.buffers.specs.Padded.{padded}
 use Rattle.codes.specs.Codes.{number_of}
 use Rattle.shape.specs.Shape.{points_of}
-use Rattle.list.specs.List.{Got, got, stop, ListRooms, Described, described, limitOf, read_of}
-use Rattle.list.specs.Steps.{f32Of, zeroF32}
+use Rattle.list.specs.List.{Got, got, stop, ListRooms, Described, described, limit_of, read_of}
+use Rattle.list.specs.Steps.{f32_of, zero_f32}
 use Rattle.read_list.specs.declared.ReadAnswer.{ReadAnswer}
 pub use Rattle.read_list.specs.Rest.{rooms_of}
 
@@ -17,9 +17,9 @@ pub record ReadTold : Type 0 where
   pub adjustment : ℤ
 
 -- a success is number 0 at place 0; a refusal has counts of 0
-abbrev pub toldOf : ReadAnswer → ReadTold
-toldOf (ReadAnswer.Done s n a) = record { number = 0; place = 0; splines = s; points = n; adjustment = a }
-toldOf (ReadAnswer.Refused c p) = record { number = number_of c; place = p; splines = 0; points = 0; adjustment = pos 0 }
+abbrev pub told_of : ReadAnswer → ReadTold
+told_of (ReadAnswer.Done s n a) = record { number = 0; place = 0; splines = s; points = n; adjustment = a }
+told_of (ReadAnswer.Refused c p) = record { number = number_of c; place = p; splines = 0; points = 0; adjustment = pos 0 }
 
 -- the answer, what it tells, and the four lent buffers
 pub record ReadOutcome : Type 0 where
@@ -31,7 +31,7 @@ pub record ReadOutcome : Type 0 where
   pub coefficients : List ℤ
 
 abbrev pub leaves : ReadAnswer → List ℕ → List Float → List ℤ → List ℤ → ReadOutcome
-leaves r ns zs ds cs = record { answer = r; told = toldOf r; counts = ns; starts = zs; deltas = ds; coefficients = cs }
+leaves r ns zs ds cs = record { answer = r; told = told_of r; counts = ns; starts = zs; deltas = ds; coefficients = cs }
 
 -- what was read, or a refusal with every cell zero
 abbrev pub outcome : ListRooms → Got Described → ReadOutcome
@@ -39,7 +39,7 @@ outcome rooms (got (described a zs ns ds cs) l) = record {
   answer = ReadAnswer.Done (length ns) (points_of ns) a;
   told = record { number = 0; place = 0; splines = length ns; points = points_of ns; adjustment = a };
   counts = padded rooms.counts 0 ns;
-  starts = padded rooms.starts zeroF32 (map f32Of zs);
+  starts = padded rooms.starts zero_f32 (map f32_of zs);
   deltas = padded rooms.deltas (pos 0) ds;
   coefficients = padded rooms.coefficients (pos 0) cs;
 }
@@ -47,11 +47,11 @@ outcome rooms (stop c p) = record {
   answer = ReadAnswer.Refused c p;
   told = record { number = number_of c; place = p; splines = 0; points = 0; adjustment = pos 0 };
   counts = replicate rooms.counts 0;
-  starts = replicate rooms.starts zeroF32;
+  starts = replicate rooms.starts zero_f32;
   deltas = replicate rooms.deltas (pos 0);
   coefficients = replicate rooms.coefficients (pos 0);
 }
 
 -- the outcome of reading a list
-abbrev pub readOutcome : ℕ → ℕ → ListRooms → List ℕ → ReadOutcome
-readOutcome configured pixels rooms list = outcome rooms (read_of (limitOf configured pixels) rooms list)
+abbrev pub read_outcome : ℕ → ℕ → ListRooms → List ℕ → ReadOutcome
+read_outcome configured pixels rooms list = outcome rooms (read_of (limit_of configured pixels) rooms list)

@@ -2,7 +2,7 @@
 #![tactic(auto)]
 
 ghost use Rattle.std.specs.Prelude.{◌≡◌};
-ghost use Rattle.reader.specs.Read.{leaves, rooms_of, readOutcome};
+ghost use Rattle.reader.specs.Read.{leaves, rooms_of, read_outcome};
 ghost use Rattle.reader.specs.Rest.{Wiped};
 
 use buffers::{clear_f32, clear_i32, clear_u32};
@@ -29,7 +29,7 @@ pub fn read(
     coefficients: &mut [i32],
 ) -> ReadAnswer
     ensures { leaves result counts.new starts.new deltas.new coefficients.new
-        ≡ readOutcome configured pixels (rooms_of counts.old starts.old deltas.old coefficients.old) list.now }
+        ≡ read_outcome configured pixels (rooms_of counts.old starts.old deltas.old coefficients.old) list.now }
 {
     let most = limit(configured, pixels);
     wipe(counts, starts, deltas, coefficients);

@@ -17,30 +17,30 @@ module _ {A : Type 0} (f : ℕ → A) where
   fills zero ys = ys
   fills (suc n) ys = set (fills n ys) n (f n)
 
-  pub length-fills : (n : ℕ) (ys : List A) → length (fills n ys) ≡ length ys
-  length-fills zero ys = refl
-  length-fills (suc n) ys = length-set (fills n ys) n (f n) ∙ length-fills n ys
+  pub length_fills : (n : ℕ) (ys : List A) → length (fills n ys) ≡ length ys
+  length_fills zero ys = refl
+  length_fills (suc n) ys = length-set (fills n ys) n (f n) ∙ length_fills n ys
 
-  pub fills-at : (n : ℕ) (ys : List A) (k : ℕ) (d : A) → k < n → k < length ys → get_or (fills n ys) k d ≡ f k
-  fills-at zero ys k d h l = absurd (not-suc-le-zero h)
-  fills-at (suc n) ys k d h l = ⊎_elim
-      (λ (e : k ≡ n). subst (λ (j : ℕ). get_or (fills (suc n) ys) j d ≡ f j) (sym e) (get_or-set_same (fills n ys) n (f n) d (subst (λ (m : ℕ). n < m) (sym (length-fills n ys)) (subst (λ (j : ℕ). j < length ys) e l))))
-      (λ lt. get_or-set_other (fills n ys) n k (f n) d (λ e. lt_irrefl n (subst (λ (j : ℕ). j < n) e lt)) ∙ fills-at n ys k d lt l)
+  pub fills_at : (n : ℕ) (ys : List A) (k : ℕ) (d : A) → k < n → k < length ys → get_or (fills n ys) k d ≡ f k
+  fills_at zero ys k d h l = absurd (not-suc-le-zero h)
+  fills_at (suc n) ys k d h l = ⊎_elim
+      (λ (e : k ≡ n). subst (λ (j : ℕ). get_or (fills (suc n) ys) j d ≡ f j) (sym e) (get_or-set_same (fills n ys) n (f n) d (subst (λ (m : ℕ). n < m) (sym (length_fills n ys)) (subst (λ (j : ℕ). j < length ys) e l))))
+      (λ lt. get_or-set_other (fills n ys) n k (f n) d (λ e. lt_irrefl n (subst (λ (j : ℕ). j < n) e lt)) ∙ fills_at n ys k d lt l)
       (eq-or-lt_of_le (le_of_suc-le-suc h))
 
-  pub length-listFrom : (i n : ℕ) → length (list_from f i n) ≡ n
-  length-listFrom i zero = refl
-  length-listFrom i (suc n) = ap suc (length-listFrom (suc i) n)
+  pub length_list_from : (i n : ℕ) → length (list_from f i n) ≡ n
+  length_list_from i zero = refl
+  length_list_from i (suc n) = ap suc (length_list_from (suc i) n)
 
-  pub listFrom-at : (i n k : ℕ) (d : A) → k < n → get_or (list_from f i n) k d ≡ f (i + k)
-  listFrom-at i zero k d h = absurd (not-suc-le-zero h)
-  listFrom-at i (suc n) zero d h = ap f (sym (add-zero i))
-  listFrom-at i (suc n) (suc k) d h = listFrom-at (suc i) n k d (le_of_suc-le-suc h) ∙ ap f (suc-add i k ∙ sym (add-suc i k))
+  pub list_from_at : (i n k : ℕ) (d : A) → k < n → get_or (list_from f i n) k d ≡ f (i + k)
+  list_from_at i zero k d h = absurd (not-suc-le-zero h)
+  list_from_at i (suc n) zero d h = ap f (sym (add-zero i))
+  list_from_at i (suc n) (suc k) d h = list_from_at (suc i) n k d (le_of_suc-le-suc h) ∙ ap f (suc-add i k ∙ sym (add-suc i k))
 
   -- the value d is any: a list that is not empty has one
-  pub fills-all : (d : A) (ys : List A) → fills (length ys) ys ≡ list_from f 0 (length ys)
-  fills-all d ys = ext_get_or d (fills (length ys) ys) (list_from f 0 (length ys)) (length-fills (length ys) ys ∙ sym (length-listFrom 0 (length ys)))
-      (λ k h. fills-at (length ys) ys k d (subst (λ (m : ℕ). k < m) (length-fills (length ys) ys) h) (subst (λ (m : ℕ). k < m) (length-fills (length ys) ys) h)
-      ∙ sym (listFrom-at 0 (length ys) k d (subst (λ (m : ℕ). k < m) (length-fills (length ys) ys) h) ∙ ap f (zero-add k)))
+  pub fills_all : (d : A) (ys : List A) → fills (length ys) ys ≡ list_from f 0 (length ys)
+  fills_all d ys = ext_get_or d (fills (length ys) ys) (list_from f 0 (length ys)) (length_fills (length ys) ys ∙ sym (length_list_from 0 (length ys)))
+      (λ k h. fills_at (length ys) ys k d (subst (λ (m : ℕ). k < m) (length_fills (length ys) ys) h) (subst (λ (m : ℕ). k < m) (length_fills (length ys) ys) h)
+      ∙ sym (list_from_at 0 (length ys) k d (subst (λ (m : ℕ). k < m) (length_fills (length ys) ys) h) ∙ ap f (zero-add k)))
 
 -- Assumes nothing.

@@ -4,7 +4,7 @@
 ghost use Rattle.std.specs.Prelude.{◌≡◌, [], ◌∷◌, length, get_or};
 ghost use Rattle.desks.specs.Desks.{sight_of};
 ghost use Rattle.draw.specs.Draw.{three, leaves};
-ghost use Rattle.records.specs.Records.{zeroRecord, recordsOf, drawRecordOf, drawNumberOf, judgeFor, drawFor};
+ghost use Rattle.records.specs.Records.{zero_record, records_of, draw_record_of, draw_number_of, judge_for, draw_for};
 
 use alone::draw_alone;
 use checks::Verdict;
@@ -25,7 +25,7 @@ fn judge_for(
     y: u32,
     spanned: bool,
 ) -> Verdict
-    ensures { result ≡ judgeFor known (sight_of (owner ∷ []) splines bits.now desk) y spanned }
+    ensures { result ≡ judge_for known (sight_of (owner ∷ []) splines bits.now desk) y spanned }
 {
     if 2 <= desk {
         return Verdict::Fault(Code::Desk);
@@ -63,7 +63,7 @@ pub fn draw_for_desk(
     r2: &mut [f32],
 ) -> DrawAnswer
     ensures { leaves result (three r0.new r1.new r2.new)
-        ≡ drawFor known whole splines bits.now desk y x0 n (three r0.old r1.old r2.old) }
+        ≡ draw_for known whole splines bits.now desk y x0 n (three r0.old r1.old r2.old) }
 {
     let owner = whole.owner;
     let spanned = checks::span_good(x0, n, r0.len(), r1.len(), r2.len());
@@ -84,7 +84,7 @@ pub fn draw_for_desk(
 
 // The record at an index, or zeros past the end.
 pub fn segment_at(records: &[SegmentRecord], i: usize) -> SegmentRecord
-    ensures { result ≡ get_or records.now i zeroRecord }
+    ensures { result ≡ get_or records.now i zero_record }
 {
     if i < records.len() {
         return records[i];
@@ -94,7 +94,7 @@ pub fn segment_at(records: &[SegmentRecord], i: usize) -> SegmentRecord
 
 // Every record is set: the first `count` to the segments of the flat slice with their owners, the others to zeros.
 pub fn fill_records(flat: &[f32], owners: &[u64], count: usize, records: &mut [SegmentRecord])
-    ensures { records.new ≡ recordsOf flat.now owners.now count (length records.old) }
+    ensures { records.new ≡ records_of flat.now owners.now count (length records.old) }
 {
     let mut i = 0;
     while i < records.len() {
@@ -115,7 +115,7 @@ pub fn draw_record(
     r2: &mut [f32],
 ) -> DrawAnswer
     ensures { leaves result (three r0.new r1.new r2.new)
-        ≡ drawRecordOf records.now i y x0 n (three r0.old r1.old r2.old) }
+        ≡ draw_record_of records.now i y x0 n (three r0.old r1.old r2.old) }
 {
     let known = i < records.len();
     let whole = segment_at(records, i);
@@ -136,7 +136,7 @@ fn draw_in_16(
     r2: &mut [f32],
 ) -> DrawAnswer
     ensures { leaves result (three r0.new r1.new r2.new)
-        ≡ drawRecordOf (recordsOf flat.now owners.now count 16) i y x0 n (three r0.old r1.old r2.old) }
+        ≡ draw_record_of (records_of flat.now owners.now count 16) i y x0 n (three r0.old r1.old r2.old) }
 {
     let zero = zero_record();
     let mut records = [zero; 16];
@@ -160,7 +160,7 @@ pub fn draw_by_records(
     r2: &mut [f32],
 ) -> DrawAnswer
     ensures { leaves result (three r0.new r1.new r2.new)
-        ≡ drawNumberOf flat.now count i y x0 n (three r0.old r1.old r2.old) }
+        ≡ draw_number_of flat.now count i y x0 n (three r0.old r1.old r2.old) }
 {
     if !is_known(flat, count, i) {
         return DrawAnswer::Refused(Code::Table, 0);

@@ -1,6 +1,6 @@
 // How many stored cases of a kind the port agrees with. A layer's comparison is a module of its own, and has its line in `agrees`.
 ghost use Rattle.std.specs.Prelude.{◌≤◌, length, get_or};
-ghost use Rattle.frame.specs.Frame.{caseEnd, IsWhole};
+ghost use Rattle.frame.specs.Frame.{case_end, IsWhole};
 
 use crate::{lists, number_leaves};
 
@@ -37,7 +37,7 @@ fn agrees(kind: u32, input: &[u32], output: &[u32]) -> bool {
 
 // Whether the case at a place is of a kind and the port agrees with it: 1 or 0.
 fn agrees_at(words: &[u32], at: usize, kind: u32) -> u32
-    requires { caseEnd words.now at ≤ length words.now }
+    requires { case_end words.now at ≤ length words.now }
     ensures { result ≤ 1 }
 {
     if words[at] != kind {

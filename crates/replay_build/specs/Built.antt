@@ -3,11 +3,11 @@ use Rattle.std.specs.Prelude.{◌≡◌, List, ℕ, ◌+◌, ◌-◌, ◌*◌, �
 use Rattle.codes.specs.Codes.{number_of}
 use Rattle.codes.specs.declared.Code.{Code}
 use Rattle.dequantize.specs.Coefficients.{table}
-use Rattle.dequantize.specs.Judge.{Description, descriptionOf}
+use Rattle.dequantize.specs.Judge.{Description, description_of}
 use Rattle.build_answer.specs.declared.BuildAnswer.{BuildAnswer}
 use Rattle.build_answer.specs.declared.BuildAnswer.TheVariants.{Done, Refused}
 use Rattle.table.specs.Table.{BuildRooms, Setting, setting_of, BuildOutcome}
-use Rattle.stored.specs.Stored.{float_in, signedIn, longIn, refusalWord, Begins, BeginsWith}
+use Rattle.stored.specs.Stored.{float_in, signed_in, long_in, refusal_word, Begins, BeginsWith}
 
 -- the words from a up to b
 abbrev pub part : ℕ → ℕ → List ℕ → List ℕ
@@ -21,7 +21,7 @@ pub record Headed (count listed estimate : ℕ) (output : List ℕ) : Type 0 whe
   pub place : get_or output 1 0 ≡ 0
   pub segments : get_or output 2 0 ≡ count
   pub entries : get_or output 3 0 ≡ listed
-  pub area : estimate ≡ longIn output 4
+  pub area : estimate ≡ long_in output 4
 
 -- a success: behind the head the numbers of the segments, their owners, the row starts and the entries, and no word more
 pub record TableAgrees (count listed estimate height : ℕ) (segments : List Float) (owners starts entries output : List ℕ) : Type 0 where
@@ -35,7 +35,7 @@ pub record TableAgrees (count listed estimate height : ℕ) (segments : List Flo
 -- a refusal: its code and its place, and no word more
 pub record RefusalAgrees (code : Code) (place : ℕ) (output : List ℕ) : Type 0 where
   pub size : length output ≡ 2
-  pub number : refusalWord (number_of code) ≡ get_or output 0 0
+  pub number : refusal_word (number_of code) ≡ get_or output 0 0
   pub at : get_or output 1 0 ≡ place
 
 abbrev pub AnswerAgrees : BuildAnswer → ℕ → List Float → List ℕ → List ℕ → List ℕ → List ℕ → Type 0
@@ -59,28 +59,28 @@ lent = record {
   entries = 512;
 }
 
-abbrev pub imageIn : List ℕ → Setting
-imageIn input =
-    setting_of (signedIn input 8) (get_or input 0 0) (get_or input 1 0) (float_in input 2) (float_in input 3) (eqb (get_or input 4 0) 1) (eqb (get_or input 5 0) 1)
+abbrev pub image_in : List ℕ → Setting
+image_in input =
+    setting_of (signed_in input 8) (get_or input 0 0) (get_or input 1 0) (float_in input 2) (float_in input 3) (eqb (get_or input 4 0) 1) (eqb (get_or input 5 0) 1)
 
 -- the starts among 16 cells, and signed numbers among so many
-abbrev pub floatsIn : List ℕ → List Float
-floatsIn words = take (length words) (table (float_in words) 16)
+abbrev pub floats_in : List ℕ → List Float
+floats_in words = take (length words) (table (float_in words) 16)
 
-abbrev pub signedsIn : ℕ → List ℕ → List ℤ
-signedsIn cells words = take (length words) (table (signedIn words) cells)
+abbrev pub signeds_in : ℕ → List ℕ → List ℤ
+signeds_in cells words = take (length words) (table (signed_in words) cells)
 
 -- where the counts, the starts and the double deltas of a case end
-abbrev pub countsEnd : List ℕ → ℕ
-countsEnd input = 9 + get_or input 6 0
+abbrev pub counts_end : List ℕ → ℕ
+counts_end input = 9 + get_or input 6 0
 
-abbrev pub startsEnd : List ℕ → ℕ
-startsEnd input = countsEnd input + 2 * get_or input 6 0
+abbrev pub starts_end : List ℕ → ℕ
+starts_end input = counts_end input + 2 * get_or input 6 0
 
-abbrev pub deltasEnd : List ℕ → ℕ
-deltasEnd input = startsEnd input + 2 * get_or input 7 0
+abbrev pub deltas_end : List ℕ → ℕ
+deltas_end input = starts_end input + 2 * get_or input 7 0
 
-abbrev pub descriptionIn : List ℕ → Description
-descriptionIn input =
-    descriptionOf (part 9 (countsEnd input) input) (floatsIn (part (countsEnd input) (startsEnd input) input))
-    (signedsIn 2048 (part (startsEnd input) (deltasEnd input) input)) (signedsIn 1024 (part (deltasEnd input) (length input) input))
+abbrev pub description_in : List ℕ → Description
+description_in input =
+    description_of (part 9 (counts_end input) input) (floats_in (part (counts_end input) (starts_end input) input))
+    (signeds_in 2048 (part (starts_end input) (deltas_end input) input)) (signeds_in 1024 (part (deltas_end input) (length input) input))

@@ -4,9 +4,9 @@
 
 ghost use Rattle.std.specs.Prelude.{◌≡◌, true, ◌≤◌, length, get_or};
 ghost use Rattle.stored.specs.Stored.{BeginsWith};
-ghost use Rattle.dequantize.specs.Judge.{descriptionOf};
-ghost use Rattle.table.specs.Table.{buildOf};
-ghost use Rattle.replay_build.specs.Built.{Headed, TableAgrees, RefusalAgrees, AnswerAgrees, BuildAgrees, lent, imageIn, floatsIn, signedsIn, descriptionIn};
+ghost use Rattle.dequantize.specs.Judge.{description_of};
+ghost use Rattle.table.specs.Table.{build_of};
+ghost use Rattle.replay_build.specs.Built.{Headed, TableAgrees, RefusalAgrees, AnswerAgrees, BuildAgrees, lent, image_in, floats_in, signeds_in, description_in};
 
 use codes::Code;
 use table::BuildAnswer;
@@ -136,7 +136,7 @@ fn is_built(
     output: &[u32],
 ) -> bool
     requires { 9 ≤ length input.now }
-    ensures { result ≡ true → BuildAgrees (buildOf (descriptionOf counts.now starts.now deltas.now coefficients.now) (imageIn input.now) lent) (get_or input.now 1 0) output.now }
+    ensures { result ≡ true → BuildAgrees (build_of (description_of counts.now starts.now deltas.now coefficients.now) (image_in input.now) lent) (get_or input.now 1 0) output.now }
 {
     let adjustment = stored::signed_word(input[8]);
     let y_to_x = stored::float(input[2]);
@@ -187,7 +187,7 @@ fn is_built_from(
     output: &[u32],
 ) -> bool
     requires { 9 ≤ length input.now }
-    ensures { result ≡ true → BuildAgrees (buildOf (descriptionOf counts.now (floatsIn starts.now) (signedsIn 2048 deltas.now) (signedsIn 1024 coefficients.now)) (imageIn input.now) lent) (get_or input.now 1 0) output.now }
+    ensures { result ≡ true → BuildAgrees (build_of (description_of counts.now (floats_in starts.now) (signeds_in 2048 deltas.now) (signeds_in 1024 coefficients.now)) (image_in input.now) lent) (get_or input.now 1 0) output.now }
 {
     if 16 < starts.len() {
         return false;
@@ -215,7 +215,7 @@ fn is_built_from(
 }
 
 pub fn build(input: &[u32], output: &[u32]) -> bool
-    ensures { result ≡ true → BuildAgrees (buildOf (descriptionIn input.now) (imageIn input.now) lent) (get_or input.now 1 0) output.now }
+    ensures { result ≡ true → BuildAgrees (build_of (description_in input.now) (image_in input.now) lent) (get_or input.now 1 0) output.now }
 {
     if input.len() < 9 {
         return false;

@@ -2,13 +2,13 @@
 use Rattle.std.specs.Prelude.{◌≡◌, List, ℕ, ◌+◌, ◌-◌, ◌*◌, ◌/◌, length, get_or, take, drop, replicate, Float}
 use Rattle.buffers.specs.Onto.{onto}
 use Rattle.dequantize.specs.Coefficients.{table}
-use Rattle.transform.specs.Transform.{continuousIdct}
-use Rattle.segments.specs.Segment.{eightOf}
+use Rattle.transform.specs.Transform.{continuous_idct}
+use Rattle.segments.specs.Segment.{eight_of}
 use Rattle.segments.specs.declared.Added.{Added}
 use Rattle.segments.specs.declared.Added.TheVariants.{Made, Nothing}
 use Rattle.numbers.specs.Arith.{f}
 use Rattle.walk.specs.Walk.{Walk, More, Ended, flat}
-use Rattle.draw.specs.Draw.{Channels, three, Table, table_of, Sight, sight_of, drawOf}
+use Rattle.draw.specs.Draw.{Channels, three, Table, table_of, Sight, sight_of, draw_of}
 use Rattle.stored.specs.Stored.{float_in, Begins}
 
 -- the words from a up to b
@@ -17,12 +17,12 @@ part a b words = take (b - a) (drop a words)
 
 -- the sum at t of a row of 32 coefficients
 abbrev pub TransformAgrees : List ℕ → List ℕ → Type 0
-TransformAgrees input output = continuousIdct (table (float_in input) 32) (float_in input 32) ≡ float_in output 0
+TransformAgrees input output = continuous_idct (table (float_in input) 32) (float_in input 32) ≡ float_in output 0
 
 -- what a point makes: nothing, or the eight floats behind a 1
 abbrev pub MadeAgrees : Added → List ℕ → Type 0
 MadeAgrees Nothing output = get_or output 0 0 ≡ 0
-MadeAgrees (Made s) output = Begins (eightOf s) (part 1 9 output)
+MadeAgrees (Made s) output = Begins (eight_of s) (part 1 9 output)
 
 -- a walk in 512 cells, its points three floats each
 abbrev pub WalkAgrees : Walk → List ℕ → Type 0
@@ -30,8 +30,8 @@ WalkAgrees More output = ⊥
 WalkAgrees (Ended points) output = (length points ≡ length output / 3) × Begins (onto (flat points) (replicate 512 (f 0))) output
 
 -- the path of a case
-abbrev pub pathIn : List ℕ → List Float
-pathIn input = take (length input) (table (float_in input) 256)
+abbrev pub path_in : List ℕ → List Float
+path_in input = take (length input) (table (float_in input) 256)
 
 -- three channels of n floats each, one after another
 pub record ChannelsAgree (n : ℕ) (channels : Channels) (words : List ℕ) : Type 0 where
@@ -40,8 +40,8 @@ pub record ChannelsAgree (n : ℕ) (channels : Channels) (words : List ℕ) : Ty
   pub third : Begins channels.r2 (part (2 * n) (3 * n) words)
 
 -- the three channels of a case before drawing, in 64 cells each
-abbrev pub channelsIn : ℕ → List ℕ → Channels
-channelsIn n words = three (table (float_in (part 0 n words)) 64) (table (float_in (part n (2 * n) words)) 64) (table (float_in (part (2 * n) (3 * n) words)) 64)
+abbrev pub channels_in : ℕ → List ℕ → Channels
+channels_in n words = three (table (float_in (part 0 n words)) 64) (table (float_in (part n (2 * n) words)) 64) (table (float_in (part (2 * n) (3 * n) words)) 64)
 
 -- the sight of a case, which hides nothing: every segment is of spline 0, whose byte is 0, seen from desk 0
 abbrev pub bare : Sight
@@ -49,20 +49,20 @@ bare = sight_of (replicate 64 0) 1 (replicate 1 0) 0
 
 -- n pixels of row y from column x0 on, drawn from a table
 abbrev pub DrawAgrees : Table → ℕ → ℕ → ℕ → List ℕ → List ℕ → Type 0
-DrawAgrees t y x0 n before after = ChannelsAgree n (drawOf t bare y x0 n (channelsIn n before)).channels after
+DrawAgrees t y x0 n before after = ChannelsAgree n (draw_of t bare y x0 n (channels_in n before)).channels after
 
 -- where the segments, the entries and the row starts of a case end
-abbrev pub segmentsEnd : List ℕ → ℕ
-segmentsEnd input = 6 + 8 * get_or input 0 0
+abbrev pub segments_end : List ℕ → ℕ
+segments_end input = 6 + 8 * get_or input 0 0
 
-abbrev pub entriesEnd : List ℕ → ℕ
-entriesEnd input = segmentsEnd input + get_or input 1 0
+abbrev pub entries_end : List ℕ → ℕ
+entries_end input = segments_end input + get_or input 1 0
 
-abbrev pub startsEnd : List ℕ → ℕ
-startsEnd input = entriesEnd input + get_or input 2 0 + 1
+abbrev pub starts_end : List ℕ → ℕ
+starts_end input = entries_end input + get_or input 2 0 + 1
 
 -- the table of a case, its segments in 512 cells
-abbrev pub tableIn : List ℕ → Table
-tableIn input =
-    table_of (table (float_in (part 6 (segmentsEnd input) input)) 512) (get_or input 0 0) (part (segmentsEnd input) (entriesEnd input) input) (get_or input 1 0)
-    (part (entriesEnd input) (startsEnd input) input) (get_or input 2 0)
+abbrev pub table_in : List ℕ → Table
+table_in input =
+    table_of (table (float_in (part 6 (segments_end input) input)) 512) (get_or input 0 0) (part (segments_end input) (entries_end input) input) (get_or input 1 0)
+    (part (entries_end input) (starts_end input) input) (get_or input 2 0)

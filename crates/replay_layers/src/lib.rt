@@ -2,12 +2,12 @@
 #![tactic(auto)]
 
 ghost use Rattle.std.specs.Prelude.{◌≡◌, true, ◌*◌, length, get_or, eqb};
-ghost use Rattle.segments.specs.Segment.{addSegment};
+ghost use Rattle.segments.specs.Segment.{add_segment};
 ghost use Rattle.segments.specs.declared.Added.TheVariants.{Made};
-ghost use Rattle.walk.specs.Walk.{walkIn};
+ghost use Rattle.walk.specs.Walk.{walk_in};
 ghost use Rattle.draw.specs.Draw.{table_of, three};
 ghost use Rattle.stored.specs.Stored.{float_in};
-ghost use Rattle.replay_layers.specs.Agreed.{part, TransformAgrees, MadeAgrees, WalkAgrees, pathIn, ChannelsAgree, DrawAgrees, tableIn, startsEnd};
+ghost use Rattle.replay_layers.specs.Agreed.{part, TransformAgrees, MadeAgrees, WalkAgrees, path_in, ChannelsAgree, DrawAgrees, table_in, starts_end};
 
 use codes::Code;
 use dequantize::Spline;
@@ -127,7 +127,7 @@ fn is_added(added: Added, output: &[u32]) -> bool
 }
 
 pub fn segment(input: &[u32], output: &[u32]) -> bool
-    ensures { result ≡ true → MadeAgrees (addSegment (float_in input.now 0) (float_in input.now 1) (float_in input.now 2) (float_in input.now 3) (float_in input.now 4) (float_in input.now 5) (float_in input.now 6) (eqb (get_or input.now 7 0) 1)) output.now }
+    ensures { result ≡ true → MadeAgrees (add_segment (float_in input.now 0) (float_in input.now 1) (float_in input.now 2) (float_in input.now 3) (float_in input.now 4) (float_in input.now 5) (float_in input.now 6) (eqb (get_or input.now 7 0) 1)) output.now }
 {
     if input.len() != 8 {
         return false;
@@ -150,7 +150,7 @@ pub fn segment(input: &[u32], output: &[u32]) -> bool
 // ---- the walk
 
 pub fn walk(input: &[u32], output: &[u32]) -> bool
-    ensures { result ≡ true → WalkAgrees (walkIn 170 (pathIn input.now)) output.now }
+    ensures { result ≡ true → WalkAgrees (walk_in 170 (path_in input.now)) output.now }
 {
     let n = input.len();
     if n < 2 {
@@ -238,7 +238,7 @@ fn draws(
 }
 
 pub fn draw(input: &[u32], output: &[u32]) -> bool
-    ensures { result ≡ true → DrawAgrees (tableIn input.now) (get_or input.now 3 0) (get_or input.now 4 0) (get_or input.now 5 0) (part (startsEnd input.now) (length input.now) input.now) output.now }
+    ensures { result ≡ true → DrawAgrees (table_in input.now) (get_or input.now 3 0) (get_or input.now 4 0) (get_or input.now 5 0) (part (starts_end input.now) (length input.now) input.now) output.now }
 {
     if input.len() < 6 {
         return false;

@@ -11,11 +11,11 @@ use Rattle.control_points.specs.declared.Start.{Start}
 use Rattle.control_points.specs.declared.Start.TheVariants.{At, Out}
 use Rattle.control_points.specs.declared.Traced.TheVariants.{On}
 use Rattle.dequantize.specs.Coefficients.{table}
-use Rattle.control_points.specs.ControlPoints.{traceOf}
+use Rattle.control_points.specs.ControlPoints.{trace_of}
 use Rattle.numbers.specs.Arith.{f}
 use Rattle.curve.specs.declared.Curved.TheVariants.{Points}
-use Rattle.curve.specs.Curve.{pathOf, curvedOf, curvedOn}
-use Rattle.stored.specs.Stored.{float_in, signedIn, longIn, refusalWord, Begins}
+use Rattle.curve.specs.Curve.{path_of, curved_of, curved_on}
+use Rattle.stored.specs.Stored.{float_in, signed_in, long_in, refusal_word, Begins}
 
 -- the words from a up to b
 abbrev pub part : ℕ → ℕ → List ℕ → List ℕ
@@ -25,13 +25,13 @@ part a b words = take (b - a) (drop a words)
 
 -- a control point as the bits of two floats
 pub record IsPoint (p : Pair) (x y : ℕ) : Type 0 where
-  pub x-is : of_int binary32 p.x ≡ of_bits binary32 x
-  pub y-is : of_int binary32 p.y ≡ of_bits binary32 y
+  pub x_is : of_int binary32 p.x ≡ of_bits binary32 x
+  pub y_is : of_int binary32 p.y ≡ of_bits binary32 y
 
 -- the double deltas are taken, and lead to that point
 pub record LeadsTo (limit : ℕ) (start : Pair) (ds : List ℤ) (x y : ℕ) : Type 0 where
   pub run : Run
-  pub traced : traceOf limit start ds ≡ On run
+  pub traced : trace_of limit start ds ≡ On run
   pub point : IsPoint run.point x y
 
 -- each control point is where the double deltas before it lead
@@ -50,7 +50,7 @@ pub record RowsAgree (s : Spline) (words : List ℕ) : Type 0 where
   pub y : Begins s.y (part 32 64 words)
   pub b : Begins s.b (part 64 96 words)
   pub sigma : Begins s.sigma (part 96 128 words)
-  pub estimate : s.estimate ≡ longIn (part 128 130 words) 0
+  pub estimate : s.estimate ≡ long_in (part 128 130 words) 0
   pub coincide : eqb (get_or words 130 0) 1 ≡ s.coincide
 
 -- a spline that was taken: the number of control points, the points, the rest
@@ -60,7 +60,7 @@ pub record TakenAgrees (limit : ℕ) (start : Start) (ds : List ℤ) (s : Spline
 
 -- the code, and what follows it where it is 0
 pub record DequantizeAgrees (limit : ℕ) (start : Start) (ds : List ℤ) (s : Spline) (output : List ℕ) : Type 0 where
-  pub code : refusalWord (number_of s.code) ≡ get_or output 0 0
+  pub code : refusal_word (number_of s.code) ≡ get_or output 0 0
   pub taken : get_or output 0 0 ≡ 0 → TakenAgrees limit start ds s output
 
 -- ---- the curve
@@ -71,8 +71,8 @@ pub record Sized (xs : List ℤ) (n : ℕ) : Type 0 where
 
 -- the path in 256 cells: as many points as the words have, and their floats
 pub record PathAgrees (start : Pair) (ds : List ℤ) (output : List ℕ) : Type 0 where
-  pub count : Points (length output / 2) ≡ curvedOf 128 (pathOf start ds)
-  pub path : Begins (curvedOn 128 (pathOf start ds) (replicate 256 (f 0))) output
+  pub count : Points (length output / 2) ≡ curved_of 128 (path_of start ds)
+  pub path : Begins (curved_on 128 (path_of start ds) (replicate 256 (f 0))) output
 
 -- a spline whose control points are those of the case, and its path
 pub record CurveAgrees (points output : List ℕ) : Type 0 where
@@ -84,16 +84,16 @@ pub record CurveAgrees (points output : List ℕ) : Type 0 where
 
 -- ---- the input
 
-abbrev pub givenIn : List ℕ → Given
-givenIn input = record { adjustment = signedIn input 2; y_to_x = float_in input 3; y_to_b = float_in input 4; limit = longIn input 0 }
+abbrev pub given_in : List ℕ → Given
+given_in input = record { adjustment = signed_in input 2; y_to_x = float_in input 3; y_to_b = float_in input 4; limit = long_in input 0 }
 
 -- where the double deltas of a case end
-abbrev pub deltasEnd : List ℕ → ℕ
-deltasEnd input = 8 + 2 * get_or input 7 0
+abbrev pub deltas_end : List ℕ → ℕ
+deltas_end input = 8 + 2 * get_or input 7 0
 
 -- the double deltas, among 64 cells, and the coefficients
-abbrev pub deltasIn : List ℕ → List ℤ
-deltasIn input = take (2 * get_or input 7 0) (table (signedIn (part 8 (deltasEnd input) input)) 64)
+abbrev pub deltas_in : List ℕ → List ℤ
+deltas_in input = take (2 * get_or input 7 0) (table (signed_in (part 8 (deltas_end input) input)) 64)
 
-abbrev pub coefficientsIn : List ℕ → List ℤ
-coefficientsIn input = table (signedIn (part (deltasEnd input) (length input) input)) 128
+abbrev pub coefficients_in : List ℕ → List ℤ
+coefficients_in input = table (signed_in (part (deltas_end input) (length input) input)) 128

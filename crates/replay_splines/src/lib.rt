@@ -2,10 +2,10 @@
 #![tactic(auto)]
 
 ghost use Rattle.std.specs.Prelude.{◌≡◌, true, ◌+◌, ◌/◌, ◌≤◌, length};
-ghost use Rattle.control_points.specs.ControlPoints.{validPointPos, startingPoint};
-ghost use Rattle.dequantize.specs.Dequantize.{dequantizeOf};
+ghost use Rattle.control_points.specs.ControlPoints.{valid_point_pos, starting_point};
+ghost use Rattle.dequantize.specs.Dequantize.{dequantize_of};
 ghost use Rattle.stored.specs.Stored.{float_in};
-ghost use Rattle.replay_splines.specs.Splines.{IsPoint, LeadsTo, PointsAgree, PointsFrom, RowsAgree, TakenAgrees, DequantizeAgrees, Sized, PathAgrees, CurveAgrees, givenIn, deltasIn, coefficientsIn};
+ghost use Rattle.replay_splines.specs.Splines.{IsPoint, LeadsTo, PointsAgree, PointsFrom, RowsAgree, TakenAgrees, DequantizeAgrees, Sized, PathAgrees, CurveAgrees, given_in, deltas_in, coefficients_in};
 
 use control_points::{Pair, Start, Traced};
 use curve::Curved;
@@ -24,7 +24,7 @@ fn is_point(point: Pair, x: u32, y: u32) -> bool
 
 // Whether the control point that the double deltas lead to is that of two words.
 fn leads_to(start: Pair, deltas: &[i32], limit: u64, x: u32, y: u32) -> bool
-    requires { validPointPos start ≡ true }
+    requires { valid_point_pos start ≡ true }
     ensures { result ≡ true → LeadsTo limit start deltas.now x y }
 {
     match control_points::trace(start, deltas, limit) {
@@ -35,7 +35,7 @@ fn leads_to(start: Pair, deltas: &[i32], limit: u64, x: u32, y: u32) -> bool
 
 // Whether the control points are those of the words, each had from the double deltas before it.
 fn points_agree(start: Pair, deltas: &[i32], limit: u64, points: &[u32]) -> bool
-    requires { validPointPos start ≡ true }
+    requires { valid_point_pos start ≡ true }
     ensures { result ≡ true → PointsAgree limit start deltas.now points.now }
 {
     let mut k = 0;
@@ -58,7 +58,7 @@ fn points_agree(start: Pair, deltas: &[i32], limit: u64, points: &[u32]) -> bool
 }
 
 fn points_agree_from(x: f32, y: f32, deltas: &[i32], limit: u64, points: &[u32]) -> bool
-    ensures { result ≡ true → PointsFrom limit (startingPoint x y) deltas.now points.now }
+    ensures { result ≡ true → PointsFrom limit (starting_point x y) deltas.now points.now }
 {
     match control_points::starting_point(x, y) {
         Start::Out => false,
@@ -99,7 +99,7 @@ fn is_finished(spline: Spline, words: &[u32]) -> bool
 
 // A spline that was taken: its control points, then the rest.
 fn is_taken(spline: Spline, x: f32, y: f32, deltas: &[i32], limit: u64, output: &[u32]) -> bool
-    ensures { result ≡ true → TakenAgrees limit (startingPoint x y) deltas.now spline output.now }
+    ensures { result ≡ true → TakenAgrees limit (starting_point x y) deltas.now spline output.now }
 {
     if output.len() < 2 {
         return false;
@@ -123,7 +123,7 @@ fn is_dequantized(
     limit: u64,
     output: &[u32],
 ) -> bool
-    ensures { result ≡ true → DequantizeAgrees limit (startingPoint x y) deltas.now spline output.now }
+    ensures { result ≡ true → DequantizeAgrees limit (starting_point x y) deltas.now spline output.now }
 {
     if output.len() < 1 {
         return false;
@@ -141,7 +141,7 @@ fn is_dequantized(
 // What all splines share, by the first words.
 fn given_of(input: &[u32]) -> Given
     requires { 5 ≤ length input.now }
-    ensures { result ≡ givenIn input.now }
+    ensures { result ≡ given_in input.now }
 {
     let limit = stored::long(input[0], input[1]);
     let adjustment = stored::signed_word(input[2]);
@@ -157,7 +157,7 @@ fn given_of(input: &[u32]) -> Given
 
 fn is_dequantized_from(input: &[u32], deltas: &[i32], coefficients: &[i32], output: &[u32]) -> bool
     requires { (7 ≤ length input.now) × (128 ≤ length coefficients.now) }
-    ensures { result ≡ true → DequantizeAgrees (givenIn input.now).limit (startingPoint (float_in input.now 5) (float_in input.now 6)) deltas.now (dequantizeOf (float_in input.now 5) (float_in input.now 6) deltas.now coefficients.now (givenIn input.now)) output.now }
+    ensures { result ≡ true → DequantizeAgrees (given_in input.now).limit (starting_point (float_in input.now 5) (float_in input.now 6)) deltas.now (dequantize_of (float_in input.now 5) (float_in input.now 6) deltas.now coefficients.now (given_in input.now)) output.now }
 {
     let given = given_of(input);
     let x = stored::float(input[5]);
@@ -167,7 +167,7 @@ fn is_dequantized_from(input: &[u32], deltas: &[i32], coefficients: &[i32], outp
 }
 
 pub fn dequantize(input: &[u32], output: &[u32]) -> bool
-    ensures { result ≡ true → DequantizeAgrees (givenIn input.now).limit (startingPoint (float_in input.now 5) (float_in input.now 6)) (deltasIn input.now) (dequantizeOf (float_in input.now 5) (float_in input.now 6) (deltasIn input.now) (coefficientsIn input.now) (givenIn input.now)) output.now }
+    ensures { result ≡ true → DequantizeAgrees (given_in input.now).limit (starting_point (float_in input.now 5) (float_in input.now 6)) (deltas_in input.now) (dequantize_of (float_in input.now 5) (float_in input.now 6) (deltas_in input.now) (coefficients_in input.now) (given_in input.now)) output.now }
 {
     if input.len() < 8 {
         return false;
@@ -216,7 +216,7 @@ fn double_deltas(points: &[f32], out: &mut [i32])
 
 // Whether the path is that of the words.
 fn is_path(start: Pair, deltas: &[i32], output: &[u32]) -> bool
-    requires { validPointPos start ≡ true }
+    requires { valid_point_pos start ≡ true }
     ensures { result ≡ true → PathAgrees start deltas.now output.now }
 {
     match control_points::trace(start, deltas, 1099511627776) {
@@ -237,7 +237,7 @@ fn is_path(start: Pair, deltas: &[i32], output: &[u32]) -> bool
 }
 
 fn is_curve_from(start: Pair, deltas: &[i32], points: &[u32], output: &[u32]) -> bool
-    requires { (validPointPos start ≡ true) × (length points.now / 2 ≡ length deltas.now / 2 + 1) }
+    requires { (valid_point_pos start ≡ true) × (length points.now / 2 ≡ length deltas.now / 2 + 1) }
     ensures { result ≡ true → CurveAgrees points.now output.now }
 {
     if !points_agree(start, deltas, 1099511627776, points) {

@@ -11,13 +11,13 @@ use lib.Ieee.{Float, inf, binary32, odd, units, fits, of_fields, of_bits, nan_bi
 use lib.Ieee.Bits.{cond_no, of_bits-fits, nan_bits_is}
 use lib.Ieee.Fits.{odd-fits, inf-fits, cond-fits}
 use lib.Ieee.Exact.{HasValue, odd_sign, units_val}
-use Rattle.numbers.proofs.Unique.{value-unique}
+use Rattle.numbers.proofs.Unique.{value_unique}
 use Rattle.to_f32.proofs.Pattern.{plain, valued}
 
 -- ---- a field j + 1 that is not the last, and digits d
-fields-are : (j d : ℕ) → j < 254 → of_fields binary32 false (suc j) d ≡ odd 24 false (2 ^ 23 + d) j 149
+fields_are : (j d : ℕ) → j < 254 → of_fields binary32 false (suc j) d ≡ odd 24 false (2 ^ 23 + d) j 149
 unfolding of_fields
-fields-are j d h = cond_no (eqb (suc j) 255) _ _ (not_T (eqb (suc j) 255) (λ t. go j h (eqb→eq (suc j) 255 t)))
+fields_are j d h = cond_no (eqb (suc j) 255) _ _ (not_T (eqb (suc j) 255) (λ t. go j h (eqb→eq (suc j) 255 t)))
   where
     go : (j : ℕ) → j < 254 → suc j ≡ 255 → ⊥
     go j h e = omega arith
@@ -49,23 +49,23 @@ module _ (j d : ℕ) (field : j < 254) (digits : d < 2 ^ 23) where
       plain b small
       ∙ ap (λ (z : ℕ). of_fields binary32 false z (b % 2 ^ 23)) field_is
       ∙ ap (λ (z : ℕ). of_fields binary32 false (suc j) z) digits_are
-      ∙ fields-are j d field
+      ∙ fields_are j d field
 
-  pub normal-value : HasValue (of_bits binary32 (suc j * 2 ^ 23 + d)) false ((2 ^ 23 + d) * 2 ^ j) (2 ^ 149)
-  normal-value = subst (λ (x : Float). HasValue x false ((2 ^ 23 + d) * 2 ^ j) (2 ^ 149)) (sym read) (odd_sign 24 false (2 ^ 23 + d) j 149)
+  pub normal_value : HasValue (of_bits binary32 (suc j * 2 ^ 23 + d)) false ((2 ^ 23 + d) * 2 ^ j) (2 ^ 149)
+  normal_value = subst (λ (x : Float). HasValue x false ((2 ^ 23 + d) * 2 ^ j) (2 ^ 149)) (sym read) (odd_sign 24 false (2 ^ 23 + d) j 149)
 
 -- ---- q * 2 ^ w
 module _ (q w : ℕ) (lo : 2 ^ 23 ≤ q) (hi : q ≤ 2 ^ 24) (room : w < 253) where
   abbrev c : ℕ
   c = w * 2 ^ 23 + q
 
-  value-at : (j d : ℕ) → j < 254 → d < 2 ^ 23 → suc j * 2 ^ 23 + d ≡ c → (2 ^ 23 + d) * 2 ^ j ≡ q * 2 ^ w → HasValue (of_bits binary32 c) false (q * 2 ^ w) (2 ^ 149)
-  value-at j d J D e v = subst (λ (z : ℕ). HasValue (of_bits binary32 z) false (q * 2 ^ w) (2 ^ 149)) e (subst (λ (z : ℕ). HasValue (of_bits binary32 (suc j * 2 ^ 23 + d)) false z (2 ^ 149)) v (normal-value j d J D))
+  value_at : (j d : ℕ) → j < 254 → d < 2 ^ 23 → suc j * 2 ^ 23 + d ≡ c → (2 ^ 23 + d) * 2 ^ j ≡ q * 2 ^ w → HasValue (of_bits binary32 c) false (q * 2 ^ w) (2 ^ 149)
+  value_at j d J D e v = subst (λ (z : ℕ). HasValue (of_bits binary32 z) false (q * 2 ^ w) (2 ^ 149)) e (subst (λ (z : ℕ). HasValue (of_bits binary32 (suc j * 2 ^ 23 + d)) false z (2 ^ 149)) v (normal_value j d J D))
 
-  pub pattern-value : HasValue (of_bits binary32 (w * 2 ^ 23 + q)) false (q * 2 ^ w) (2 ^ 149)
-  pattern-value = elim (eq-or-lt_of_le hi) [
-    | inl e ↦ value-at (suc w) 0 (go1 room) (pow_pos 23) (go2 e) (sym (pow-add 2 23 (suc w)) ∙ ap (λ (z : ℕ). 2 ^ z) (go3 w) ∙ pow-add 2 24 w ∙ ap (λ (z : ℕ). z * 2 ^ w) (sym e))
-    | inr l ↦ value-at w (q - 2 ^ 23) (go4 room) (go5 lo l) (go6 lo) (ap (λ (z : ℕ). z * 2 ^ w) (go7 lo))
+  pub pattern_value : HasValue (of_bits binary32 (w * 2 ^ 23 + q)) false (q * 2 ^ w) (2 ^ 149)
+  pattern_value = elim (eq-or-lt_of_le hi) [
+    | inl e ↦ value_at (suc w) 0 (go1 room) (pow_pos 23) (go2 e) (sym (pow-add 2 23 (suc w)) ∙ ap (λ (z : ℕ). 2 ^ z) (go3 w) ∙ pow-add 2 24 w ∙ ap (λ (z : ℕ). z * 2 ^ w) (sym e))
+    | inr l ↦ value_at w (q - 2 ^ 23) (go4 room) (go5 lo l) (go6 lo) (ap (λ (z : ℕ). z * 2 ^ w) (go7 lo))
   ]
     where
       go1 : w < 253 → suc w < 254
@@ -95,17 +95,17 @@ module _ (q w : ℕ) (lo : 2 ^ 23 ≤ q) (hi : q ≤ 2 ^ 24) (room : w < 253) wh
       go : w < 253 → 24 + w < 277
       go h = omega arith
 
-  units-fit : T (fits binary32 (units binary32 false q w))
+  units_fit : T (fits binary32 (units binary32 false q w))
   unfolding units
-  units-fit = cond-fits binary32 (ltb (q * 2 ^ w) (2 ^ 277)) (odd 25 false q w 149) (inf false) (odd-fits binary32 25 false q w (lt_of_le_of_lt hi (pow-lt (go))) hi under) (inf-fits binary32 false)
+  units_fit = cond-fits binary32 (ltb (q * 2 ^ w) (2 ^ 277)) (odd 25 false q w 149) (inf false) (odd-fits binary32 25 false q w (lt_of_le_of_lt hi (pow-lt (go))) hi under) (inf-fits binary32 false)
     where
       go : 24 < 25
       go = omega arith
 
-  pub pattern-is : of_bits binary32 (w * 2 ^ 23 + q) ≡ units binary32 false q w
-  pattern-is = value-unique binary32 (of_bits binary32 c) (units binary32 false q w) false (q * 2 ^ w) (2 ^ 149) (q * 2 ^ w) (2 ^ 149) (pow_pos 149) (pow_pos 149) (of_bits-fits binary32 c) units-fit pattern-value (units_val binary32 false q w under) refl
+  pub pattern_is : of_bits binary32 (w * 2 ^ 23 + q) ≡ units binary32 false q w
+  pattern_is = value_unique binary32 (of_bits binary32 c) (units binary32 false q w) false (q * 2 ^ w) (2 ^ 149) (q * 2 ^ w) (2 ^ 149) (pow_pos 149) (pow_pos 149) (of_bits-fits binary32 c) units_fit pattern_value (units_val binary32 false q w under) refl
 
-  pub pattern-no-nan : T (not (nan_bits binary32 (w * 2 ^ 23 + q)))
-  pattern-no-nan = subst (λ (t : Bool). T (not t)) (sym (nan_bits_is binary32 c)) (valued (of_bits binary32 c) false (q * 2 ^ w) (2 ^ 149) pattern-value)
+  pub pattern_no_nan : T (not (nan_bits binary32 (w * 2 ^ 23 + q)))
+  pattern_no_nan = subst (λ (t : Bool). T (not t)) (sym (nan_bits_is binary32 c)) (valued (of_bits binary32 c) false (q * 2 ^ w) (2 ^ 149) pattern_value)
 
 -- Assumes nothing.

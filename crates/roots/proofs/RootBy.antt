@@ -10,19 +10,19 @@ use lib.Pow.{pow-add, pow_pos, pow_mono, shl_lt}
 use lib.Ieee.{Float, binary32, fits, le, of_bits, to_bits, nan_bits}
 use lib.Ieee.Exact.{HasValue}
 use lib.Ieee.Positive.{positive, values_of_le, between}
-use Rattle.roots.specs.Root.{nearestRoot, sqrtOf, rootOf}
+use Rattle.roots.specs.Root.{nearest_root, sqrt_of, root_of}
 use Rattle.to_f32.specs.Digits.{Split}
-use Rattle.roots.proofs.Roots.{kept, raised, next-square}
-use Rattle.roots.proofs.RootOf.{sqrt-at, root-at, q-ge, q-le}
-use Rattle.to_f32.proofs.Pattern.{low-split, high-split}
-use Rattle.roots.specs.RootBy.{wholeBits, placeBits, rootBits}
+use Rattle.roots.proofs.Roots.{kept, raised, next_square}
+use Rattle.roots.proofs.RootOf.{sqrt_at, root_at, q_ge, q_le}
+use Rattle.to_f32.proofs.Pattern.{low_split, high_split}
+use Rattle.roots.specs.RootBy.{whole_bits, place_bits, root_bits}
 use Rattle.roots.proofs.Laid.{revalue}
-use Rattle.roots.proofs.Placed.{pattern-is, pattern-no-nan}
+use Rattle.roots.proofs.Placed.{pattern_is, pattern_no_nan}
 
 -- ---- the exact test
 module _ (n : ℕ) where
-  over : (r : ℕ) → r * r ≤ n → n ≤ r * r + r → r ≡ nearestRoot n
-  over r l h = kept n r (record { low = l; high = go (r * r) ((r + 1) * (r + 1)) (next-square r) h }) (go2 (r * r) l h)
+  over : (r : ℕ) → r * r ≤ n → n ≤ r * r + r → r ≡ nearest_root n
+  over r l h = kept n r (record { low = l; high = go (r * r) ((r + 1) * (r + 1)) (next_square r) h }) (go2 (r * r) l h)
     where
       go : (s t : ℕ) → t ≡ s + 2 * r + 1 → n ≤ s + r → n < t
       go s t e h = omega arith
@@ -30,8 +30,8 @@ module _ (n : ℕ) where
       go2 : (s : ℕ) → s ≤ n → n ≤ s + r → n - s ≤ r
       go2 s l h = omega arith
 
-  under : (q : ℕ) → n < (q + 1) * (q + 1) → (q + 1) * (q + 1) < n + (q + 1) → q + 1 ≡ nearestRoot n
-  under q l h = raised n q (record { low = go (q * q) ((q + 1) * (q + 1)) (next-square q) h; high = l }) (go2 (q * q) ((q + 1) * (q + 1)) (next-square q) h)
+  under : (q : ℕ) → n < (q + 1) * (q + 1) → (q + 1) * (q + 1) < n + (q + 1) → q + 1 ≡ nearest_root n
+  under q l h = raised n q (record { low = go (q * q) ((q + 1) * (q + 1)) (next_square q) h; high = l }) (go2 (q * q) ((q + 1) * (q + 1)) (next_square q) h)
     where
       go : (s t : ℕ) → t ≡ s + 2 * q + 1 → t < n + (q + 1) → s ≤ n
       go s t e h = omega arith
@@ -40,7 +40,7 @@ module _ (n : ℕ) where
       go2 s t e h = omega arith
 
   -- n lies on one side of the square of r
-  sides : (r : ℕ) (t : Bool) → (T t → r * r ≤ n) → (T (not t) → n < r * r) → n ≤ r * r + r → r * r < n + r → r ≡ nearestRoot n
+  sides : (r : ℕ) (t : Bool) → (T t → r * r ≤ n) → (T (not t) → n < r * r) → n ≤ r * r + r → r * r < n + r → r ≡ nearest_root n
   sides r true y z a b = over r (y tt) a
   sides zero false y z a b = absurd (go (z tt))
     where
@@ -51,16 +51,16 @@ module _ (n : ℕ) where
       go : (q : ℕ) → suc q ≡ q + 1
       go q = omega arith
 
-      step : (r : ℕ) → r ≡ q + 1 → n < r * r → r * r < n + r → r ≡ nearestRoot n
+      step : (r : ℕ) → r ≡ q + 1 → n < r * r → r * r < n + r → r ≡ nearest_root n
       step r e l b = e ∙ under q (subst (λ (z : ℕ). n < z * z) e l) (subst (λ (z : ℕ). z * z < n + z) e b)
 
-  pub tested : (r : ℕ) → n ≤ r * r + r → r * r < n + r → r ≡ nearestRoot n
+  pub tested : (r : ℕ) → n ≤ r * r + r → r * r < n + r → r ≡ nearest_root n
   tested r = sides r (leb (r * r) n) (leb→le (r * r) n) (nleb→lt (r * r) n)
 
 -- ---- the numbers of a pattern
 module _ (b : ℕ) where
-  whole-lo : 2 ^ 46 ≤ wholeBits b
-  whole-lo = le_trans (le_of_eq (pow-add 2 23 23)) (mul-le-mul (go (b % 2 ^ 23)) (pow_mono (go2 (b / 2 ^ 23))))
+  whole_lo : 2 ^ 46 ≤ whole_bits b
+  whole_lo = le_trans (le_of_eq (pow-add 2 23 23)) (mul-le-mul (go (b % 2 ^ 23)) (pow_mono (go2 (b / 2 ^ 23))))
     where
       go : (t : ℕ) → 8388608 ≤ t + 8388608
       go t = omega arith
@@ -68,8 +68,8 @@ module _ (b : ℕ) where
       go2 : (f : ℕ) → 23 ≤ 24 - f % 2
       go2 f = omega arith
 
-  whole-hi : wholeBits b < 2 ^ 48
-  whole-hi = lt_of_lt_of_le (shl_lt 24 (24 - b / 2 ^ 23 % 2) (go b)) (pow_mono (go2 (b / 2 ^ 23)))
+  whole_hi : whole_bits b < 2 ^ 48
+  whole_hi = lt_of_lt_of_le (shl_lt 24 (24 - b / 2 ^ 23 % 2) (go b)) (pow_mono (go2 (b / 2 ^ 23)))
     where
       go : (b : ℕ) → b % 8388608 + 8388608 < 16777216
       go b = omega arith
@@ -77,29 +77,29 @@ module _ (b : ℕ) where
       go2 : (f : ℕ) → 24 + (24 - f % 2) ≤ 48
       go2 f = omega arith
 
-  place-lt : b < 2139095040 → placeBits b < 253
-  place-lt h = go b h
+  place_lt : b < 2139095040 → place_bits b < 253
+  place_lt h = go b h
     where
       go : (b : ℕ) → b < 2139095040 → (b / 8388608 + 125) / 2 < 253
       go b h = omega arith
 
   abbrev r : ℕ
-  r = nearestRoot (wholeBits b)
+  r = nearest_root (whole_bits b)
 
-  r-lo : 2 ^ 23 ≤ r
-  r-lo = q-ge binary32 (wholeBits b) whole-lo whole-hi
+  r_lo : 2 ^ 23 ≤ r
+  r_lo = q_ge binary32 (whole_bits b) whole_lo whole_hi
 
-  r-hi : r ≤ 2 ^ 24
-  r-hi = q-le binary32 (wholeBits b) whole-lo whole-hi
+  r_hi : r ≤ 2 ^ 24
+  r_hi = q_le binary32 (whole_bits b) whole_lo whole_hi
 
-  pub rooted-bits : b < 2139095040 → of_bits binary32 (rootBits b) ≡ rootOf binary32 (wholeBits b * 2 ^ (2 * placeBits b))
-  rooted-bits h = pattern-is r (placeBits b) r-lo r-hi (place-lt h) ∙ sym (root-at binary32 (wholeBits b) whole-lo whole-hi (placeBits b))
+  pub rooted_bits : b < 2139095040 → of_bits binary32 (root_bits b) ≡ root_of binary32 (whole_bits b * 2 ^ (2 * place_bits b))
+  rooted_bits h = pattern_is r (place_bits b) r_lo r_hi (place_lt h) ∙ sym (root_at binary32 (whole_bits b) whole_lo whole_hi (place_bits b))
 
-  pub rooted-no-nan : b < 2139095040 → T (not (nan_bits binary32 (rootBits b)))
-  rooted-no-nan h = pattern-no-nan r (placeBits b) r-lo r-hi (place-lt h)
+  pub rooted_no_nan : b < 2139095040 → T (not (nan_bits binary32 (root_bits b)))
+  rooted_no_nan h = pattern_no_nan r (place_bits b) r_lo r_hi (place_lt h)
 
 -- ---- what the code works out: the digits m, doubled where the field is even, and the sum of place and digits
-pub whole_is : (b m : ℕ) → ((b % 16777216 < 8388608) × (m ≡ b % 16777216 + b % 16777216 + 16777216)) ⊎ ((8388608 ≤ b % 16777216) × (m ≡ b % 16777216)) → m * 8388608 ≡ wholeBits b
+pub whole_is : (b m : ℕ) → ((b % 16777216 < 8388608) × (m ≡ b % 16777216 + b % 16777216 + 16777216)) ⊎ ((8388608 ≤ b % 16777216) × (m ≡ b % 16777216)) → m * 8388608 ≡ whole_bits b
 whole_is b m (inl h) = go b m h.0 h.1 ∙ ap (λ (z : ℕ). (b % 2 ^ 23 + 2 ^ 23) * 2 ^ (24 - z)) (sym (even b h.0))
   where
     even : (b : ℕ) → b % 16777216 < 8388608 → b / 8388608 % 2 ≡ 0
@@ -115,7 +115,7 @@ whole_is b m (inr h) = go b m h.0 h.1 ∙ ap (λ (z : ℕ). (b % 2 ^ 23 + 2 ^ 23
     go : (b m : ℕ) → 8388608 ≤ b % 16777216 → m ≡ b % 16777216 → m * 8388608 ≡ (b % 8388608 + 8388608) * 8388608
     go b m h e = omega arith
 
-pub sum_is : (b r : ℕ) → (b + 1065353216) / 16777216 * 8388608 + r - 8388608 ≡ placeBits b * 2 ^ 23 + r
+pub sum_is : (b r : ℕ) → (b + 1065353216) / 16777216 * 8388608 + r - 8388608 ≡ place_bits b * 2 ^ 23 + r
 sum_is b r = go b r
   where
     go : (b r : ℕ) → (b + 1065353216) / 16777216 * 8388608 + r - 8388608 ≡ (b / 8388608 + 125) / 2 * 8388608 + r
@@ -136,18 +136,18 @@ module _ (x : Float) (F : T (fits binary32 x)) (a : T (le least x)) (z : T (le x
   abbrev b : ℕ
   b = to_bits binary32 x
 
-  least-value : HasValue least false (2 ^ 23) (2 ^ 149)
+  least_value : HasValue least false (2 ^ 23) (2 ^ 149)
   unfolding of_bits
-  least-value = (refl, refl)
+  least_value = (refl, refl)
 
-  least-positive : T (positive least)
+  least_positive : T (positive least)
   unfolding of_bits
-  least-positive = tt
+  least_positive = tt
 
   normal : b / 2 ^ 23 ≡ 0 → ⊥
   normal e =
-      let s : Split binary32 x (b % 2 ^ 23) 0 = low-split binary32 x F above e in
-      let m : 2 ^ 23 * 2 ^ 149 ≤ b % 2 ^ 23 * 2 ^ 0 * 2 ^ 149 = values_of_le least x (2 ^ 23) (2 ^ 149) (b % 2 ^ 23 * 2 ^ 0) (2 ^ 149) least-positive above least-value s.value a in
+      let s : Split binary32 x (b % 2 ^ 23) 0 = low_split binary32 x F above e in
+      let m : 2 ^ 23 * 2 ^ 149 ≤ b % 2 ^ 23 * 2 ^ 0 * 2 ^ 149 = values_of_le least x (2 ^ 23) (2 ^ 149) (b % 2 ^ 23 * 2 ^ 0) (2 ^ 149) least_positive above least_value s.value a in
       not-le_of_lt (mul-lt-mul_of_pos_right (go b) (pow_pos 149)) m
     where
       go : (b : ℕ) → b % 8388608 * 1 < 8388608
@@ -156,20 +156,20 @@ module _ (x : Float) (F : T (fits binary32 x)) (a : T (le least x)) (z : T (le x
   exponents : (f : ℕ) → (f ≡ 0 → ⊥) → f - 1 + 298 ≡ 24 - f % 2 + 2 * ((f + 125) / 2) + 149
   exponents f h = omega arith
 
-  same : (b % 2 ^ 23 + 2 ^ 23) * 2 ^ (b / 2 ^ 23 - 1) * 2 ^ 298 ≡ wholeBits b * 2 ^ (2 * placeBits b) * 2 ^ 149
+  same : (b % 2 ^ 23 + 2 ^ 23) * 2 ^ (b / 2 ^ 23 - 1) * 2 ^ 298 ≡ whole_bits b * 2 ^ (2 * place_bits b) * 2 ^ 149
   same =
       let m = b % 2 ^ 23 + 2 ^ 23 in
       let t = 24 - b / 2 ^ 23 % 2 in
-      let v = 2 * placeBits b in
+      let v = 2 * place_bits b in
       mul_assoc m (2 ^ (b / 2 ^ 23 - 1)) (2 ^ 298)
       ∙ ap (λ (k : ℕ). m * k) (sym (pow-add 2 (b / 2 ^ 23 - 1) 298) ∙ ap (λ (k : ℕ). 2 ^ k) (exponents (b / 2 ^ 23) normal) ∙ pow-add 2 (t + v) 149 ∙ ap (λ (k : ℕ). k * 2 ^ 149) (pow-add 2 t v))
       ∙ sym (mul_assoc m (2 ^ t * 2 ^ v) (2 ^ 149))
       ∙ ap (λ (k : ℕ). k * 2 ^ 149) (sym (mul_assoc m (2 ^ t) (2 ^ v)))
 
-  valued : HasValue x false (wholeBits b * 2 ^ (2 * placeBits b)) (2 ^ 298)
-  valued = revalue x false ((b % 2 ^ 23 + 2 ^ 23) * 2 ^ (b / 2 ^ 23 - 1)) (2 ^ 149) (wholeBits b * 2 ^ (2 * placeBits b)) (2 ^ 298) (pow_pos 149) (high-split binary32 x F above normal).value same
+  valued : HasValue x false (whole_bits b * 2 ^ (2 * place_bits b)) (2 ^ 298)
+  valued = revalue x false ((b % 2 ^ 23 + 2 ^ 23) * 2 ^ (b / 2 ^ 23 - 1)) (2 ^ 149) (whole_bits b * 2 ^ (2 * place_bits b)) (2 ^ 298) (pow_pos 149) (high_split binary32 x F above normal).value same
 
-  pub root-by-bits : to_bits binary32 x < 2139095040 → of_bits binary32 (rootBits (to_bits binary32 x)) ≡ sqrtOf binary32 x
-  root-by-bits h = rooted-bits b h ∙ sym (sqrt-at binary32 x (wholeBits b * 2 ^ (2 * placeBits b)) above valued)
+  pub root_by_bits : to_bits binary32 x < 2139095040 → of_bits binary32 (root_bits (to_bits binary32 x)) ≡ sqrt_of binary32 x
+  root_by_bits h = rooted_bits b h ∙ sym (sqrt_at binary32 x (whole_bits b * 2 ^ (2 * place_bits b)) above valued)
 
 -- Assumes nothing.

@@ -8,10 +8,10 @@ use native.Mathlib.Omega.{arith}
 use lib.Count.{count_leading_zeros, leading_top}
 use lib.Pow.{pow-add, pow_mono, shl_lt, shl_exact}
 use lib.Ieee.{binary32, nearest, units}
-use Rattle.roots.specs.Root.{IsRoot, root, nearestRoot, nearestRootAt, rootOf, rootOfWhole}
-use Rattle.roots.proofs.Roots.{root_is, root-unique}
+use Rattle.roots.specs.Root.{IsRoot, root, nearest_root, nearest_root_at, root_of, root_of_whole}
+use Rattle.roots.proofs.Roots.{root_is, root_unique}
 use Rattle.numbers.proofs.Order.{Cmp, cmp}
-use Rattle.roots.proofs.RootOf.{square, square-back, root_kept, kept-lo, kept-hi, root-at, q-ge, q-le}
+use Rattle.roots.proofs.RootOf.{square, square_back, root_kept, kept_lo, kept_hi, root_at, q_ge, q_le}
 use Rattle.numbers.proofs.Powers.{pow_lt_back}
 
 -- ---- n against the square of the middle between two multiples of 2 ^ k
@@ -66,38 +66,38 @@ module _ (n k q : ℕ) (i : IsRoot (n / 2 ^ (2 * k)) q) (some : 0 < k) where
       go : (k : ℕ) → 0 < k → 2 * (k - 1) + 2 ≡ 2 * k
       go k h = omega arith
 
-  at : nearestRootAt k n ≡ nearest q (compare (4 * n) m)
-  unfolding nearestRootAt
-  at = ap (λ (r : ℕ). nearest r (compare (4 * n) ((2 * r + 1) * (2 * r + 1) * 2 ^ (2 * k)))) (root-unique (n / 2 ^ (2 * k)) (root (n / 2 ^ (2 * k))) q (root_is (n / 2 ^ (2 * k))) i)
+  at : nearest_root_at k n ≡ nearest q (compare (4 * n) m)
+  unfolding nearest_root_at
+  at = ap (λ (r : ℕ). nearest r (compare (4 * n) ((2 * r + 1) * (2 * r + 1) * 2 ^ (2 * k)))) (root_unique (n / 2 ^ (2 * k)) (root (n / 2 ^ (2 * k))) q (root_is (n / 2 ^ (2 * k))) i)
 
-  pub stays : n < middle * middle → q ≡ nearestRootAt k n
+  pub stays : n < middle * middle → q ≡ nearest_root_at k n
   stays h = below n q (middle * middle) m four (compare (4 * n) m) (cmp (4 * n) m) h ∙ sym at
 
-  pub goes-up : middle * middle < n → q + 1 ≡ nearestRootAt k n
-  goes-up h = above n q (middle * middle) m four (compare (4 * n) m) (cmp (4 * n) m) h ∙ sym at
+  pub goes_up : middle * middle < n → q + 1 ≡ nearest_root_at k n
+  goes_up h = above n q (middle * middle) m four (compare (4 * n) m) (cmp (4 * n) m) h ∙ sym at
 
-  pub to-even : middle * middle ≤ n → n ≤ middle * middle → q + q % 2 ≡ nearestRootAt k n
-  to-even g h = level n q (middle * middle) m four (compare (4 * n) m) (cmp (4 * n) m) g h ∙ sym at
+  pub to_even : middle * middle ≤ n → n ≤ middle * middle → q + q % 2 ≡ nearest_root_at k n
+  to_even g h = level n q (middle * middle) m four (compare (4 * n) m) (cmp (4 * n) m) g h ∙ sym at
 
   -- ---- the numbers fit
   module _ (small : k ≤ 8) (hi : n / 2 ^ (2 * k) < 2 ^ 48) where
-    pub q-lt : q < 2 ^ 24
-    q-lt = square-back q (2 ^ 24) (lt_of_le_of_lt i.low hi)
+    pub q_lt : q < 2 ^ 24
+    q_lt = square_back q (2 ^ 24) (lt_of_le_of_lt i.low hi)
 
-    odd-lt : 2 * q + 1 < 2 ^ 25
-    odd-lt = go q q-lt
+    odd_lt : 2 * q + 1 < 2 ^ 25
+    odd_lt = go q q_lt
       where
         go : (q : ℕ) → q < 16777216 → 2 * q + 1 < 33554432
         go q h = omega arith
 
-    pub middle-is : (2 * q + 1) * 2 ^ (k - 1) % 2 ^ 64 ≡ (2 * q + 1) * 2 ^ (k - 1)
-    middle-is = shl_exact 25 (k - 1) 64 odd-lt (go k small)
+    pub middle_is : (2 * q + 1) * 2 ^ (k - 1) % 2 ^ 64 ≡ (2 * q + 1) * 2 ^ (k - 1)
+    middle_is = shl_exact 25 (k - 1) 64 odd_lt (go k small)
       where
         go : (k : ℕ) → k ≤ 8 → 25 + (k - 1) ≤ 64
         go k h = omega arith
 
-    pub middle-lt : (2 * q + 1) * 2 ^ (k - 1) < 2 ^ 32
-    middle-lt = lt_of_lt_of_le (shl_lt 25 (k - 1) odd-lt) (pow_mono (go k small))
+    pub middle_lt : (2 * q + 1) * 2 ^ (k - 1) < 2 ^ 32
+    middle_lt = lt_of_lt_of_le (shl_lt 25 (k - 1) odd_lt) (pow_mono (go k small))
       where
         go : (k : ℕ) → k ≤ 8 → 25 + (k - 1) ≤ 32
         go k h = omega arith
@@ -110,16 +110,16 @@ module _ (n : ℕ) (some : 0 < n) (fits : n < 2 ^ 64) where
   top : (j : ℕ) × (count_leading_zeros 64 n + suc j ≡ 64) × (2 ^ j ≤ n) × (n < 2 ^ suc j)
   top = leading_top 64 n some fits
 
-  pub z-le : count_leading_zeros 64 n ≤ 63
-  z-le = go z top.0 top.1
+  pub z_le : count_leading_zeros 64 n ≤ 63
+  z_le = go z top.0 top.1
     where
       go : (z j : ℕ) → z + suc j ≡ 64 → z ≤ 63
       go z j e = omega arith
 
   -- ---- up to 48 digits: zeros are put after them
   module _ (short : n < 2 ^ 48) where
-    pub z-ge : 16 ≤ count_leading_zeros 64 n
-    z-ge = go z top.0 top.1 (pow_lt_back top.0 48 (lt_of_le_of_lt top.2 short))
+    pub z_ge : 16 ≤ count_leading_zeros 64 n
+    z_ge = go z top.0 top.1 (pow_lt_back top.0 48 (lt_of_le_of_lt top.2 short))
       where
         go : (z j : ℕ) → z + suc j ≡ 64 → j < 48 → 16 ≤ z
         go z j e h = omega arith
@@ -128,13 +128,13 @@ module _ (n : ℕ) (some : 0 < n) (fits : n < 2 ^ 64) where
     t = (count_leading_zeros 64 n - 16) / 2
 
     reach : 46 ≤ top.0 + 2 * t
-    reach = go z top.0 top.1 z-ge
+    reach = go z top.0 top.1 z_ge
       where
         go : (z j : ℕ) → z + suc j ≡ 64 → 16 ≤ z → 46 ≤ j + 2 * ((z - 16) / 2)
         go z j e h = omega arith
 
     over : suc top.0 + 2 * t ≤ 48
-    over = go z top.0 top.1 z-ge
+    over = go z top.0 top.1 z_ge
       where
         go : (z j : ℕ) → z + suc j ≡ 64 → 16 ≤ z → suc j + 2 * ((z - 16) / 2) ≤ 48
         go z j e h = omega arith
@@ -148,32 +148,32 @@ module _ (n : ℕ) (some : 0 < n) (fits : n < 2 ^ 64) where
     abbrev r : ℕ
     r = n * 2 ^ (2 * t)
 
-    raised-lo : 2 ^ 46 ≤ r
-    raised-lo = le_trans (pow_mono reach) (le_trans (le_of_eq (pow-add 2 top.0 (2 * t))) (mul-le-mul_right (2 ^ (2 * t)) top.2))
+    raised_lo : 2 ^ 46 ≤ r
+    raised_lo = le_trans (pow_mono reach) (le_trans (le_of_eq (pow-add 2 top.0 (2 * t))) (mul-le-mul_right (2 ^ (2 * t)) top.2))
 
-    pub raised-hi : n * 2 ^ (2 * ((count_leading_zeros 64 n - 16) / 2)) < 2 ^ 48
-    raised-hi = lt_of_lt_of_le (shl_lt (suc top.0) (2 * t) top.3) (pow_mono over)
+    pub raised_hi : n * 2 ^ (2 * ((count_leading_zeros 64 n - 16) / 2)) < 2 ^ 48
+    raised_hi = lt_of_lt_of_le (shl_lt (suc top.0) (2 * t) top.3) (pow_mono over)
 
-    pub raised-root-lo : 2 ^ 23 ≤ nearestRoot r
-    raised-root-lo = q-ge binary32 r raised-lo raised-hi
+    pub raised_root_lo : 2 ^ 23 ≤ nearest_root r
+    raised_root_lo = q_ge binary32 r raised_lo raised_hi
 
-    pub raised-root-hi : nearestRoot r ≤ 2 ^ 24
-    raised-root-hi = q-le binary32 r raised-lo raised-hi
+    pub raised_root_hi : nearest_root r ≤ 2 ^ 24
+    raised_root_hi = q_le binary32 r raised_lo raised_hi
 
-    units-are : n * 2 ^ 298 ≡ r * 2 ^ (2 * (149 - t))
-    units-are = ap (λ (e : ℕ). n * e) (ap (λ (e : ℕ). 2 ^ e) (go z z-le) ∙ pow-add 2 (2 * t) (2 * (149 - t))) ∙ sym (mul_assoc n (2 ^ (2 * t)) (2 ^ (2 * (149 - t))))
+    units_are : n * 2 ^ 298 ≡ r * 2 ^ (2 * (149 - t))
+    units_are = ap (λ (e : ℕ). n * e) (ap (λ (e : ℕ). 2 ^ e) (go z z_le) ∙ pow-add 2 (2 * t) (2 * (149 - t))) ∙ sym (mul_assoc n (2 ^ (2 * t)) (2 ^ (2 * (149 - t))))
       where
         go : (z : ℕ) → z ≤ 63 → 298 ≡ 2 * ((z - 16) / 2) + 2 * (149 - (z - 16) / 2)
         go z h = omega arith
 
-    pub short-root : units binary32 false (nearestRoot (n * 2 ^ (2 * ((count_leading_zeros 64 n - 16) / 2)))) (149 - (count_leading_zeros 64 n - 16) / 2) ≡ rootOfWhole binary32 n
-    unfolding rootOfWhole
-    short-root = sym (root-at binary32 r raised-lo raised-hi (149 - t)) ∙ ap (rootOf binary32) (sym units-are)
+    pub short_root : units binary32 false (nearest_root (n * 2 ^ (2 * ((count_leading_zeros 64 n - 16) / 2)))) (149 - (count_leading_zeros 64 n - 16) / 2) ≡ root_of_whole binary32 n
+    unfolding root_of_whole
+    short_root = sym (root_at binary32 r raised_lo raised_hi (149 - t)) ∙ ap (root_of binary32) (sym units_are)
 
   -- ---- from 49 digits on: pairs of digits are dropped
   module _ (long : 2 ^ 48 ≤ n) where
-    pub z-lt : count_leading_zeros 64 n ≤ 15
-    z-lt = go z top.0 top.1 (pow_lt_back 48 (suc top.0) (lt_of_le_of_lt long top.3))
+    pub z_lt : count_leading_zeros 64 n ≤ 15
+    z_lt = go z top.0 top.1 (pow_lt_back 48 (suc top.0) (lt_of_le_of_lt long top.3))
       where
         go : (z j : ℕ) → z + suc j ≡ 64 → 48 < suc j → z ≤ 15
         go z j e h = omega arith
@@ -181,26 +181,26 @@ module _ (n : ℕ) (some : 0 < n) (fits : n < 2 ^ 64) where
     abbrev k : ℕ
     k = (17 - count_leading_zeros 64 n) / 2
 
-    long-lo : 2 ^ (2 * (23 + k)) ≤ n
-    long-lo = le_trans (pow_mono (go z top.0 top.1 z-lt)) top.2
+    long_lo : 2 ^ (2 * (23 + k)) ≤ n
+    long_lo = le_trans (pow_mono (go z top.0 top.1 z_lt)) top.2
       where
         go : (z j : ℕ) → z + suc j ≡ 64 → z ≤ 15 → 2 * (23 + (17 - z) / 2) ≤ j
         go z j e h = omega arith
 
-    pub long-hi : n < 2 ^ (2 * (24 + (17 - count_leading_zeros 64 n) / 2))
-    long-hi = lt_of_lt_of_le top.3 (pow_mono (go z top.0 top.1 z-lt))
+    pub long_hi : n < 2 ^ (2 * (24 + (17 - count_leading_zeros 64 n) / 2))
+    long_hi = lt_of_lt_of_le top.3 (pow_mono (go z top.0 top.1 z_lt))
       where
         go : (z j : ℕ) → z + suc j ≡ 64 → z ≤ 15 → suc j ≤ 2 * (24 + (17 - z) / 2)
         go z j e h = omega arith
 
-    pub long-root-lo : 2 ^ 23 ≤ nearestRootAt ((17 - count_leading_zeros 64 n) / 2) n
-    long-root-lo = kept-lo binary32 n k long-lo long-hi
+    pub long_root_lo : 2 ^ 23 ≤ nearest_root_at ((17 - count_leading_zeros 64 n) / 2) n
+    long_root_lo = kept_lo binary32 n k long_lo long_hi
 
-    pub long-root-hi : nearestRootAt ((17 - count_leading_zeros 64 n) / 2) n ≤ 2 ^ 24
-    long-root-hi = kept-hi binary32 n k long-lo long-hi
+    pub long_root_hi : nearest_root_at ((17 - count_leading_zeros 64 n) / 2) n ≤ 2 ^ 24
+    long_root_hi = kept_hi binary32 n k long_lo long_hi
 
-    pub long-root : units binary32 false (nearestRootAt ((17 - count_leading_zeros 64 n) / 2) n) (149 + (17 - count_leading_zeros 64 n) / 2) ≡ rootOfWhole binary32 n
-    unfolding rootOfWhole
-    long-root = ap (units binary32 false (nearestRootAt k n)) (add_comm 149 k) ∙ sym (root_kept binary32 n k long-lo long-hi 149)
+    pub long_root : units binary32 false (nearest_root_at ((17 - count_leading_zeros 64 n) / 2) n) (149 + (17 - count_leading_zeros 64 n) / 2) ≡ root_of_whole binary32 n
+    unfolding root_of_whole
+    long_root = ap (units binary32 false (nearest_root_at k n)) (add_comm 149 k) ∙ sym (root_kept binary32 n k long_lo long_hi 149)
 
 -- Assumes nothing.

@@ -11,50 +11,50 @@ pub record IsRoot (n r : ℕ) : Type 0 where
   pub high : n < (r + 1) * (r + 1)
 
 -- the whole part of the root of an n below 4 ^ d, a binary digit at a time
-unfoldable pub rootIn : ℕ → ℕ → ℕ
-rootIn zero n = 0
-rootIn (suc d) n =
-    let r = 2 * rootIn d (n / 4) in
+unfoldable pub root_in : ℕ → ℕ → ℕ
+root_in zero n = 0
+root_in (suc d) n =
+    let r = 2 * root_in d (n / 4) in
     cond (leb ((r + 1) * (r + 1)) n) (r + 1) r
 
 unfoldable pub root : ℕ → ℕ
-unfolding rootIn
-root n = rootIn (size n) n
+unfolding root_in
+root n = root_in (size n) n
 
 -- the whole number nearest to the root of n: 4 * n against the square of twice q and a half
-unfoldable pub nearestRoot : ℕ → ℕ
+unfoldable pub nearest_root : ℕ → ℕ
 unfolding root
-nearestRoot n =
+nearest_root n =
     let q = root n in
     nearest q (compare (4 * n) ((2 * q + 1) * (2 * q + 1)))
 
 -- The multiple of 2 ^ k nearest to the root of n, as a number of 2 ^ k. Nothing is cut off n before it is compared.
-unfoldable pub nearestRootAt : ℕ → ℕ → ℕ
+unfoldable pub nearest_root_at : ℕ → ℕ → ℕ
 unfolding root
-nearestRootAt k n =
+nearest_root_at k n =
     let q = root (n / 2 ^ (2 * k)) in
     nearest q (compare (4 * n) ((2 * q + 1) * (2 * q + 1) * 2 ^ (2 * k)))
 
 -- The root of n units of the square of the format's smallest value: of its whole part the format keeps the `prec` leading digits and drops k.
-unfoldable pub rootOf : Format → ℕ → Float
-unfolding nearestRootAt root size units
-rootOf f n =
+unfoldable pub root_of : Format → ℕ → Float
+unfolding nearest_root_at root size units
+root_of f n =
     let k = size (root n) - prec f in
-    units f false (nearestRootAt k n) k
+    units f false (nearest_root_at k n) k
 
 -- the root of a whole number, as a value of the format
-unfoldable pub rootOfWhole : Format → ℕ → Float
-unfolding rootOf
-rootOfWhole f n = rootOf f (n * 2 ^ (2 * low f))
+unfoldable pub root_of_whole : Format → ℕ → Float
+unfolding root_of
+root_of_whole f n = root_of f (n * 2 ^ (2 * low f))
 
-unfoldable pub sqrtOf : Format → Float → Float
-unfolding rootOf
-sqrtOf f nan = nan
-sqrtOf f (inf true) = nan
-sqrtOf f (inf false) = inf false
-sqrtOf f (fin s zero e) = fin s zero e
-sqrtOf f (fin true (suc m) e) = nan
-sqrtOf f (fin false (suc m) e) = rootOf f (suc m * up e * 2 ^ (2 * low f) / down e)
+unfoldable pub sqrt_of : Format → Float → Float
+unfolding root_of
+sqrt_of f nan = nan
+sqrt_of f (inf true) = nan
+sqrt_of f (inf false) = inf false
+sqrt_of f (fin s zero e) = fin s zero e
+sqrt_of f (fin true (suc m) e) = nan
+sqrt_of f (fin false (suc m) e) = root_of f (suc m * up e * 2 ^ (2 * low f) / down e)
 
 -- r is the value of the format that is nearest to the root of x: no value y of it lies nearer. In units of the smallest value r is `root` and y is Y,
 -- and in units of its square x is `square`. The middle of r and y lies on y's side of the root of x: twice the middle, squared, against four times the square.

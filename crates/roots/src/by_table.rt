@@ -2,8 +2,8 @@
 // What `root_by` answers does not depend on the table. With ROOTS the test turns no normal number down.
 ghost use Rattle.std.specs.Prelude.{◌≡◌, ◌⊎◌, ◌*◌, ◌≤◌, ◌<◌};
 ghost use Rattle.std.specs.Float.{binary32};
-ghost use Rattle.roots.specs.Root.{sqrtOf};
-ghost use Rattle.roots.specs.RootBy.{rootBits};
+ghost use Rattle.roots.specs.Root.{sqrt_of};
+ghost use Rattle.roots.specs.RootBy.{root_bits};
 
 use super::root;
 
@@ -171,7 +171,7 @@ fn nearer(g: u32, n: u64) -> u32
 
 // The pattern of the root of the normal number with the pattern `bits`; 0 if the guess was no good, and for an infinity, a NaN or a sign.
 fn pattern(bits: u32, w: u64) -> u32
-    ensures { (result ≡ 0) ⊎ ((bits < 2139095040) × (result ≡ rootBits bits)) }
+    ensures { (result ≡ 0) ⊎ ((bits < 2139095040) × (result ≡ root_bits bits)) }
 {
     if bits < 2139095040 {
         let g: u32 = guess(w, bits % 131072);
@@ -195,7 +195,7 @@ fn pattern(bits: u32, w: u64) -> u32
 
 // The `f32` nearest to the root of x, as `root`, whatever the table holds; fast for the normal numbers where it is ROOTS.
 pub fn root_by(x: f32, table: &[u64; 128]) -> f32
-    ensures { result ≡ sqrtOf binary32 x }
+    ensures { result ≡ sqrt_of binary32 x }
 {
     if x >= 1.1754943508222875e-38 {
         if x <= 3.4028234663852886e38 {

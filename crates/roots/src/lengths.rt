@@ -2,7 +2,7 @@
 ghost use Rattle.std.specs.Prelude.{◌≡◌, false, ◌+◌, ◌*◌, ◌≤◌, ◌<◌, ◌^◌, nat_abs};
 ghost use Rattle.std.specs.Float.{binary32};
 ghost use Rattle.std.specs.Float.Ieee.{units};
-ghost use Rattle.roots.specs.Root.{nearestRootAt, rootOfWhole};
+ghost use Rattle.roots.specs.Root.{nearest_root_at, root_of_whole};
 ghost use Rattle.roots.specs.Length.{length_of};
 
 use super::{nearest_root, whole_root};
@@ -20,7 +20,7 @@ fn kept_root(n: u64, k: u32) -> u64
     requires fact_1 { 0 < k }
     requires fact_2 { k ≤ 8 }
     requires fact_3 { n < 2 ^ (2 * (24 + k)) }
-    ensures { result ≡ nearestRootAt k n }
+    ensures { result ≡ nearest_root_at k n }
 {
     let q = whole_root(n >> (2 * k));
     let middle = (2 * q + 1) << (k - 1);
@@ -48,7 +48,7 @@ fn placed(q: u64, w: u32) -> f32
 
 // The `f32` nearest to n's root.
 fn root_of_whole(n: u64) -> f32
-    ensures { result ≡ rootOfWhole binary32 n }
+    ensures { result ≡ root_of_whole binary32 n }
 {
     if n == 0 {
         return 0.0;

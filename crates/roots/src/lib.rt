@@ -7,7 +7,7 @@ ghost use Rattle.std.specs.Prelude.{◌≡◌, ◌<◌, T};
 ghost use Rattle.std.specs.Float.{binary32};
 ghost use Rattle.std.specs.Float.Ieee.Positive.{positive};
 ghost use Rattle.to_f32.specs.Digits.{Split};
-ghost use Rattle.roots.specs.Root.{IsRoot, nearestRoot, sqrtOf};
+ghost use Rattle.roots.specs.Root.{IsRoot, nearest_root, sqrt_of};
 
 mod by_table;
 mod lengths;
@@ -78,7 +78,7 @@ fn whole_root(n: u64) -> u64
 // The whole number nearest to n's root. No root lies half way.
 fn nearest_root(n: u64) -> u64
     requires { n < 281474976710656 }
-    ensures { result ≡ nearestRoot n }
+    ensures { result ≡ nearest_root n }
 {
     let q = whole_root(n);
     if n - q * q <= q { q } else { q + 1 }
@@ -111,7 +111,7 @@ fn split_f32(x: f32) -> Parts
 // The root of an x that is finite and above zero: its digits, moved to 47 or 48 so that their place is even, have a root of 24.
 fn root_above(x: f32) -> f32
     requires { T (positive x) }
-    ensures { result ≡ sqrtOf binary32 x }
+    ensures { result ≡ sqrt_of binary32 x }
 {
     let p = split_f32(x);
     let m = p.m;
@@ -125,7 +125,7 @@ fn root_above(x: f32) -> f32
 
 // The root of x, to the nearest f32, a tie to the even one.
 pub fn root(x: f32) -> f32
-    ensures { result ≡ sqrtOf binary32 x }
+    ensures { result ≡ sqrt_of binary32 x }
 {
     if x > 0.0 {
         if x < 1.0 / 0.0 { root_above(x) } else { x }

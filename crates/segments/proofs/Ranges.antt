@@ -12,8 +12,8 @@ use Rattle.kinds.specs.declared.KindI64.{KindI64}
 use Rattle.kinds.specs.declared.KindI64.TheVariants as I64
 use Rattle.kinds.specs.declared.KindU64.{KindU64}
 use Rattle.kinds.specs.declared.KindU64.TheVariants as U64
-use Rattle.ends.specs.Ends.{rowFirstBy, rowPastBy, columnFirstBy, columnPastBy, rowFirstOf, rowPastOf, columnFirstOf, columnPastOf}
-use Rattle.segments.specs.Ranges.{rowEnd, columnEnd, rowBegins, rowLasts, columnBegins, columnLasts, has_row, hasColumn, rowFirst, rowPast, columnFirst, columnPast}
+use Rattle.ends.specs.Ends.{row_first_by, row_past_by, column_first_by, column_past_by, row_first_of, row_past_of, column_first_of, column_past_of}
+use Rattle.segments.specs.Ranges.{row_end, column_end, row_begins, row_lasts, column_begins, column_lasts, has_row, has_column, row_first, row_past, column_first, column_past}
 use Rattle.segments.specs.declared.Segment.{Segment}
 
 -- ---- tests on numbers below 2 ^ 24
@@ -27,56 +27,56 @@ same_test a b c d f g = go (leb a b) (leb c d) (λ (t : T (leb a b)). le→leb c
     go false true u v = absurd (v tt)
     go false false u v = refl
 
-begins-cut : (n y : ℕ) → y < 2 ^ 24 → leb n y ≡ leb (min n (2 ^ 24)) y
-begins-cut n y h = same_test n y (min n 16777216) y (λ (k : n ≤ y). omega arith) (λ (k : min n 16777216 ≤ y). omega arith)
+begins_cut : (n y : ℕ) → y < 2 ^ 24 → leb n y ≡ leb (min n (2 ^ 24)) y
+begins_cut n y h = same_test n y (min n 16777216) y (λ (k : n ≤ y). omega arith) (λ (k : min n 16777216 ≤ y). omega arith)
 
-lasts-cut : (n y : ℕ) → y < 2 ^ 24 → leb y n ≡ ltb y (suc (min n (2 ^ 24)))
-lasts-cut n y h = same_test y n (suc y) (suc (min n 16777216)) (λ (k : y ≤ n). omega arith) (λ (k : suc y ≤ suc (min n 16777216)). omega arith)
+lasts_cut : (n y : ℕ) → y < 2 ^ 24 → leb y n ≡ ltb y (suc (min n (2 ^ 24)))
+lasts_cut n y h = same_test y n (suc y) (suc (min n 16777216)) (λ (k : y ≤ n). omega arith) (λ (k : suc y ≤ suc (min n 16777216)). omega arith)
 
 past_all : (y : ℕ) → y < 2 ^ 24 → false ≡ leb 16777216 y
 past_all y h = sym (is_false (leb 16777216 y) (lt→nleb 16777216 y h))
 
 -- ---- rows
 
-row-begins : (k : KindI64) (y : ℕ) → y < 2 ^ 24 → rowBegins k y ≡ leb (rowFirstBy k) y
-row-begins (I64.Exact (pos n)) y h = begins-cut n y h
-row-begins (I64.Exact (negsuc n)) y h = sym (leb-zero y)
-row-begins I64.NotNumber y h = refl
-row-begins I64.Below y h = sym (leb-zero y)
-row-begins I64.Above y h = past_all y h
+row_begins_lem : (k : KindI64) (y : ℕ) → y < 2 ^ 24 → row_begins k y ≡ leb (row_first_by k) y
+row_begins_lem (I64.Exact (pos n)) y h = begins_cut n y h
+row_begins_lem (I64.Exact (negsuc n)) y h = sym (leb-zero y)
+row_begins_lem I64.NotNumber y h = refl
+row_begins_lem I64.Below y h = sym (leb-zero y)
+row_begins_lem I64.Above y h = past_all y h
 
-row-lasts : (k : KindI64) (y : ℕ) → y < 2 ^ 24 → rowLasts k y ≡ ltb y (rowPastBy k)
-row-lasts (I64.Exact (pos n)) y h = lasts-cut n y h
-row-lasts (I64.Exact (negsuc n)) y h = sym (leb-suc-zero y)
-row-lasts I64.NotNumber y h = lasts-cut 0 y h
-row-lasts I64.Below y h = sym (leb-suc-zero y)
-row-lasts I64.Above y h = sym (leb-suc-zero y)
+row_lasts_lem : (k : KindI64) (y : ℕ) → y < 2 ^ 24 → row_lasts k y ≡ ltb y (row_past_by k)
+row_lasts_lem (I64.Exact (pos n)) y h = lasts_cut n y h
+row_lasts_lem (I64.Exact (negsuc n)) y h = sym (leb-suc-zero y)
+row_lasts_lem I64.NotNumber y h = lasts_cut 0 y h
+row_lasts_lem I64.Below y h = sym (leb-suc-zero y)
+row_lasts_lem I64.Above y h = sym (leb-suc-zero y)
 
 -- ---- columns
 
-column-begins : (k : KindU64) (x : ℕ) → x < 2 ^ 24 → columnBegins k x ≡ leb (columnFirstBy k) x
-column-begins (U64.Exact n) x h = begins-cut n x h
-column-begins U64.NotNumber x h = refl
-column-begins U64.Below x h = refl
-column-begins U64.Above x h = past_all x h
+column_begins_lem : (k : KindU64) (x : ℕ) → x < 2 ^ 24 → column_begins k x ≡ leb (column_first_by k) x
+column_begins_lem (U64.Exact n) x h = begins_cut n x h
+column_begins_lem U64.NotNumber x h = refl
+column_begins_lem U64.Below x h = refl
+column_begins_lem U64.Above x h = past_all x h
 
-column-lasts : (k : KindU64) (x : ℕ) → x < 2 ^ 24 → columnLasts k x ≡ ltb x (columnPastBy k)
-column-lasts (U64.Exact n) x h = lasts-cut n x h
-column-lasts U64.NotNumber x h = lasts-cut 0 x h
-column-lasts U64.Below x h = lasts-cut 0 x h
-column-lasts U64.Above x h = sym (leb-suc-zero x)
+column_lasts_lem : (k : KindU64) (x : ℕ) → x < 2 ^ 24 → column_lasts k x ≡ ltb x (column_past_by k)
+column_lasts_lem (U64.Exact n) x h = lasts_cut n x h
+column_lasts_lem U64.NotNumber x h = lasts_cut 0 x h
+column_lasts_lem U64.Below x h = lasts_cut 0 x h
+column_lasts_lem U64.Above x h = sym (leb-suc-zero x)
 
 -- ---- a segment
 
 both : (a b c d : Bool) → a ≡ c → b ≡ d → (a && b) ≡ (c && d)
 both a b c d p q = ap (λ (t : Bool). t && b) p ∙ ap (λ (t : Bool). c && t) q
 
-pub has-row : (s : Segment) (y : ℕ) → y < 2 ^ 24 → has_row s y ≡ leb (rowFirst s) y && ltb y (rowPast s)
-unfolding has_row rowFirstOf rowPastOf
-has-row s y h = both _ _ _ _ (row-begins (rowEnd (s.center_y ⊖ s.maximum_distance)) y h) (row-lasts (rowEnd (s.center_y ⊕ s.maximum_distance)) y h)
+pub has_row_lem : (s : Segment) (y : ℕ) → y < 2 ^ 24 → has_row s y ≡ leb (row_first s) y && ltb y (row_past s)
+unfolding has_row row_first_of row_past_of
+has_row_lem s y h = both _ _ _ _ (row_begins_lem (row_end (s.center_y ⊖ s.maximum_distance)) y h) (row_lasts_lem (row_end (s.center_y ⊕ s.maximum_distance)) y h)
 
-pub has-column : (s : Segment) (x : ℕ) → x < 2 ^ 24 → hasColumn s x ≡ leb (columnFirst s) x && ltb x (columnPast s)
-unfolding hasColumn columnFirstOf columnPastOf
-has-column s x h = both _ _ _ _ (column-begins (columnEnd (s.center_x ⊖ s.maximum_distance)) x h) (column-lasts (columnEnd (s.center_x ⊕ s.maximum_distance)) x h)
+pub has_column_lem : (s : Segment) (x : ℕ) → x < 2 ^ 24 → has_column s x ≡ leb (column_first s) x && ltb x (column_past s)
+unfolding has_column column_first_of column_past_of
+has_column_lem s x h = both _ _ _ _ (column_begins_lem (column_end (s.center_x ⊖ s.maximum_distance)) x h) (column_lasts_lem (column_end (s.center_x ⊕ s.maximum_distance)) x h)
 
 -- Assumes nothing.

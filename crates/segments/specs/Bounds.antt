@@ -5,7 +5,7 @@ use Rattle.std.specs.Float.{nan, inf, fin}
 use Rattle.std.specs.Float.Ieee.{up, down}
 use Rattle.numbers.specs.Arith.{◌⊕◌, ◌⊖◌}
 use Rattle.wholes.specs.Whole.{half}
-use Rattle.segments.specs.Ranges.{has_row, hasColumn}
+use Rattle.segments.specs.Ranges.{has_row, has_column}
 use Rattle.segments.specs.declared.Segment.{Segment}
 
 -- a whole number, or beyond them on either side
@@ -27,26 +27,26 @@ or_zero (at (pos n)) = at (pos n)
 or_zero (at (negsuc n)) = at (pos 0)
 or_zero over = over
 
-abbrev pub beginsBy : Bound → ℕ → Bool
-beginsBy under y = true
-beginsBy (at (pos n)) y = leb n y
-beginsBy (at (negsuc n)) y = true
-beginsBy over y = false
+abbrev pub begins_by : Bound → ℕ → Bool
+begins_by under y = true
+begins_by (at (pos n)) y = leb n y
+begins_by (at (negsuc n)) y = true
+begins_by over y = false
 
 -- a last number at the limit or beyond leaves nothing
-abbrev pub lastsTo : ℕ → Bound → ℕ → Bool
-lastsTo limit under y = false
-lastsTo limit (at (pos n)) y = ltb n limit && leb y n
-lastsTo limit (at (negsuc n)) y = false
-lastsTo limit over y = false
+abbrev pub lasts_to : ℕ → Bound → ℕ → Bool
+lasts_to limit under y = false
+lasts_to limit (at (pos n)) y = ltb n limit && leb y n
+lasts_to limit (at (negsuc n)) y = false
+lasts_to limit over y = false
 
 -- the rows and columns are as before
 abbrev pub RowsByKind : Type 0
 RowsByKind =
     (s : Segment) (y : ℕ)
-    → has_row s y ≡ beginsBy (rounded (s.center_y ⊖ s.maximum_distance)) y && lastsTo (2 ^ 63) (rounded (s.center_y ⊕ s.maximum_distance)) y
+    → has_row s y ≡ begins_by (rounded (s.center_y ⊖ s.maximum_distance)) y && lasts_to (2 ^ 63) (rounded (s.center_y ⊕ s.maximum_distance)) y
 
 abbrev pub ColumnsByKind : Type 0
 ColumnsByKind =
     (s : Segment) (x : ℕ)
-    → hasColumn s x ≡ beginsBy (or_zero (rounded (s.center_x ⊖ s.maximum_distance))) x && lastsTo (2 ^ 64) (or_zero (rounded (s.center_x ⊕ s.maximum_distance))) x
+    → has_column s x ≡ begins_by (or_zero (rounded (s.center_x ⊖ s.maximum_distance))) x && lasts_to (2 ^ 64) (or_zero (rounded (s.center_x ⊕ s.maximum_distance))) x

@@ -3,9 +3,9 @@ use Rattle.std.specs.Prelude.{Bool, true, false, ◌||◌, List, [], ◌∷◌, 
 use Rattle.std.specs.Float.{nan, binary32}
 use Rattle.std.specs.Float.Ieee.{neg, eq}
 use Rattle.numbers.specs.Arith.{f, 0·0, 0·25, 1·0, ◌⊖◌, ◌⊗◌, ◌⊘◌}
-use Rattle.numbers.specs.Magnitude.{absOf, top_of, isInfinite}
-use Rattle.roots.specs.Root.{sqrtOf}
-use Rattle.approximations.specs.Ln.{lnOf}
+use Rattle.numbers.specs.Magnitude.{abs_of, top_of, is_infinite}
+use Rattle.roots.specs.Root.{sqrt_of}
+use Rattle.approximations.specs.Ln.{ln_of}
 use Rattle.segments.specs.declared.Segment.{Segment}
 use Rattle.segments.specs.declared.Added.{Added}
 use Rattle.segments.specs.declared.Added.TheVariants.{Made, Nothing}
@@ -29,26 +29,26 @@ abbrev 5·0 : Float
 -- no segment is made: sigma infinite or zero, 1 / sigma infinite, or the intensity infinite
 unfoldable pub skipped : Float → Float → Bool
 skipped intensity sigma =
-    isInfinite sigma || (eq sigma 0·0 || (isInfinite (1·0 ⊘ sigma) || isInfinite intensity))
+    is_infinite sigma || (eq sigma 0·0 || (is_infinite (1·0 ⊘ sigma) || is_infinite intensity))
 
 -- the greatest magnitude by total order
-unfoldable pub maxColor : Float → Float → Float → Float → Float
-maxColor intensity c0 c1 c2 =
-    top_of (top_of (top_of (absOf (0·01 ⊗ intensity)) (absOf (c0 ⊗ intensity))) (absOf (c1 ⊗ intensity))) (absOf (c2 ⊗ intensity))
+unfoldable pub max_color : Float → Float → Float → Float → Float
+max_color intensity c0 c1 c2 =
+    top_of (top_of (top_of (abs_of (0·01 ⊗ intensity)) (abs_of (c0 ⊗ intensity))) (abs_of (c1 ⊗ intensity))) (abs_of (c2 ⊗ intensity))
 
-abbrev pub distanceExp : Bool → Float
-distanceExp true = 5·0
-distanceExp false = 3·0
+abbrev pub distance_exp : Bool → Float
+distance_exp true = 5·0
+distance_exp false = 3·0
 
-unfoldable pub maxDistance : Float → Float → Bool → Float
-maxDistance sigma color high =
-    sqrtOf binary32 (neg 2·0 ⊗ sigma ⊗ sigma ⊗ (lnOf 0·1 ⊗ distanceExp high ⊖ lnOf color))
+unfoldable pub max_distance : Float → Float → Bool → Float
+max_distance sigma color high =
+    sqrt_of binary32 (neg 2·0 ⊗ sigma ⊗ sigma ⊗ (ln_of 0·1 ⊗ distance_exp high ⊖ ln_of color))
 
-abbrev pub segmentOf : Float → Float → Float → Float → Float → Float → Float → Bool → Segment
-segmentOf cx cy intensity c0 c1 c2 sigma high = record {
+abbrev pub segment_of : Float → Float → Float → Float → Float → Float → Float → Bool → Segment
+segment_of cx cy intensity c0 c1 c2 sigma high = record {
   center_x = cx;
   center_y = cy;
-  maximum_distance = maxDistance sigma (maxColor intensity c0 c1 c2) high;
+  maximum_distance = max_distance sigma (max_color intensity c0 c1 c2) high;
   inv_sigma = 1·0 ⊘ sigma;
   sigma_over_4_times_intensity = 0·25 ⊗ sigma ⊗ intensity;
   color0 = c0;
@@ -60,16 +60,16 @@ abbrev pub unless : Bool → Segment → Added
 unless true s = Nothing
 unless false s = Made s
 
-unfoldable pub addSegment : Float → Float → Float → Float → Float → Float → Float → Bool → Added
-addSegment cx cy intensity c0 c1 c2 sigma high = unless (skipped intensity sigma) (segmentOf cx cy intensity c0 c1 c2 sigma high)
+unfoldable pub add_segment : Float → Float → Float → Float → Float → Float → Float → Bool → Added
+add_segment cx cy intensity c0 c1 c2 sigma high = unless (skipped intensity sigma) (segment_of cx cy intensity c0 c1 c2 sigma high)
 
 -- number j of segment i of a flat list
 abbrev pub field : List Float → ℕ → ℕ → Float
 field segs i j = get_or segs (8 * i + j) nan
 
 -- the record of eight floats at i
-unfoldable pub segmentAt : List Float → ℕ → Segment
-segmentAt segs i = record {
+unfoldable pub segment_at : List Float → ℕ → Segment
+segment_at segs i = record {
   center_x = field segs i 0;
   center_y = field segs i 1;
   maximum_distance = field segs i 2;
@@ -80,6 +80,6 @@ segmentAt segs i = record {
   color2 = field segs i 7;
 }
 
-abbrev pub eightOf : Segment → List Float
-eightOf s =
+abbrev pub eight_of : Segment → List Float
+eight_of s =
     s.center_x ∷ s.center_y ∷ s.maximum_distance ∷ s.inv_sigma ∷ s.sigma_over_4_times_intensity ∷ s.color0 ∷ s.color1 ∷ s.color2 ∷ []

@@ -3,8 +3,8 @@
 
 ghost use Rattle.std.specs.Prelude.{◌≡◌, ◌+◌, ◌*◌, ◌≤◌, length};
 ghost use Rattle.std.proofs.lemmas.List.Edits.{sets};
-ghost use Rattle.segments.specs.Segment.{skipped, maxColor, distanceExp, maxDistance, addSegment, segmentAt, eightOf};
-ghost use Rattle.segments.specs.Ranges.{rows_of, columnsOf};
+ghost use Rattle.segments.specs.Segment.{skipped, max_color, distance_exp, max_distance, add_segment, segment_at, eight_of};
+ghost use Rattle.segments.specs.Ranges.{rows_of, columns_of};
 
 pub use ends::{column_first, column_past};
 
@@ -52,7 +52,7 @@ fn skipped(intensity: f32, sigma: f32) -> bool
 
 // The greatest magnitude of 0.01 and the colours, each times the intensity.
 fn max_color(intensity: f32, c0: f32, c1: f32, c2: f32) -> f32
-    ensures { result ≡ maxColor intensity c0 c1 c2 }
+    ensures { result ≡ max_color intensity c0 c1 c2 }
 {
     let a = numbers::abs(0.01 * intensity);
     let b = numbers::top(a, numbers::abs(c0 * intensity));
@@ -61,14 +61,14 @@ fn max_color(intensity: f32, c0: f32, c1: f32, c2: f32) -> f32
 }
 
 fn distance_exp(high_precision: bool) -> f32
-    ensures { result ≡ distanceExp high_precision }
+    ensures { result ≡ distance_exp high_precision }
 {
     if high_precision { 5.0 } else { 3.0 }
 }
 
 // How far from its centre a segment is drawn. The literal is the logarithm of 0.1.
 fn max_distance(sigma: f32, max_color: f32, high_precision: bool) -> f32
-    ensures { result ≡ maxDistance sigma max_color high_precision }
+    ensures { result ≡ max_distance sigma max_color high_precision }
 {
     let faintest = -2.3025851 * distance_exp(high_precision);
     roots::root(-2.0 * sigma * sigma * (faintest - approximations::ln(max_color)))
@@ -84,7 +84,7 @@ pub fn add_segment(
     sigma: f32,
     high_precision: bool,
 ) -> Added
-    ensures { result ≡ addSegment center_x center_y intensity c0 c1 c2 sigma high_precision }
+    ensures { result ≡ add_segment center_x center_y intensity c0 c1 c2 sigma high_precision }
 {
     if skipped(intensity, sigma) {
         return Added::Nothing;
@@ -112,7 +112,7 @@ impl Segment {
     }
 
     pub fn columns(self) -> Range
-        ensures { result ≡ columnsOf self }
+        ensures { result ≡ columns_of self }
     {
         let first = column_first(self.center_x - self.maximum_distance);
         let past = column_past(self.center_x + self.maximum_distance);
@@ -122,7 +122,7 @@ impl Segment {
     // The segment i of a flat slice.
     pub fn at(segments: &[f32], i: usize) -> Segment
         requires { 8 * i + 8 ≤ length segments.now }
-        ensures { result ≡ segmentAt segments.now i }
+        ensures { result ≡ segment_at segments.now i }
     {
         let k = 8 * i;
         Segment {
@@ -140,7 +140,7 @@ impl Segment {
     // The eight floats, written from cell k on.
     pub fn put(self, out: &mut [f32], k: usize)
         requires { k + 8 ≤ length out.old }
-        ensures { out.new ≡ sets out.old k (eightOf self) }
+        ensures { out.new ≡ sets out.old k (eight_of self) }
     {
         out[k] = self.center_x;
         out[k + 1] = self.center_y;

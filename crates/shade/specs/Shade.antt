@@ -4,8 +4,8 @@ use Rattle.std.specs.Prelude.{◌≡◌, List, ℕ, zero, suc, ◌<◌, get_or, 
 use Rattle.std.specs.Float.{nan, binary32}
 use Rattle.std.specs.Float.Ieee.{of_int, neg}
 use Rattle.numbers.specs.Arith.{f, 0·5, ◌⊕◌, ◌⊖◌, ◌⊗◌}
-use Rattle.roots.specs.Root.{sqrtOf}
-use Rattle.approximations.specs.Erf.{fastErff}
+use Rattle.roots.specs.Root.{sqrt_of}
+use Rattle.approximations.specs.Erf.{fast_erff}
 use Rattle.segments.specs.declared.Segment.{Segment}
 
 abbrev 0·353_553_38 : Float
@@ -23,25 +23,25 @@ dy2 centerY y =
     dy ⊗ dy
 
 -- the local intensity by the distance from the centre
-unfoldable pub intensityAt : Segment → Float → Float
-intensityAt s distance =
+unfoldable pub intensity_at : Segment → Float → Float
+intensity_at s distance =
     let arg1 = (distance ⊗ 0·5 ⊕ 0·353_553_38) ⊗ s.inv_sigma in
     let arg2 = (distance ⊗ 0·5 ⊕ neg 0·353_553_38) ⊗ s.inv_sigma in
-    let oneDimensionalFactor = fastErff arg1 ⊖ fastErff arg2 in
+    let oneDimensionalFactor = fast_erff arg1 ⊖ fast_erff arg2 in
     s.sigma_over_4_times_intensity ⊗ oneDimensionalFactor ⊗ oneDimensionalFactor
 
-abbrev pub localIntensity : Segment → ℕ → ℕ → Float
-localIntensity s y x = intensityAt s (sqrtOf binary32 (sqd s.center_x (dy2 s.center_y y) x))
+abbrev pub local_intensity : Segment → ℕ → ℕ → Float
+local_intensity s y x = intensity_at s (sqrt_of binary32 (sqd s.center_x (dy2 s.center_y y) x))
 
 -- the colours by number; there are three
-abbrev pub colorOf : Segment → ℕ → Float
-colorOf s zero = s.color0
-colorOf s (suc zero) = s.color1
-colorOf s (suc (suc c)) = s.color2
+abbrev pub color_of : Segment → ℕ → Float
+color_of s zero = s.color0
+color_of s (suc zero) = s.color1
+color_of s (suc (suc c)) = s.color2
 
 -- what a segment adds at pixel (x, y) in colour c
 unfoldable pub shade : Segment → ℕ → ℕ → ℕ → Float
-shade s y x c = colorOf s c ⊗ localIntensity s y x
+shade s y x c = color_of s c ⊗ local_intensity s y x
 
 -- a pixel with a segment added
 abbrev pub shaded : Segment → ℕ → ℕ → ℕ → Float → Float
@@ -49,11 +49,11 @@ shaded s y x c v = shade s y x c ⊕ v
 
 -- ---- the same by what the code has at hand: the local intensity, or the square of the distance in y
 
-unfoldable pub shadedByIntensity : Segment → Float → ℕ → Float → Float
-shadedByIntensity s local c v = colorOf s c ⊗ local ⊕ v
+unfoldable pub shaded_by_intensity : Segment → Float → ℕ → Float → Float
+shaded_by_intensity s local c v = color_of s c ⊗ local ⊕ v
 
-abbrev pub shadedBySquare : Segment → Float → ℕ → ℕ → Float → Float
-shadedBySquare s dy2 x c v = shadedByIntensity s (intensityAt s (sqrtOf binary32 (sqd s.center_x dy2 x))) c v
+abbrev pub shaded_by_square : Segment → Float → ℕ → ℕ → Float → Float
+shaded_by_square s dy2 x c v = shaded_by_intensity s (intensity_at s (sqrt_of binary32 (sqd s.center_x dy2 x))) c v
 
 -- the first m cells hold f
 unfoldable pub Holds : ℕ → (ℕ → Float) → List Float → Type 0

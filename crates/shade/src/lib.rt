@@ -4,10 +4,10 @@
 ghost use Rattle.std.specs.Prelude.{◌≡◌, cond, ◌+◌, ◌≤◌, length, get_or};
 ghost use Rattle.std.specs.Float.{nan};
 ghost use Rattle.std.specs.Float.Ieee.{neg};
-ghost use Rattle.approximations.specs.Erf.{fastErff};
+ghost use Rattle.approximations.specs.Erf.{fast_erff};
 ghost use Rattle.shade.specs.Alike.{Alike};
 ghost use Rattle.shade.specs.Edit.{edit};
-ghost use Rattle.shade.specs.Shade.{intensityAt, shadedByIntensity};
+ghost use Rattle.shade.specs.Shade.{intensity_at, shaded_by_intensity};
 
 use segments::Segment;
 
@@ -20,7 +20,7 @@ fn turned(turn: bool, x: f32) -> f32
 
 // `fast_erff_simd` by one comparison: of a zero it may have the other sign, which the square in `intensity` does not show.
 fn erf(x: f32) -> f32
-    ensures { Alike result (fastErff x) }
+    ensures { Alike result (fast_erff x) }
 {
     let negative = x < 0.0;
     turned(negative, approximations::erf_core(turned(negative, x)))
@@ -28,7 +28,7 @@ fn erf(x: f32) -> f32
 
 // What a segment adds at a distance, before its colours.
 pub fn intensity(segment: Segment, distance: f32) -> f32
-    ensures { result ≡ intensityAt segment distance }
+    ensures { result ≡ intensity_at segment distance }
 {
     let arg1 = (distance * 0.5 + 0.353_553_38) * segment.inv_sigma;
     let arg2 = (distance * 0.5 + -0.353_553_38) * segment.inv_sigma;
@@ -47,9 +47,9 @@ pub fn fours(m: usize) -> usize
 // Adds a segment to at most 32 pixels, by the intensities there.
 pub fn add(segment: Segment, locals: &[f32; 32], r0: &mut [f32], r1: &mut [f32], r2: &mut [f32])
     requires { (length r0.old ≤ 32) × (length r1.old ≡ length r0.old) × (length r2.old ≡ length r0.old) }
-    ensures r0_after { r0.new ≡ edit (λ k v. shadedByIntensity segment (get_or locals.now k nan) 0 v) r0.old }
-    ensures r1_after { r1.new ≡ edit (λ k v. shadedByIntensity segment (get_or locals.now k nan) 1 v) r1.old }
-    ensures r2_after { r2.new ≡ edit (λ k v. shadedByIntensity segment (get_or locals.now k nan) 2 v) r2.old }
+    ensures r0_after { r0.new ≡ edit (λ k v. shaded_by_intensity segment (get_or locals.now k nan) 0 v) r0.old }
+    ensures r1_after { r1.new ≡ edit (λ k v. shaded_by_intensity segment (get_or locals.now k nan) 1 v) r1.old }
+    ensures r2_after { r2.new ≡ edit (λ k v. shaded_by_intensity segment (get_or locals.now k nan) 2 v) r2.old }
 {
     let mut k: usize = 0;
     while k < r0.len() {

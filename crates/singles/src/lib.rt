@@ -2,7 +2,7 @@
 #![tactic(auto)]
 
 ghost use Rattle.std.specs.Prelude.{◌≡◌, [], ◌∷◌, ◌+◌, ◌*◌, ◌^◌, ◌<◌, ◌≤◌, length, get_or};
-ghost use Rattle.shade.specs.Edit.{edit, firstCells};
+ghost use Rattle.shade.specs.Edit.{edit, first_cells};
 ghost use Rattle.desks.specs.Desks.{sight_of, shown};
 ghost use Rattle.columns.specs.Columns.{pixel, updates};
 
@@ -28,9 +28,9 @@ pub fn draw_shown(
     requires n_bound { (x0 + n ≤ 2 ^ 23) × (y ≤ 2 ^ 23) }
     requires n_in_bounds { (n ≤ length r0.old) × (n ≤ length r1.old) × (n ≤ length r2.old) }
     ensures value { result ≡ updates segments.now x0 n (shown (sight_of owners.now splines bits.now desk) (i ∷ [])) }
-    ensures r0_after { r0.new ≡ edit (firstCells n (λ k v. pixel 0 segments.now y (x0 + k) (shown (sight_of owners.now splines bits.now desk) (i ∷ [])) v)) r0.old }
-    ensures r1_after { r1.new ≡ edit (firstCells n (λ k v. pixel 1 segments.now y (x0 + k) (shown (sight_of owners.now splines bits.now desk) (i ∷ [])) v)) r1.old }
-    ensures r2_after { r2.new ≡ edit (firstCells n (λ k v. pixel 2 segments.now y (x0 + k) (shown (sight_of owners.now splines bits.now desk) (i ∷ [])) v)) r2.old }
+    ensures r0_after { r0.new ≡ edit (first_cells n (λ k v. pixel 0 segments.now y (x0 + k) (shown (sight_of owners.now splines bits.now desk) (i ∷ [])) v)) r0.old }
+    ensures r1_after { r1.new ≡ edit (first_cells n (λ k v. pixel 1 segments.now y (x0 + k) (shown (sight_of owners.now splines bits.now desk) (i ∷ [])) v)) r1.old }
+    ensures r2_after { r2.new ≡ edit (first_cells n (λ k v. pixel 2 segments.now y (x0 + k) (shown (sight_of owners.now splines bits.now desk) (i ∷ [])) v)) r2.old }
 {
     let hides = desks::hidden(owners, splines, bits, desk, i);
     if hides {

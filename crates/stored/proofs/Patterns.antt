@@ -8,7 +8,7 @@ use lib.Ieee.{Float, Format, binary32, nan, ne, fits, is_nan, to_bits, hid, ones
 use lib.Ieee.Bits.{of_bits-to_bits}
 use lib.Ieee.Compare.{differs_from_itself}
 use borrow.Author.Tests.{eq-eqb, ne_eqb, eqb-true}
-use Rattle.numbers.proofs.Signs.{nan-no}
+use Rattle.numbers.proofs.Signs.{nan_no}
 use Rattle.numbers.proofs.Zero.{yes}
 
 -- an exponent that is not all ones
@@ -17,9 +17,9 @@ unfolding nan_bits
 plain f bits h = rw (ne_eqb (bits % top f / hid f) (ones f) h) tt
 
 -- digits that are all zero
-pub no-digits : (f : Format) (bits : ℕ) → bits % hid f ≡ 0 → T (not (nan_bits f bits))
+pub no_digits : (f : Format) (bits : ℕ) → bits % hid f ≡ 0 → T (not (nan_bits f bits))
 unfolding nan_bits
-no-digits f bits h = rw (eq-eqb (bits % hid f) 0 h) (either (eqb (bits % top f / hid f) (ones f)))
+no_digits f bits h = rw (eq-eqb (bits % hid f) 0 h) (either (eqb (bits % top f / hid f) (ones f)))
   where
     either : (b : Bool) → T (not (b && false))
     either true = tt
@@ -36,14 +36,14 @@ unfolding of_bits
 others f bits all_ones digits = full f _ _ _ all_ones digits
 
 -- the one pattern that stands for every NaN
-pub stored-nan : (x : Float) (bits : ℕ) → ne x x ≡ true → eqb bits 2143289344 ≡ true → x ≡ of_bits binary32 bits
+pub stored_nan : (x : Float) (bits : ℕ) → ne x x ≡ true → eqb bits 2143289344 ≡ true → x ≡ of_bits binary32 bits
 unfolding of_bits of_fields
-stored-nan x bits differs is = rw (eqb-true bits 2143289344 is) (differs_from_itself x (yes differs))
+stored_nan x bits differs is = rw (eqb-true bits 2143289344 is) (differs_from_itself x (yes differs))
 
-pub stored-float : (x : Float) (bits : ℕ) → T (fits binary32 x) → eqb (to_bits binary32 x) bits ≡ true → x ≡ of_bits binary32 bits
-stored-float x bits held is = sym (of_bits-to_bits binary32 x held) ∙ ap (of_bits binary32) (eqb-true (to_bits binary32 x) bits is)
+pub stored_float : (x : Float) (bits : ℕ) → T (fits binary32 x) → eqb (to_bits binary32 x) bits ≡ true → x ≡ of_bits binary32 bits
+stored_float x bits held is = sym (of_bits-to_bits binary32 x held) ∙ ap (of_bits binary32) (eqb-true (to_bits binary32 x) bits is)
 
 pub no_nan : (x : Float) → ne x x ≡ false → T (not (is_nan x))
-no_nan x same = rw (nan-no x same) tt
+no_nan x same = rw (nan_no x same) tt
 
 -- Assumes nothing.

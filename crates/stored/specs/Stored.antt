@@ -9,15 +9,15 @@ use Rattle.std.proofs.Common.{to_z}
 abbrev pub float_in : List ℕ → ℕ → Float
 float_in words k = of_bits binary32 (get_or words k 0)
 
-abbrev pub signedIn : List ℕ → ℕ → ℤ
-signedIn words k = to_z w32 (get_or words k 0)
+abbrev pub signed_in : List ℕ → ℕ → ℤ
+signed_in words k = to_z w32 (get_or words k 0)
 
-abbrev pub longIn : List ℕ → ℕ → ℕ
-longIn words k = get_or words k 0 + 4294967296 * get_or words (k + 1) 0
+abbrev pub long_in : List ℕ → ℕ → ℕ
+long_in words k = get_or words k 0 + 4294967296 * get_or words (k + 1) 0
 
 -- the word of a refusal's number: POSITION where a double delta is too large, since spline.rs has DELTA for lists only
-abbrev pub refusalWord : ℕ → ℕ
-refusalWord number = cond (eqb number 5) 10 number
+abbrev pub refusal_word : ℕ → ℕ
+refusal_word number = cond (eqb number 5) 10 number
 
 -- the values begin with the floats of the words
 pub record Begins (values : List Float) (words : List ℕ) : Type 0 where

@@ -7,7 +7,7 @@ ghost use Rattle.std.proofs.Common.{to_z};
 ghost use Rattle.std.specs.Float.{binary32, binary64};
 ghost use Rattle.std.specs.Float.Ieee.{of_bits};
 ghost use Rattle.dequantize.specs.Coefficients.{table};
-ghost use Rattle.stored.specs.Stored.{float_in, signedIn, longIn, refusalWord, Begins, BeginsWith};
+ghost use Rattle.stored.specs.Stored.{float_in, signed_in, long_in, refusal_word, Begins, BeginsWith};
 
 // The f32 of a bit pattern.
 pub fn float(bits: u32) -> f32
@@ -55,7 +55,7 @@ pub fn is_float(x: f32, bits: u32) -> bool
 
 // Whether n is the number of two words.
 pub fn is_long(n: u64, output: &[u32]) -> bool
-    ensures { result ≡ true → (length output.now ≡ 2) × (n ≡ longIn output.now 0) }
+    ensures { result ≡ true → (length output.now ≡ 2) × (n ≡ long_in output.now 0) }
 {
     if output.len() != 2 {
         return false;
@@ -109,7 +109,7 @@ pub fn is_only_float(x: f32, output: &[u32]) -> bool
 // The word of a refusal's number. spline.rs judges double deltas where it reads a list and nowhere else: what the scope calls DELTA (5) is
 // POSITION (10) there.
 pub fn refusal_word(number: u32) -> u32
-    ensures { result ≡ refusalWord number }
+    ensures { result ≡ refusal_word number }
 {
     if number == 5 { 10 } else { number }
 }
@@ -140,7 +140,7 @@ pub fn floats(words: &[u32], out: &mut [f32])
 
 // The signed number of word i, or 0 past the last.
 fn signed_at(words: &[u32], i: usize) -> i32
-    ensures { result ≡ signedIn words.now i }
+    ensures { result ≡ signed_in words.now i }
 {
     if i < words.len() {
         signed_word(words[i])
@@ -151,7 +151,7 @@ fn signed_at(words: &[u32], i: usize) -> i32
 
 // Every cell is set to the signed number of its word.
 pub fn signeds(words: &[u32], out: &mut [i32])
-    ensures { out.new ≡ table (signedIn words.now) (length out.old) }
+    ensures { out.new ≡ table (signed_in words.now) (length out.old) }
 {
     let mut i = 0;
     while i < out.len() {

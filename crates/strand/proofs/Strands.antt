@@ -13,50 +13,50 @@ use Rattle.numbers.specs.Arith.{f}
 use Rattle.control_points.specs.declared.Pair.{Pair}
 use Rattle.dequantize.specs.declared.Spline.{Spline}
 use Rattle.curve.specs.Curve as Curve
-use Rattle.curve.specs.Curve.{pathOf}
-use Rattle.walk.specs.Walk.{walkIn, walkLength, lastMultiplier, flat}
+use Rattle.curve.specs.Curve.{path_of}
+use Rattle.walk.specs.Walk.{walk_in, walk_length, last_multiplier, flat}
 use Rattle.walk.proofs.Answers.{Taken, taken-last}
-use Rattle.walk.proofs.Walking.{length-flat}
-use Rattle.points.specs.Points.{addSegmentsFromPoints, filledOf, FilledOn}
+use Rattle.walk.proofs.Walking.{length_flat}
+use Rattle.points.specs.Points.{add_segments_from_points, filled_of, FilledOn}
 use Rattle.points.specs.declared.Filled.TheVariants.{Count}
 use Rattle.points.proofs.Adding.{made_none}
 use Rattle.segments.specs.declared.Segment.{Segment}
-use Rattle.strand.specs.Strand.{walkSegments, flatSegments, afterWalk, strandOf, NoRoom, Segments}
+use Rattle.strand.specs.Strand.{walk_segments, flat_segments, after_walk, strand_of, NoRoom, Segments}
 
 -- ---- a walk
 
 -- by the length: none, or all
-pub flat-none : (s : Spline) (high : Bool) (walk : List Float) {l : Float} → l ≡ walkLength (length walk / 3) (get_or walk (3 * (length walk / 3) - 1) nan) → le l (f 0) ≡ true → flatSegments s high walk ≡ []
-unfolding flatSegments
-flat-none s high walk e t = rw (← e, t)
+pub flat_none : (s : Spline) (high : Bool) (walk : List Float) {l : Float} → l ≡ walk_length (length walk / 3) (get_or walk (3 * (length walk / 3) - 1) nan) → le l (f 0) ≡ true → flat_segments s high walk ≡ []
+unfolding flat_segments
+flat_none s high walk e t = rw (← e, t)
 
-pub flat-all : (s : Spline) (high : Bool) (walk : List Float) {l : Float} → l ≡ walkLength (length walk / 3) (get_or walk (3 * (length walk / 3) - 1) nan) → le l (f 0) ≡ false
-    → flatSegments s high walk ≡ addSegmentsFromPoints s walk l high
-unfolding flatSegments
-flat-all s high walk e t = rw (← e, t)
+pub flat_all : (s : Spline) (high : Bool) (walk : List Float) {l : Float} → l ≡ walk_length (length walk / 3) (get_or walk (3 * (length walk / 3) - 1) nan) → le l (f 0) ≡ false
+    → flat_segments s high walk ≡ add_segments_from_points s walk l high
+unfolding flat_segments
+flat_all s high walk e t = rw (← e, t)
 
 -- nothing added
-pub none_filled : (room from : ℕ) (segs : List Segment) (o : List Float) → segs ≡ [] → from ≤ room → (Count from ≡ filledOf room from segs) × FilledOn (Count from) from segs o o
+pub none_filled : (room from : ℕ) (segs : List Segment) (o : List Float) → segs ≡ [] → from ≤ room → (Count from ≡ filled_of room from segs) × FilledOn (Count from) from segs o o
 none_filled room from segs o e h = rw e (made_none room from o h)
 
 -- a walk that was taken, as a list of its own
-pub taken-segments : (s : Spline) (high : Bool) (room : ℕ) (path e : List Float) (n : ℕ) → (t : Taken room path e n)
-    → Segments (flatSegments s high (take (3 * n) e)) ≡ afterWalk s high (walkIn room path)
-unfolding flatSegments walkSegments
-taken-segments s high room path e n t =
-    let k : length (take (3 * n) e) / 3 ≡ n = omega (arith, ap length t.front, length-flat t.points, t.count) in
-    let m : get_or (take (3 * n) e) (3 * n - 1) nan ≡ lastMultiplier t.points = get_or-take (3 * n) e (3 * n - 1) nan (omega (arith, t.two)) ∙ taken-last room path e n t in
+pub taken_segments : (s : Spline) (high : Bool) (room : ℕ) (path e : List Float) (n : ℕ) → (t : Taken room path e n)
+    → Segments (flat_segments s high (take (3 * n) e)) ≡ after_walk s high (walk_in room path)
+unfolding flat_segments walk_segments
+taken_segments s high room path e n t =
+    let k : length (take (3 * n) e) / 3 ≡ n = omega (arith, ap length t.front, length_flat t.points, t.count) in
+    let m : get_or (take (3 * n) e) (3 * n - 1) nan ≡ last_multiplier t.points = get_or-take (3 * n) e (3 * n - 1) nan (omega (arith, t.two)) ∙ taken-last room path e n t in
     rw (t.ended, k, m, t.front, t.count)
 
 -- ---- a spline
 
-module _ (pathRoom walkRoom : ℕ) (start : Pair) (ds : List ℤ) (s : Spline) (high : Bool) where
-  pub strand-none : pathRoom < length (pathOf start ds) → strandOf pathRoom walkRoom start ds s high ≡ NoRoom
-  unfolding strandOf
-  strand-none h = rw (lt-leb (length (pathOf start ds)) pathRoom h)
+module _ (path_room walk_room : ℕ) (start : Pair) (ds : List ℤ) (s : Spline) (high : Bool) where
+  pub strand_none : path_room < length (path_of start ds) → strand_of path_room walk_room start ds s high ≡ NoRoom
+  unfolding strand_of
+  strand_none h = rw (lt-leb (length (path_of start ds)) path_room h)
 
-  pub strand-drawn : {p : List Float} → length (pathOf start ds) ≤ pathRoom → p ≡ Curve.flat (pathOf start ds) → afterWalk s high (walkIn walkRoom p) ≡ strandOf pathRoom walkRoom start ds s high
-  unfolding strandOf
-  strand-drawn h e = rw (le-leb (length (pathOf start ds)) pathRoom h, e)
+  pub strand_drawn : {p : List Float} → length (path_of start ds) ≤ path_room → p ≡ Curve.flat (path_of start ds) → after_walk s high (walk_in walk_room p) ≡ strand_of path_room walk_room start ds s high
+  unfolding strand_of
+  strand_drawn h e = rw (le-leb (length (path_of start ds)) path_room h, e)
 
 -- Assumes nothing.

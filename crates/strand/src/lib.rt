@@ -2,12 +2,12 @@
 #![tactic(auto)]
 
 ghost use Rattle.std.specs.Prelude.{◌≡◌, ◌*◌, ◌/◌, ◌≤◌, length};
-ghost use Rattle.points.specs.Points.{segmentRoom, filledOf, FilledOn};
-ghost use Rattle.control_points.specs.ControlPoints.{standAt};
+ghost use Rattle.points.specs.Points.{segment_room, filled_of, FilledOn};
+ghost use Rattle.control_points.specs.ControlPoints.{stand_at};
 ghost use Rattle.control_points.specs.Asked.{Passable};
-ghost use Rattle.curve.specs.Curve.{pathRoom};
-ghost use Rattle.walk.specs.Walk.{walkIn, walkRoom};
-ghost use Rattle.strand.specs.Strand.{flatSegments, afterWalk, strandOf, strandFilled, segmentsOf};
+ghost use Rattle.curve.specs.Curve.{path_room};
+ghost use Rattle.walk.specs.Walk.{walk_in, walk_room};
+ghost use Rattle.strand.specs.Strand.{flat_segments, after_walk, strand_of, strand_filled, segments_of};
 
 use control_points::Pair;
 use curve::Curved;
@@ -23,9 +23,9 @@ fn draw_walk(
     out: &mut [f32],
     from: usize,
 ) -> Filled
-    requires { (2 ≤ length walk.now / 3) × (length walk.now / 3 ≤ 8388608) × (from ≤ segmentRoom (length out.old)) }
-    ensures { (result ≡ filledOf (segmentRoom (length out.old)) from (flatSegments spline high_precision walk.now))
-        × FilledOn result from (flatSegments spline high_precision walk.now) out.old out.new }
+    requires { (2 ≤ length walk.now / 3) × (length walk.now / 3 ≤ 8388608) × (from ≤ segment_room (length out.old)) }
+    ensures { (result ≡ filled_of (segment_room (length out.old)) from (flat_segments spline high_precision walk.now))
+        × FilledOn result from (flat_segments spline high_precision walk.now) out.old out.new }
 {
     let n = walk.len() / 3;
     let last = walk[3 * n - 1];
@@ -45,9 +45,9 @@ fn draw_path(
     out: &mut [f32],
     from: usize,
 ) -> Filled
-    requires { (2 ≤ length path.now) × (from ≤ segmentRoom (length out.old)) }
-    ensures { (result ≡ strandFilled (segmentRoom (length out.old)) from (afterWalk spline high_precision (walkIn (walkRoom (length walk.old)) path.now)))
-        × FilledOn result from (segmentsOf (afterWalk spline high_precision (walkIn (walkRoom (length walk.old)) path.now))) out.old out.new }
+    requires { (2 ≤ length path.now) × (from ≤ segment_room (length out.old)) }
+    ensures { (result ≡ strand_filled (segment_room (length out.old)) from (after_walk spline high_precision (walk_in (walk_room (length walk.old)) path.now)))
+        × FilledOn result from (segments_of (after_walk spline high_precision (walk_in (walk_room (length walk.old)) path.now))) out.old out.new }
 {
     match walk::walk(path, walk) {
         Walked::Room => Filled::Room,
@@ -69,9 +69,9 @@ pub fn draw_spline(
     out: &mut [f32],
     from: usize,
 ) -> Filled
-    requires { Passable (standAt start) deltas.now × (from ≤ segmentRoom (length out.old)) }
-    ensures { (result ≡ strandFilled (segmentRoom (length out.old)) from (strandOf (pathRoom (length path.old)) (walkRoom (length walk.old)) start deltas.now spline high_precision))
-        × FilledOn result from (segmentsOf (strandOf (pathRoom (length path.old)) (walkRoom (length walk.old)) start deltas.now spline high_precision)) out.old out.new }
+    requires { Passable (stand_at start) deltas.now × (from ≤ segment_room (length out.old)) }
+    ensures { (result ≡ strand_filled (segment_room (length out.old)) from (strand_of (path_room (length path.old)) (walk_room (length walk.old)) start deltas.now spline high_precision))
+        × FilledOn result from (segments_of (strand_of (path_room (length path.old)) (walk_room (length walk.old)) start deltas.now spline high_precision)) out.old out.new }
 {
     match curve::curve(start, deltas, path) {
         Curved::Room => Filled::Room,

@@ -7,14 +7,14 @@ use Rattle.dequantize.specs.declared.Given.{Given}
 use Rattle.control_points.specs.declared.Pair.{Pair}
 use Rattle.control_points.specs.declared.Start.{Start}
 use Rattle.control_points.specs.declared.Start.TheVariants.{At}
-use Rattle.control_points.specs.ControlPoints.{startingPoint, standAt}
+use Rattle.control_points.specs.ControlPoints.{starting_point, stand_at}
 use Rattle.control_points.specs.Asked.{Passable}
 use Rattle.dequantize.specs.Asked.{SplineAccepted}
 
-pub start-walk : (x y : Float) (ds c : List ℤ) (g : Given) → SplineAccepted x y ds c g → {r : Start} (start : Pair) → r ≡ startingPoint x y → r ≡ At start → Passable (standAt start) ds
-start-walk x y ds c g a {r} start p q =
+pub start_walk : (x y : Float) (ds c : List ℤ) (g : Given) → SplineAccepted x y ds c g → {r : Start} (start : Pair) → r ≡ starting_point x y → r ≡ At start → Passable (stand_at start) ds
+start_walk x y ds c g a {r} start p q =
     let e : At a.start ≡ At start = sym a.begins ∙ sym p ∙ q in
     let s : a.start ≡ start = cc in
-    subst (λ (t : Pair). Passable (standAt t) ds) s a.walk
+    subst (λ (t : Pair). Passable (stand_at t) ds) s a.walk
 
 -- Assumes nothing.

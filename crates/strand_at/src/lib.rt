@@ -3,9 +3,9 @@
 
 ghost use Rattle.std.specs.Prelude.{◌≡◌, ◌+◌, ◌*◌, ◌≤◌, length, get_or, take, drop};
 ghost use Rattle.std.specs.Float.{nan};
-ghost use Rattle.points.specs.Points.{segmentRoom};
+ghost use Rattle.points.specs.Points.{segment_room};
 ghost use Rattle.dequantize.specs.Asked.{SplineAccepted};
-ghost use Rattle.strand_at.specs.Strands.{strandHere, Fills};
+ghost use Rattle.strand_at.specs.Strands.{strand_here, Fills};
 
 use control_points::Start;
 use dequantize::Given;
@@ -24,9 +24,9 @@ pub fn draw_one(
     out: &mut [f32],
     from: usize,
 ) -> Filled
-    requires { (2 * k + 2 ≤ length starts.now) × (128 * k + 128 ≤ length coefficients.now) × (from ≤ segmentRoom (length out.old))
+    requires { (2 * k + 2 ≤ length starts.now) × (128 * k + 128 ≤ length coefficients.now) × (from ≤ segment_room (length out.old))
         × SplineAccepted (get_or starts.now (2 * k) nan) (get_or starts.now (2 * k + 1) nan) deltas.now (take 128 (drop (128 * k) coefficients.now)) given }
-    ensures { Fills from (strandHere starts.now deltas.now coefficients.now k given high_precision (length path.old) (length walk.old)) result out.old out.new }
+    ensures { Fills from (strand_here starts.now deltas.now coefficients.now k given high_precision (length path.old) (length walk.old)) result out.old out.new }
 {
     let spline = dequantize::judge::spline_at(starts, deltas, coefficients, k, given);
     match control_points::starting_point(starts[2 * k], starts[2 * k + 1]) {

@@ -14,91 +14,91 @@ use Rattle.codes.specs.declared.Code.TheVariants as Code
 use Rattle.shape.proofs.Shape as Shape
 use Rattle.dequantize.specs.declared.judge.Judged.{Judged}
 use Rattle.dequantize.specs.declared.judge.Judged.TheVariants as Judged
-use Rattle.dequantize.specs.Judge.{Description, Shaped, total_of, judgeOf}
+use Rattle.dequantize.specs.Judge.{Description, Shaped, total_of, judge_of}
 use Rattle.dequantize.specs.Refusals.{AllPass}
-use Rattle.dequantize.proofs.Refusals.{fine-all, all-fine, judged-exactly}
+use Rattle.dequantize.proofs.Refusals.{fine_all, all_fine, judged_exactly}
 use Rattle.segments.specs.declared.Segment.{Segment}
 use Rattle.points.specs.Points.{eights}
 use Rattle.painting.specs.Painting.{Painted, All, NoRoomAt, Passed}
 use Rattle.painting.specs.Segments.{DrawnUpTo}
-use Rattle.painting.proofs.Segments.{all-exactly, room-exactly}
+use Rattle.painting.proofs.Segments.{all_exactly, room_exactly}
 use Rattle.rows.specs.Rows.{in_row}
-use Rattle.rows.proofs.Users.{room-when, table-when, either}
+use Rattle.rows.proofs.Users.{room_when, table_when, either}
 use Rattle.build_answer.specs.declared.BuildAnswer.TheVariants.{Refused}
-use Rattle.table.specs.Table.{BuildRooms, Setting, BuildOutcome, given_of, refusedWith, afterRows, afterPaint, afterJudge, buildOf}
-use Rattle.verdict.specs.Verdict.{sized, shaped, orRefused, verdictOf}
-use Rattle.table.specs.Segments.{entryTotal, Fits, NeedsMet, doneWith}
+use Rattle.table.specs.Table.{BuildRooms, Setting, BuildOutcome, given_of, refused_with, after_rows, after_paint, after_judge, build_of}
+use Rattle.verdict.specs.Verdict.{sized, shaped, or_refused, verdict_of}
+use Rattle.table.specs.Segments.{entry_total, Fits, NeedsMet, done_with}
 use Rattle.table.specs.Refusals.{BuildRefusal, size, shape, starts, judged, drawing, entries}
 use Rattle.table.proofs.InRooms.{painted}
 use Rattle.verdict.proofs.Checks.{both, agreed}
 
 -- ---- tests
 
-wide-or-tall : (a b m : ℕ) → leb a m && leb b m ≡ false → (m < a) ⊎ (m < b)
-wide-or-tall a b m e = go (leb a m) refl
+wide_or_tall : (a b m : ℕ) → leb a m && leb b m ≡ false → (m < a) ⊎ (m < b)
+wide_or_tall a b m e = go (leb a m) refl
   where
     go : (t : Bool) → leb a m ≡ t → (m < a) ⊎ (m < b)
     go false p = inl (leb-false a m p)
     go true p = inr (leb-false b m (ap (λ (t : Bool). t && leb b m) (sym p) ∙ e))
 
-not-sized : (a b m : ℕ) → (m < a) ⊎ (m < b) → leb a m && leb b m ≡ false
-not-sized a b m (inl h) = rw (lt-leb a m h)
-not-sized a b m (inr h) = rw (lt-leb b m h) (and-false (leb a m))
+not_sized : (a b m : ℕ) → (m < a) ⊎ (m < b) → leb a m && leb b m ≡ false
+not_sized a b m (inl h) = rw (lt-leb a m h)
+not_sized a b m (inr h) = rw (lt-leb b m h) (and-false (leb a m))
 
-is-shaped : (d : Description) → Shaped d → shaped d ≡ true
-is-shaped d = Shape.is-shaped d.counts d.starts d.deltas d.coefficients
+is_shaped : (d : Description) → Shaped d → shaped d ≡ true
+is_shaped d = Shape.is_shaped d.counts d.starts d.deltas d.coefficients
 
-not-shaped : (d : Description) → (Shaped d → ⊥) → shaped d ≡ false
-not-shaped d = Shape.not-shaped d.counts d.starts d.deltas d.coefficients
+not_shaped : (d : Description) → (Shaped d → ⊥) → shaped d ≡ false
+not_shaped d = Shape.not_shaped d.counts d.starts d.deltas d.coefficients
 
 module _ (d : Description) (i : Setting) (r : BuildRooms) where
   -- ---- a line of the table gives its code, and needs that are met a table
 
   abbrev rest : Judged → BuildOutcome
-  rest v = afterJudge r i.height v (painted d i r)
+  rest v = after_judge r i.height v (painted d i r)
 
   abbrev total : ℕ
   total = total_of d (given_of i) (length d.counts)
 
   passed : AllPass d (given_of i) → Passed d (given_of i)
-  passed a = record { total = total; fine = all-fine d (given_of i) a }
+  passed a = record { total = total; fine = all_fine d (given_of i) a }
 
-  fits-verdict : Fits d i r → verdictOf d (given_of i) i.width i.height r.starts ≡ judgeOf d (given_of i)
-  unfolding verdictOf
-  fits-verdict f =
-      rw (le-leb i.width (2 ^ 23) f.narrow, le-leb i.height (2 ^ 23) f.low, is-shaped d f.shape, le-leb (suc i.height) r.starts f.tall)
+  fits_verdict : Fits d i r → verdict_of d (given_of i) i.width i.height r.starts ≡ judge_of d (given_of i)
+  unfolding verdict_of
+  fits_verdict f =
+      rw (le-leb i.width (2 ^ 23) f.narrow, le-leb i.height (2 ^ 23) f.low, is_shaped d f.shape, le-leb (suc i.height) r.starts f.tall)
 
   -- where every spline passes, drawing decides
-  after-passes : Fits d i r → AllPass d (given_of i) → buildOf d i r ≡ afterPaint r i.height total (painted d i r)
-  unfolding buildOf
-  after-passes f a = ap rest (fits-verdict f ∙ all-fine d (given_of i) a)
+  after_passes : Fits d i r → AllPass d (given_of i) → build_of d i r ≡ after_paint r i.height total (painted d i r)
+  unfolding build_of
+  after_passes f a = ap rest (fits_verdict f ∙ all_fine d (given_of i) a)
 
   abbrev Segmented : List Segment → List ℕ → Type 0
   Segmented segs owners = DrawnUpTo d (given_of i) i.high r.path r.walk r.segments r.owners (length d.counts) segs owners
 
-  pub is-drawn : Fits d i r → AllPass d (given_of i) → (segs : List Segment) (owners : List ℕ) → Segmented segs owners → painted d i r ≡ All segs owners
-  is-drawn f a segs owners w = (all-exactly d (given_of i) i.high r.path r.walk r.segments r.owners f.shape (passed a) segs owners).1 w
+  pub is_drawn : Fits d i r → AllPass d (given_of i) → (segs : List Segment) (owners : List ℕ) → Segmented segs owners → painted d i r ≡ All segs owners
+  is_drawn f a segs owners w = (all_exactly d (given_of i) i.high r.path r.walk r.segments r.owners f.shape (passed a) segs owners).1 w
 
-  pub refused : {c : Code} {p : ℕ} → BuildRefusal d i r c p → buildOf d i r ≡ refusedWith r c p
-  unfolding buildOf verdictOf
-  refused (size h) = rw (not-sized i.width i.height (2 ^ 23) h)
-  refused (shape a b n) = rw (le-leb i.width (2 ^ 23) a, le-leb i.height (2 ^ 23) b, not-shaped d n)
-  refused (starts a b s h) = rw (le-leb i.width (2 ^ 23) a, le-leb i.height (2 ^ 23) b, is-shaped d s, lt-leb (suc i.height) r.starts (omega arith))
-  refused (judged {c = c} {k = k} f e) = ap rest (fits-verdict f ∙ (judged-exactly d (given_of i) c k).1 e)
+  pub refused : {c : Code} {p : ℕ} → BuildRefusal d i r c p → build_of d i r ≡ refused_with r c p
+  unfolding build_of verdict_of
+  refused (size h) = rw (not_sized i.width i.height (2 ^ 23) h)
+  refused (shape a b n) = rw (le-leb i.width (2 ^ 23) a, le-leb i.height (2 ^ 23) b, not_shaped d n)
+  refused (starts a b s h) = rw (le-leb i.width (2 ^ 23) a, le-leb i.height (2 ^ 23) b, is_shaped d s, lt-leb (suc i.height) r.starts (omega arith))
+  refused (judged {c = c} {k = k} f e) = ap rest (fits_verdict f ∙ (judged_exactly d (given_of i) c k).1 e)
   refused (drawing {k = k} f a l) =
-      after-passes f a
-      ∙ ap (afterPaint r i.height total) ((room-exactly d (given_of i) i.high r.path r.walk r.segments r.owners f.shape (passed a) k).1 l)
+      after_passes f a
+      ∙ ap (after_paint r i.height total) ((room_exactly d (given_of i) i.high r.path r.walk r.segments r.owners f.shape (passed a) k).1 l)
   refused (entries {segs = segs} {owners = owners} f a w h) =
-      after-passes f a
-      ∙ ap (afterPaint r i.height total) (is-drawn f a segs owners w)
-      ∙ ap (afterRows r total (length segs) (eights segs) owners) (room-when (in_row (eights segs)) (length segs) i.height r.starts r.entries h)
+      after_passes f a
+      ∙ ap (after_paint r i.height total) (is_drawn f a segs owners w)
+      ∙ ap (after_rows r total (length segs) (eights segs) owners) (room_when (in_row (eights segs)) (length segs) i.height r.starts r.entries h)
 
-  pub met : (segs : List Segment) (owners : List ℕ) → NeedsMet d i r segs owners → buildOf d i r ≡ doneWith d i r segs owners
-  unfolding doneWith
+  pub met : (segs : List Segment) (owners : List ℕ) → NeedsMet d i r segs owners → build_of d i r ≡ done_with d i r segs owners
+  unfolding done_with
   met segs owners n =
-      after-passes n.fits n.passes
-      ∙ ap (afterPaint r i.height total) (is-drawn n.fits n.passes segs owners n.drawn)
-      ∙ ap (afterRows r total (length segs) (eights segs) owners) (table-when (in_row (eights segs)) (length segs) i.height r.starts r.entries n.entries)
+      after_passes n.fits n.passes
+      ∙ ap (after_paint r i.height total) (is_drawn n.fits n.passes segs owners n.drawn)
+      ∙ ap (after_rows r total (length segs) (eights segs) owners) (table_when (in_row (eights segs)) (length segs) i.height r.starts r.entries n.entries)
 
   -- ---- and one of them holds
 
@@ -112,31 +112,31 @@ module _ (d : Description) (i : Setting) (r : BuildRooms) where
     pub place : ℕ
     pub why : BuildRefusal d i r code place
 
-  by-paint : Fits d i r → AllPass d (given_of i) → (q : Painted) → painted d i r ≡ q → Accepts ⊎ Refuses
-  by-paint f a (NoRoomAt k) q =
-      inr (record { code = Code.Room; place = k; why = drawing f a ((room-exactly d (given_of i) i.high r.path r.walk r.segments r.owners f.shape (passed a) k).0 q) })
-  by-paint f a (All segs owners) q = go (either (in_row (eights segs)) (length segs) i.height r.starts r.entries)
+  by_paint : Fits d i r → AllPass d (given_of i) → (q : Painted) → painted d i r ≡ q → Accepts ⊎ Refuses
+  by_paint f a (NoRoomAt k) q =
+      inr (record { code = Code.Room; place = k; why = drawing f a ((room_exactly d (given_of i) i.high r.path r.walk r.segments r.owners f.shape (passed a) k).0 q) })
+  by_paint f a (All segs owners) q = go (either (in_row (eights segs)) (length segs) i.height r.starts r.entries)
     where
       w : Segmented segs owners
-      w = (all-exactly d (given_of i) i.high r.path r.walk r.segments r.owners f.shape (passed a) segs owners).0 q
+      w = (all_exactly d (given_of i) i.high r.path r.walk r.segments r.owners f.shape (passed a) segs owners).0 q
 
-      go : ((entryTotal i segs ≤ r.entries) × (entryTotal i segs ≤ 2 ^ 30)) ⊎ ((r.entries < entryTotal i segs) ⊎ (2 ^ 30 < entryTotal i segs)) → Accepts ⊎ Refuses
+      go : ((entry_total i segs ≤ r.entries) × (entry_total i segs ≤ 2 ^ 30)) ⊎ ((r.entries < entry_total i segs) ⊎ (2 ^ 30 < entry_total i segs)) → Accepts ⊎ Refuses
       go (inl fine) = inl (record { segs = segs; owners = owners; needs = record { fits = f; passes = a; drawn = w; entries = fine } })
       go (inr more) = inr (record { code = Code.Room; place = 0; why = entries f a w more })
 
-  by-judge : Fits d i r → (v : Judged) → judgeOf d (given_of i) ≡ v → Accepts ⊎ Refuses
-  by-judge f (Judged.Refused c k) j = inr (record { code = c; place = k; why = judged f ((judged-exactly d (given_of i) c k).0 j) })
-  by-judge f (Judged.Fine t) j = by-paint f (fine-all d (given_of i) t j).0 (painted d i r) refl
+  by_judge : Fits d i r → (v : Judged) → judge_of d (given_of i) ≡ v → Accepts ⊎ Refuses
+  by_judge f (Judged.Refused c k) j = inr (record { code = c; place = k; why = judged f ((judged_exactly d (given_of i) c k).0 j) })
+  by_judge f (Judged.Fine t) j = by_paint f (fine_all d (given_of i) t j).0 (painted d i r) refl
 
-  by-checks : (a : Bool) → sized i.width i.height ≡ a → (b : Bool) → shaped d ≡ b → (t : Bool) → leb (suc i.height) r.starts ≡ t → Accepts ⊎ Refuses
-  by-checks false q b s t h = inr (record { code = Code.Size; place = 0; why = size (wide-or-tall i.width i.height (2 ^ 23) q) })
-  by-checks true q b s t h = inside (both (leb i.width (2 ^ 23)) (leb i.height (2 ^ 23)) q) b s t h
+  by_checks : (a : Bool) → sized i.width i.height ≡ a → (b : Bool) → shaped d ≡ b → (t : Bool) → leb (suc i.height) r.starts ≡ t → Accepts ⊎ Refuses
+  by_checks false q b s t h = inr (record { code = Code.Size; place = 0; why = size (wide_or_tall i.width i.height (2 ^ 23) q) })
+  by_checks true q b s t h = inside (both (leb i.width (2 ^ 23)) (leb i.height (2 ^ 23)) q) b s t h
     where
       inside : (leb i.width (2 ^ 23) ≡ true) × (leb i.height (2 ^ 23) ≡ true) → (b : Bool) → shaped d ≡ b → (t : Bool) → leb (suc i.height) r.starts ≡ t → Accepts ⊎ Refuses
       inside w false s t h = inr (record {
         code = Code.Shape;
         place = 0;
-        why = shape (leb-true i.width (2 ^ 23) w.0) (leb-true i.height (2 ^ 23) w.1) (λ k. let z : ◌≡◌ {A = ℕ} 0 1 = cc (sym (is-shaped d k) ∙ s) in omega arith);
+        why = shape (leb-true i.width (2 ^ 23) w.0) (leb-true i.height (2 ^ 23) w.1) (λ k. let z : ◌≡◌ {A = ℕ} 0 1 = cc (sym (is_shaped d k) ∙ s) in omega arith);
       })
       inside w true s false h = inr (record {
         code = Code.Room;
@@ -144,17 +144,17 @@ module _ (d : Description) (i : Setting) (r : BuildRooms) where
         why = starts (leb-true i.width (2 ^ 23) w.0) (leb-true i.height (2 ^ 23) w.1) (agreed d s) (let l = leb-false (suc i.height) r.starts h in omega arith);
       })
       inside w true s true h =
-          by-judge
+          by_judge
           (record { narrow = leb-true i.width (2 ^ 23) w.0; low = leb-true i.height (2 ^ 23) w.1; shape = agreed d s; tall = leb-true (suc i.height) r.starts h })
-          (judgeOf d (given_of i)) refl
+          (judge_of d (given_of i)) refl
 
   pub either_way : Accepts ⊎ Refuses
-  either_way = by-checks (sized i.width i.height) refl (shaped d) refl (leb (suc i.height) r.starts) refl
+  either_way = by_checks (sized i.width i.height) refl (shaped d) refl (leb (suc i.height) r.starts) refl
 
   -- ---- what the contract of `build` promises
 
-  given : (c : Code) (p : ℕ) → (buildOf d i r).answer ≡ Refused c p → BuildRefusal d i r c p
-  unfolding refusedWith doneWith
+  given : (c : Code) (p : ℕ) → (build_of d i r).answer ≡ Refused c p → BuildRefusal d i r c p
+  unfolding refused_with done_with
   given c p e = go either_way
     where
       go : Accepts ⊎ Refuses → BuildRefusal d i r c p
@@ -166,15 +166,15 @@ module _ (d : Description) (i : Setting) (r : BuildRooms) where
           rw (← a, ← b) w.why
 
   -- a code is given exactly when its line of the table says
-  pub refused-exactly : (c : Code) (p : ℕ) → ((buildOf d i r).answer ≡ Refused c p) ↔ BuildRefusal d i r c p
-  unfolding refusedWith
-  refused-exactly c p = (given c p, λ h. ap (λ (t : BuildOutcome). t.answer) (refused h))
+  pub refused_exactly : (c : Code) (p : ℕ) → ((build_of d i r).answer ≡ Refused c p) ↔ BuildRefusal d i r c p
+  unfolding refused_with
+  refused_exactly c p = (given c p, λ h. ap (λ (t : BuildOutcome). t.answer) (refused h))
 
   -- after a refusal every lent cell is zero
-  pub refused-leaves-zero : (t : BuildOutcome) (c : Code) (p : ℕ) → t ≡ buildOf d i r → t.answer ≡ Refused c p → t ≡ refusedWith r c p
-  refused-leaves-zero t c p e q = e ∙ refused (given c p (sym (ap (λ (u : BuildOutcome). u.answer) e) ∙ q))
+  pub refused_leaves_zero : (t : BuildOutcome) (c : Code) (p : ℕ) → t ≡ build_of d i r → t.answer ≡ Refused c p → t ≡ refused_with r c p
+  refused_leaves_zero t c p e q = e ∙ refused (given c p (sym (ap (λ (u : BuildOutcome). u.answer) e) ∙ q))
 
-  pub one-outcome : (t u : BuildOutcome) → t ≡ buildOf d i r → u ≡ buildOf d i r → t ≡ u
-  one-outcome t u e q = e ∙ sym q
+  pub one_outcome : (t u : BuildOutcome) → t ≡ build_of d i r → u ≡ build_of d i r → t ≡ u
+  one_outcome t u e q = e ∙ sym q
 
 -- Assumes nothing.

@@ -1,5 +1,5 @@
 -- The codes of building, and when each is given: the table of codes, for a build. Definitions only.
--- Codes 5 and 10 to 13 are `SplineRefusal` of the crate dequantize, drawing's ROOM is `SplineLacks` of painting. That a build refuses exactly so is `refused-exactly` of proofs/Users.antt.
+-- Codes 5 and 10 to 13 are `SplineRefusal` of the crate dequantize, drawing's ROOM is `SplineLacks` of painting. That a build refuses exactly so is `refused_exactly` of proofs/Users.antt.
 use Rattle.std.specs.Prelude.{◌⊎◌, List, ℕ, ◌^◌, ◌≤◌, ◌<◌, length}
 use Rattle.codes.specs.declared.Code.{Code}
 use Rattle.codes.specs.declared.Code.TheVariants as Code
@@ -8,7 +8,7 @@ use Rattle.dequantize.specs.Refusals.{AllPass, FirstRefused}
 use Rattle.segments.specs.declared.Segment.{Segment}
 use Rattle.painting.specs.Segments.{Lacks, DrawnUpTo, FirstLacks}
 use Rattle.table.specs.Table.{Setting, BuildRooms, given_of}
-use Rattle.table.specs.Segments.{Fits, entryTotal}
+use Rattle.table.specs.Segments.{Fits, entry_total}
 
 module _ (d : Description) (i : Setting) (r : BuildRooms) where
   -- the code and the place, when
@@ -25,4 +25,4 @@ module _ (d : Description) (i : Setting) (r : BuildRooms) where
     drawing : {k : ℕ} → Fits d i r → AllPass d (given_of i) → FirstLacks d (given_of i) i.high r.path r.walk r.segments r.owners k → BuildRefusal Code.Room k
     -- 7: every spline is drawn, and the entries are more than are lent, or than 2^30
     entries : {segs : List Segment} {owners : List ℕ} → Fits d i r → AllPass d (given_of i) → DrawnUpTo d (given_of i) i.high r.path r.walk r.segments r.owners (length d.counts) segs owners
-        → Lacks r.entries (2 ^ 30) (entryTotal i segs) → BuildRefusal Code.Room 0
+        → Lacks r.entries (2 ^ 30) (entry_total i segs) → BuildRefusal Code.Room 0

@@ -9,10 +9,10 @@ use Rattle.segments.specs.declared.Segment.{Segment}
 use Rattle.points.specs.Points.{eights}
 use Rattle.painting.specs.Segments.{MakesUpTo, DrawnUpTo, Suffices}
 use Rattle.rows.specs.Rows.{in_row, start_of, rows, up_to}
-use Rattle.faint.specs.Faint.{faintIn}
+use Rattle.faint.specs.Faint.{faint_in}
 use Rattle.rows.specs.Rows as listing
 use Rattle.build_answer.specs.declared.BuildAnswer.TheVariants.{Done}
-use Rattle.table.specs.Table.{Setting, BuildRooms, BuildOutcome, given_of, leaves, zeros, buildOf}
+use Rattle.table.specs.Table.{Setting, BuildRooms, BuildOutcome, given_of, leaves, zeros, build_of}
 
 -- the segments of a description with their owners: those of its splines, in their order, and the number of each one's spline
 abbrev pub MakesOwned : Description → Setting → List Segment → List ℕ → Type 0
@@ -24,8 +24,8 @@ pub record Makes (d : Description) (i : Setting) (segs : List Segment) : Type 0 
   pub made : MakesOwned d i segs owners
 
 -- how many entries the rows of these segments have
-abbrev pub entryTotal : Setting → List Segment → ℕ
-entryTotal i segs = start_of (in_row (eights segs)) (length segs) i.height
+abbrev pub entry_total : Setting → List Segment → ℕ
+entry_total i segs = start_of (in_row (eights segs)) (length segs) i.height
 
 -- ---- what a build needs
 
@@ -42,12 +42,12 @@ module _ (d : Description) (i : Setting) (r : BuildRooms) where
     pub fits : Fits
     pub passes : AllPass d (given_of i)
     pub drawn : DrawnUpTo d (given_of i) i.high r.path r.walk r.segments r.owners (length d.counts) segs owners
-    pub entries : Suffices r.entries (2 ^ 30) (entryTotal i segs)
+    pub entries : Suffices r.entries (2 ^ 30) (entry_total i segs)
 
   -- the counts and the table of these segments and owners, zeros behind it and in the working cells
-  unfoldable pub doneWith : List Segment → List ℕ → BuildOutcome
-  doneWith segs owners =
-      leaves (Done (length segs) (entryTotal i segs) (total_of d (given_of i) (length d.counts)) (faintIn (eights segs) (length segs))) (zeros r.path) (zeros r.walk) (padded r.segments 0·0 (eights segs)) (padded r.owners 0 owners)
+  unfoldable pub done_with : List Segment → List ℕ → BuildOutcome
+  done_with segs owners =
+      leaves (Done (length segs) (entry_total i segs) (total_of d (given_of i) (length d.counts)) (faint_in (eights segs) (length segs))) (zeros r.path) (zeros r.walk) (padded r.segments 0·0 (eights segs)) (padded r.owners 0 owners)
       (padded r.starts 0 (up_to (start_of (in_row (eights segs)) (length segs)) (suc i.height))) (padded r.entries 0 (rows (in_row (eights segs)) (length segs) i.height))
 
   -- a done build has met its needs, made the segments of the description, and left their table
@@ -57,11 +57,11 @@ module _ (d : Description) (i : Setting) (r : BuildRooms) where
     pub makes : MakesOwned d i segs owners
     pub needs : NeedsMet segs owners
     pub count : length segs ≡ s
-    pub entry-count : entryTotal i segs ≡ e
+    pub entry_count_lem : entry_total i segs ≡ e
     pub estimated : total_of d (given_of i) (length d.counts) ≡ estimate
-    pub faint-count : faintIn (eights segs) (length segs) ≡ faint
-    pub numbers : (buildOf d i r).segments ≡ padded r.segments 0·0 (eights segs)
-    pub leaves-them : buildOf d i r ≡ doneWith segs owners
+    pub faint_count : faint_in (eights segs) (length segs) ≡ faint
+    pub numbers : (build_of d i r).segments ≡ padded r.segments 0·0 (eights segs)
+    pub leaves_them : build_of d i r ≡ done_with segs owners
 
 -- at least as much room
 pub record NoLess (r r' : BuildRooms) : Type 0 where
@@ -91,14 +91,14 @@ OwnsOne = (d : Description) (i : Setting) (xs ys : List Segment) (us vs : List �
 
 -- a build whose needs are met is done, with the table of its segments
 abbrev pub EnoughIsDone : Type 0
-EnoughIsDone = (d : Description) (i : Setting) (r : BuildRooms) (segs : List Segment) (owners : List ℕ) → NeedsMet d i r segs owners → buildOf d i r ≡ doneWith d i r segs owners
+EnoughIsDone = (d : Description) (i : Setting) (r : BuildRooms) (segs : List Segment) (owners : List ℕ) → NeedsMet d i r segs owners → build_of d i r ≡ done_with d i r segs owners
 
 -- a build that is done made the segments of the description
 abbrev pub DoneMakes : Type 0
-DoneMakes = (d : Description) (i : Setting) (r : BuildRooms) (s e estimate faint : ℕ) → (buildOf d i r).answer ≡ Done s e estimate faint → BuildMakes d i r s e estimate faint
+DoneMakes = (d : Description) (i : Setting) (r : BuildRooms) (s e estimate faint : ℕ) → (build_of d i r).answer ≡ Done s e estimate faint → BuildMakes d i r s e estimate faint
 
 -- and it is done with any rooms at least as large, with the same counts and the same table
 abbrev pub MoreRoomNeverRefuses : Type 0
 MoreRoomNeverRefuses =
-    (d : Description) (i : Setting) (r r' : BuildRooms) (s e estimate faint : ℕ) → NoLess r r' → (buildOf d i r).answer ≡ Done s e estimate faint
-    → SameTable i.height s e (buildOf d i r) (buildOf d i r')
+    (d : Description) (i : Setting) (r r' : BuildRooms) (s e estimate faint : ℕ) → NoLess r r' → (build_of d i r).answer ≡ Done s e estimate faint
+    → SameTable i.height s e (build_of d i r) (build_of d i r')

@@ -4,17 +4,17 @@ use Rattle.codes.specs.declared.Code.TheVariants as Code
 use Rattle.dequantize.specs.declared.Given.{Given}
 use Rattle.dequantize.specs.declared.judge.Judged.{Judged}
 use Rattle.dequantize.specs.declared.judge.Judged.TheVariants as Judged
-use Rattle.dequantize.specs.Limits.{splineAreaLimit}
+use Rattle.dequantize.specs.Limits.{spline_area_limit}
 use Rattle.dequantize.specs.Judge.{Description}
-use Rattle.verdict.specs.Verdict.{verdictOf}
-use Rattle.curve.specs.Curve.{pathRoom}
-use Rattle.walk.specs.Walk.{walkRoom}
+use Rattle.verdict.specs.Verdict.{verdict_of}
+use Rattle.curve.specs.Curve.{path_room}
+use Rattle.walk.specs.Walk.{walk_room}
 use Rattle.points.specs.Points.{eights}
-use Rattle.owners.specs.Owners.{ownedRoom}
-use Rattle.painting.specs.Painting.{Painted, All, NoRoomAt, paintOf}
-use Rattle.rows.specs.Rows.{in_row, listedRows}
-pub use Rattle.build_answer.specs.Answer.{BuildRooms, rooms_of, BuildTold, toldOf, BuildOutcome, leaves, zeros, afterRows}
-unfoldable pub use Rattle.build_answer.specs.Answer.{refusedWith}
+use Rattle.owners.specs.Owners.{owned_room}
+use Rattle.painting.specs.Painting.{Painted, All, NoRoomAt, paint_of}
+use Rattle.rows.specs.Rows.{in_row, listed_rows}
+pub use Rattle.build_answer.specs.Answer.{BuildRooms, rooms_of, BuildTold, told_of, BuildOutcome, leaves, zeros, after_rows}
+unfoldable pub use Rattle.build_answer.specs.Answer.{refused_with}
 
 -- ---- what a build is given
 
@@ -40,21 +40,21 @@ setting_of adjustment width height ytox ytob high level10 = record {
 }
 
 abbrev pub given_of : Setting → Given
-given_of i = record { adjustment = i.adjustment; y_to_x = i.ytox; y_to_b = i.ytob; limit = splineAreaLimit i.level10 (i.width * i.height) }
+given_of i = record { adjustment = i.adjustment; y_to_x = i.ytox; y_to_b = i.ytob; limit = spline_area_limit i.level10 (i.width * i.height) }
 
 -- ---- the build
 
-abbrev pub afterPaint : BuildRooms → ℕ → ℕ → Painted → BuildOutcome
-afterPaint r height estimate (NoRoomAt k) = refusedWith r Code.Room k
-afterPaint r height estimate (All segs owners) =
-    afterRows r estimate (length segs) (eights segs) owners (listedRows (in_row (eights segs)) (length segs) height r.starts r.entries)
+abbrev pub after_paint : BuildRooms → ℕ → ℕ → Painted → BuildOutcome
+after_paint r height estimate (NoRoomAt k) = refused_with r Code.Room k
+after_paint r height estimate (All segs owners) =
+    after_rows r estimate (length segs) (eights segs) owners (listed_rows (in_row (eights segs)) (length segs) height r.starts r.entries)
 
-abbrev pub afterJudge : BuildRooms → ℕ → Judged → Painted → BuildOutcome
-afterJudge r height (Judged.Refused code k) painted = refusedWith r code k
-afterJudge r height (Judged.Fine estimate) painted = afterPaint r height estimate painted
+abbrev pub after_judge : BuildRooms → ℕ → Judged → Painted → BuildOutcome
+after_judge r height (Judged.Refused code k) painted = refused_with r code k
+after_judge r height (Judged.Fine estimate) painted = after_paint r height estimate painted
 
 -- the checks and all splines judged, then every spline drawn, then ROOM for the entries
-unfoldable pub buildOf : Description → Setting → BuildRooms → BuildOutcome
-buildOf d i r =
-    afterJudge r i.height (verdictOf d (given_of i) i.width i.height r.starts)
-    (paintOf d (given_of i) i.high (pathRoom r.path) (walkRoom r.walk) (ownedRoom r.segments r.owners))
+unfoldable pub build_of : Description → Setting → BuildRooms → BuildOutcome
+build_of d i r =
+    after_judge r i.height (verdict_of d (given_of i) i.width i.height r.starts)
+    (paint_of d (given_of i) i.high (path_room r.path) (walk_room r.walk) (owned_room r.segments r.owners))

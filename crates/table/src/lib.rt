@@ -3,12 +3,12 @@
 #![tactic(auto)]
 
 ghost use Rattle.std.specs.Prelude.{◌≡◌, ◌≤◌, ◌<◌, ◌^◌, length};
-ghost use Rattle.dequantize.specs.Judge.{Shaped, descriptionOf};
-ghost use Rattle.curve.specs.Curve.{pathRoom};
-ghost use Rattle.walk.specs.Walk.{walkRoom};
-ghost use Rattle.owners.specs.Owners.{ownedRoom};
-ghost use Rattle.painting.specs.Painting.{Passed, paintOf};
-ghost use Rattle.table.specs.Table.{rooms_of, setting_of, given_of, leaves, afterPaint, buildOf};
+ghost use Rattle.dequantize.specs.Judge.{Shaped, description_of};
+ghost use Rattle.curve.specs.Curve.{path_room};
+ghost use Rattle.walk.specs.Walk.{walk_room};
+ghost use Rattle.owners.specs.Owners.{owned_room};
+ghost use Rattle.painting.specs.Painting.{Passed, paint_of};
+ghost use Rattle.table.specs.Table.{rooms_of, setting_of, given_of, leaves, after_paint, build_of};
 
 pub use build_answer::BuildAnswer;
 use build_answer::{list_segments, refuse};
@@ -55,9 +55,9 @@ fn paint(
     row_starts: &mut [u32],
     entries: &mut [u32],
 ) -> BuildAnswer
-    requires { Shaped (descriptionOf counts.now starts.now deltas.now coefficients.now) × Passed (descriptionOf counts.now starts.now deltas.now coefficients.now) given × (height ≤ 2 ^ 23) × (height < length row_starts.old) }
+    requires { Shaped (description_of counts.now starts.now deltas.now coefficients.now) × Passed (description_of counts.now starts.now deltas.now coefficients.now) given × (height ≤ 2 ^ 23) × (height < length row_starts.old) }
     ensures { leaves result path.new walk.new segments.new owners.new row_starts.new entries.new
-        ≡ afterPaint (rooms_of path.old walk.old segments.old owners.old row_starts.old entries.old) height estimate (paintOf (descriptionOf counts.now starts.now deltas.now coefficients.now) given high_precision (pathRoom (length path.old)) (walkRoom (length walk.old)) (ownedRoom (length segments.old) (length owners.old))) }
+        ≡ after_paint (rooms_of path.old walk.old segments.old owners.old row_starts.old entries.old) height estimate (paint_of (description_of counts.now starts.now deltas.now coefficients.now) given high_precision (path_room (length path.old)) (walk_room (length walk.old)) (owned_room (length segments.old) (length owners.old))) }
 {
     match painting::draw_all(
         counts,
@@ -108,7 +108,7 @@ pub fn build(
     entries: &mut [u32],
 ) -> BuildAnswer
     ensures { leaves result path.new walk.new segments.new owners.new row_starts.new entries.new
-        ≡ buildOf (descriptionOf counts.now starts.now deltas.now coefficients.now) (setting_of adjustment width height y_to_x y_to_b high_precision level10) (rooms_of path.old walk.old segments.old owners.old row_starts.old entries.old) }
+        ≡ build_of (description_of counts.now starts.now deltas.now coefficients.now) (setting_of adjustment width height y_to_x y_to_b high_precision level10) (rooms_of path.old walk.old segments.old owners.old row_starts.old entries.old) }
 {
     let given = given_of(
         adjustment,

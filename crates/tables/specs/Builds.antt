@@ -3,6 +3,6 @@ use Rattle.std.specs.Prelude.{ℕ}
 use Rattle.tables.specs.declared.Built.{Built}
 use Rattle.tables.specs.declared.Built.TheVariants.{Status, Room}
 
-abbrev pub builtStatus : Built → ℕ
-builtStatus (Status s) = s
-builtStatus Room = 0
+abbrev pub built_status : Built → ℕ
+built_status (Status s) = s
+built_status Room = 0

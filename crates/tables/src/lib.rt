@@ -2,7 +2,7 @@
 #![tactic(auto)]
 
 ghost use Rattle.std.specs.Prelude.{◌≤◌};
-ghost use Rattle.tables.specs.Builds.{builtStatus};
+ghost use Rattle.tables.specs.Builds.{built_status};
 
 use canvas::Task;
 use codes::Code;
@@ -42,7 +42,7 @@ pub enum Built {
 
 // ROOM, or the status of another refusal.
 fn refuse(code: Code, place: usize) -> Built
-    ensures { builtStatus result ≤ 3 }
+    ensures { built_status result ≤ 3 }
 {
     if codes::number_of(code) == 7 {
         return Built::Room;
@@ -65,7 +65,7 @@ fn build_in(
     row_starts: &mut [u32],
     entries: &mut [u32],
 ) -> Built
-    ensures { builtStatus result ≤ 3 }
+    ensures { built_status result ≤ 3 }
 {
     let width = task.width;
     let height = task.height;
@@ -120,7 +120,7 @@ fn build_short(
     row_starts: &mut [u32; ROW_STARTS],
     entries: &mut [u32; SHORT_ENTRIES],
 ) -> Built
-    ensures { builtStatus result ≤ 3 }
+    ensures { built_status result ≤ 3 }
 {
     build_in(
         counts,
@@ -152,7 +152,7 @@ fn build_long(
     row_starts: &mut [u32; ROW_STARTS],
     entries: &mut [u32; ENTRIES],
 ) -> Built
-    ensures { builtStatus result ≤ 3 }
+    ensures { built_status result ≤ 3 }
 {
     build_in(
         counts,
@@ -179,7 +179,7 @@ fn in_short(
     adjustment: i32,
     task: Task,
 ) -> Built
-    ensures { builtStatus result ≤ 3 }
+    ensures { built_status result ≤ 3 }
 {
     let mut path = [0.0f32; SHORT_PATH];
     let mut walk = [0.0f32; SHORT_WALK];
@@ -212,7 +212,7 @@ fn in_long(
     adjustment: i32,
     task: Task,
 ) -> Built
-    ensures { builtStatus result ≤ 3 }
+    ensures { built_status result ≤ 3 }
 {
     let mut path = [0.0f32; PATH];
     let mut walk = [0.0f32; WALK];
@@ -245,7 +245,7 @@ pub fn build(
     adjustment: i32,
     task: Task,
 ) -> Built
-    ensures { builtStatus result ≤ 3 }
+    ensures { built_status result ≤ 3 }
 {
     let built = in_short(counts, starts, deltas, coefficients, adjustment, task);
     let Built::Room = built else {

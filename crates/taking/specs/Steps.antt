@@ -3,6 +3,6 @@ use Rattle.std.specs.Prelude.{ℕ}
 use Rattle.taking.specs.declared.Step.{Step}
 use Rattle.taking.specs.declared.Step.TheVariants.{On, Stop}
 
-abbrev pub statusIn : Step → ℕ
-statusIn (On told) = 0
-statusIn (Stop status) = status
+abbrev pub status_in : Step → ℕ
+status_in (On told) = 0
+status_in (Stop status) = status

@@ -2,7 +2,7 @@
 #![tactic(auto)]
 
 ghost use Rattle.std.specs.Prelude.{◌≤◌};
-ghost use Rattle.taking.specs.Steps.{statusIn};
+ghost use Rattle.taking.specs.Steps.{status_in};
 
 use text::Parsed;
 use writer::WriteAnswer;
@@ -164,7 +164,7 @@ fn say_line(element: &[u8], number: u64) -> u8
 
 // A polyline, where it is asked for.
 fn take_line(element: &[u8], order: usize, wanted: Wanted) -> Step
-    ensures { statusIn result ≤ 3 }
+    ensures { status_in result ≤ 3 }
 {
     let number = number_of(element, order);
     if !is_wanted(wanted, number) {

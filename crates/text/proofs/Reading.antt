@@ -14,47 +14,47 @@ use Rattle.text.specs.declared.Parsed.{Parsed}
 use Rattle.text.specs.declared.Parsed.TheVariants as parsed
 use Rattle.text.specs.declared.Turned.{Turned}
 use Rattle.text.specs.declared.Turned.TheVariants as turned
-use Rattle.text.specs.Text.{Text, all, stop, after, follow, textFrom, text_of, ended, step_of, turnLeaves, TurnLeaves, ReadAs}
+use Rattle.text.specs.Text.{Text, all, stop, after, follow, text_from, text_of, ended, step_of, turn_leaves, TurnLeaves, ReadAs}
 
 -- ---- one turn
 
-pub turn-full : {left at held n : ℕ} {step : Step} {before now : List ℕ} → step ≡ Ends n → left ≡ 0 → TurnLeaves left at held step (turned.Stop (parsed.Full at)) before now
-turn-full e none = record { leaves = rw (e, none) refl }
+pub turn_full : {left at held n : ℕ} {step : Step} {before now : List ℕ} → step ≡ Ends n → left ≡ 0 → TurnLeaves left at held step (turned.Stop (parsed.Full at)) before now
+turn_full e none = record { leaves = rw (e, none) refl }
 
-pub turn-ends : {left at held n : ℕ} {step : Step} {before : List ℕ} → step ≡ Ends n → 0 < left → TurnLeaves left at held step (turned.On Between (held + 1)) before (set before held n)
-turn-ends {left = zero} e some = let no : ⊥ = omega arith in absurd no
-turn-ends {left = suc left} e some = record { leaves = rw e (refl, refl) }
+pub turn_ends : {left at held n : ℕ} {step : Step} {before : List ℕ} → step ≡ Ends n → 0 < left → TurnLeaves left at held step (turned.On Between (held + 1)) before (set before held n)
+turn_ends {left = zero} e some = let no : ⊥ = omega arith in absurd no
+turn_ends {left = suc left} e some = record { leaves = rw e (refl, refl) }
 
 pub turn_on : {left at held : ℕ} {scan : Scan} {step : Step} {before : List ℕ} → step ≡ On scan → TurnLeaves left at held step (turned.On scan held) before before
 turn_on e = record { leaves = rw e (refl, refl) }
 
-pub turn-stranger : {left at held : ℕ} {step : Step} {before now : List ℕ} → step ≡ Stranger → TurnLeaves left at held step (turned.Stop (parsed.Stranger at)) before now
-turn-stranger e = record { leaves = rw e refl }
+pub turn_stranger : {left at held : ℕ} {step : Step} {before now : List ℕ} → step ≡ Stranger → TurnLeaves left at held step (turned.Stop (parsed.Stranger at)) before now
+turn_stranger e = record { leaves = rw e refl }
 
-pub turn-great : {left at held : ℕ} {step : Step} {before now : List ℕ} → step ≡ Great → TurnLeaves left at held step (turned.Stop (parsed.Great at)) before now
-turn-great e = record { leaves = rw e refl }
+pub turn_great : {left at held : ℕ} {step : Step} {before now : List ℕ} → step ≡ Great → TurnLeaves left at held step (turned.Stop (parsed.Great at)) before now
+turn_great e = record { leaves = rw e refl }
 
 -- ---- what a turn's answer tells
 
-stops-not : {why : Parsed} {scan : Scan} {held : ℕ} → turned.Stop why ≡ turned.On scan held → ⊥
-stops-not e = let z : ◌≡◌ {A = ℕ} 0 1 = cc in omega arith
+stops_not : {why : Parsed} {scan : Scan} {held : ℕ} → turned.Stop why ≡ turned.On scan held → ⊥
+stops_not e = let z : ◌≡◌ {A = ℕ} 0 1 = cc in omega arith
 
-stop-inside : {why other : Parsed} → turned.Stop why ≡ turned.Stop other → why ≡ other
-stop-inside e = cc
+stop_inside : {why other : Parsed} → turned.Stop why ≡ turned.Stop other → why ≡ other
+stop_inside e = cc
 
-scan-inside : {scan other : Scan} {held more : ℕ} → turned.On scan held ≡ turned.On other more → scan ≡ other
-scan-inside e = cc
+scan_inside : {scan other : Scan} {held more : ℕ} → turned.On scan held ≡ turned.On other more → scan ≡ other
+scan_inside e = cc
 
-held-inside : {scan other : Scan} {held more : ℕ} → turned.On scan held ≡ turned.On other more → held ≡ more
-held-inside e = cc
+held_inside : {scan other : Scan} {held more : ℕ} → turned.On scan held ≡ turned.On other more → held ≡ more
+held_inside e = cc
 
 after_none : (t : Text) → t ≡ after [] t
 after_none (all xs) = refl
 after_none (stop why) = refl
 
-after-after : (xs ys : List ℕ) (t : Text) → after xs (after ys t) ≡ after (xs ++ ys) t
-after-after xs ys (all zs) = ap all (sym (append_assoc xs ys zs))
-after-after xs ys (stop why) = refl
+after_after : (xs ys : List ℕ) (t : Text) → after xs (after ys t) ≡ after (xs ++ ys) t
+after_after xs ys (all zs) = ap all (sym (append_assoc xs ys zs))
+after_after xs ys (stop why) = refl
 
 -- what is stored, before what is left
 record Onward (whole : Text) (room : ℕ) (go : ℕ → Scan → Text) (now : List ℕ) (scan : Scan) (held : ℕ) : Type 0 where
@@ -64,46 +64,46 @@ record Onward (whole : Text) (room : ℕ) (go : ℕ → Scan → Text) (now : Li
 
 module _ {whole : Text} {room held : ℕ} (at : ℕ) (go : ℕ → Scan → Text) (before now : List ℕ) (kept : length before ≡ room) (within : held ≤ room) where
   onward : (step : Step) (left : ℕ) {scan : Scan} {more : ℕ} {r : Turned} → left ≡ room - held → whole ≡ after (take held before) (follow left at go step)
-      → turnLeaves left at held step r before now → r ≡ turned.On scan more → Onward whole room go now scan more
+      → turn_leaves left at held step r before now → r ≡ turned.On scan more → Onward whole room go now scan more
   onward (On on) left {scan} {more} l so_far leaves r =
       let same : turned.On on held ≡ turned.On scan more = sym leaves.0 ∙ r in
-      let s : on ≡ scan = scan-inside same in
-      let h : held ≡ more = held-inside same in
+      let s : on ≡ scan = scan_inside same in
+      let h : held ≡ more = held_inside same in
       rw (sym s, sym h, leaves.1) (record { rest = rw (sym l) so_far; kept = kept; within = within })
-  onward (Ends n) zero l so_far leaves r = absurd (stops-not (sym leaves ∙ r))
+  onward (Ends n) zero l so_far leaves r = absurd (stops_not (sym leaves ∙ r))
   onward (Ends n) (suc left) {scan} {more} l so_far leaves r =
       let same : turned.On Between (held + 1) ≡ turned.On scan more = sym leaves.0 ∙ r in
-      let s : Between ≡ scan = scan-inside same in
-      let h : held + 1 ≡ more = held-inside same in
+      let s : Between ≡ scan = scan_inside same in
+      let h : held + 1 ≡ more = held_inside same in
       let fewer : left ≡ room - (held + 1) = omega arith in
       let stored : take (held + 1) (set before held n) ≡ take held before ++ (n ∷ []) = rw (add-one held) (take-suc-set before held n (omega arith)) in
       rw (sym s, sym h, leaves.1) (record {
-        rest = so_far ∙ after-after (take held before) (n ∷ []) (go left Between) ∙ ap (λ (xs : List ℕ). after xs (go left Between)) (sym stored) ∙ ap (λ (k : ℕ). after (take (held + 1) (set before held n)) (go k Between)) fewer;
+        rest = so_far ∙ after_after (take held before) (n ∷ []) (go left Between) ∙ ap (λ (xs : List ℕ). after xs (go left Between)) (sym stored) ∙ ap (λ (k : ℕ). after (take (held + 1) (set before held n)) (go k Between)) fewer;
         kept = length-set before held n ∙ kept;
         within = omega arith;
       })
-  onward Stranger left l so_far leaves r = absurd (stops-not (sym leaves ∙ r))
-  onward Great left l so_far leaves r = absurd (stops-not (sym leaves ∙ r))
+  onward Stranger left l so_far leaves r = absurd (stops_not (sym leaves ∙ r))
+  onward Great left l so_far leaves r = absurd (stops_not (sym leaves ∙ r))
 
   stopped : (step : Step) (left : ℕ) {why : Parsed} {r : Turned} → whole ≡ after (take held before) (follow left at go step)
-      → turnLeaves left at held step r before now → r ≡ turned.Stop why → whole ≡ stop why
-  stopped (On on) left so_far leaves r = absurd (stops-not (sym r ∙ leaves.0))
-  stopped (Ends n) zero so_far leaves r = so_far ∙ ap stop (stop-inside (sym leaves ∙ r))
-  stopped (Ends n) (suc left) so_far leaves r = absurd (stops-not (sym r ∙ leaves.0))
-  stopped Stranger left so_far leaves r = so_far ∙ ap stop (stop-inside (sym leaves ∙ r))
-  stopped Great left so_far leaves r = so_far ∙ ap stop (stop-inside (sym leaves ∙ r))
+      → turn_leaves left at held step r before now → r ≡ turned.Stop why → whole ≡ stop why
+  stopped (On on) left so_far leaves r = absurd (stops_not (sym r ∙ leaves.0))
+  stopped (Ends n) zero so_far leaves r = so_far ∙ ap stop (stop_inside (sym leaves ∙ r))
+  stopped (Ends n) (suc left) so_far leaves r = absurd (stops_not (sym r ∙ leaves.0))
+  stopped Stranger left so_far leaves r = so_far ∙ ap stop (stop_inside (sym leaves ∙ r))
+  stopped Great left so_far leaves r = so_far ∙ ap stop (stop_inside (sym leaves ∙ r))
 
 -- ---- the loop
 
 -- before byte i: the numbers that are stored, and what the rest of the text comes to
 pub record Going (room : ℕ) (text now : List ℕ) (scan : Scan) (held i : ℕ) : Type 0 where
-  pub rest : text_of room text ≡ after (take held now) (textFrom (room - held) i scan (drop i (ended text)))
+  pub rest : text_of room text ≡ after (take held now) (text_from (room - held) i scan (drop i (ended text)))
   pub kept : length now ≡ room
   pub within : held ≤ room
   pub at : i ≤ length text + 1
 
-pub going-begin : (text now : List ℕ) → Going (length now) text now Between 0 0
-going-begin text now =
+pub going_begin : (text now : List ℕ) → Going (length now) text now Between 0 0
+going_begin text now =
     let whole : length now - 0 ≡ length now = omega arith in
     record {
       rest = rw whole (after_none (text_of (length now) text));
@@ -112,18 +112,18 @@ going-begin text now =
       at = omega arith;
     }
 
-length-ended : (text : List ℕ) → length (ended text) ≡ length text + 1
-length-ended text = length-append text (32 ∷ [])
+length_ended : (text : List ℕ) → length (ended text) ≡ length text + 1
+length_ended text = length-append text (32 ∷ [])
 
 module _ {room held i b : ℕ} {text before now : List ℕ} {scan : Scan} {r : Turned} (going : Going room text before scan held i) (inside : i ≤ length text) (byte : b ≡ get_or (ended text) i 0)
     (leaves : TurnLeaves (length before - held) i held (step_of scan b) r before now) where
   abbrev behind : ℕ → Scan → Text
-  behind k s = textFrom k (suc i) s (drop (suc i) (ended text))
+  behind k s = text_from k (suc i) s (drop (suc i) (ended text))
 
-  opened : textFrom (room - held) i scan (drop i (ended text)) ≡ follow (room - held) i behind (step_of scan b)
-  unfolding textFrom
+  opened : text_from (room - held) i scan (drop i (ended text)) ≡ follow (room - held) i behind (step_of scan b)
+  unfolding text_from
   opened =
-      ap (textFrom (room - held) i scan) (drop-cons (ended text) i 0 (omega (arith, length-ended text)))
+      ap (text_from (room - held) i scan) (drop-cons (ended text) i 0 (omega (arith, length_ended text)))
       ∙ ap (λ (x : ℕ). follow (room - held) i behind (step_of scan x)) (sym byte)
 
   so_far : text_of room text ≡ after (take held before) (follow (length before - held) i behind (step_of scan b))
@@ -139,14 +139,14 @@ module _ {room held i b : ℕ} {text before now : List ℕ} {scan : Scan} {r : T
         at = omega arith;
       }
 
-  pub going-stops : {why : Parsed} → r ≡ turned.Stop why → ReadAs (text_of room text) why now
-  going-stops answer = rw (stopped i behind before now going.kept going.within (step_of scan b) (length before - held) so_far leaves.leaves answer) refl
+  pub going_stops : {why : Parsed} → r ≡ turned.Stop why → ReadAs (text_of room text) why now
+  going_stops answer = rw (stopped i behind before now going.kept going.within (step_of scan b) (length before - held) so_far leaves.leaves answer) refl
 
 pub going_done : {room held i : ℕ} {text now : List ℕ} {scan : Scan} → Going room text now scan held i → length text < i → ReadAs (text_of room text) (parsed.Values held) now
-unfolding textFrom
+unfolding text_from
 going_done {room} {held} {i} {text} {now} {scan} going past =
-    let none : drop i (ended text) ≡ [] = drop_of_length-le (ended text) {i = i} (omega (arith, length-ended text)) in
-    let is : text_of room text ≡ all (take held now) = going.rest ∙ ap (λ (bs : List ℕ). after (take held now) (textFrom (room - held) i scan bs)) none ∙ ap all (append-nil (take held now)) in
+    let none : drop i (ended text) ≡ [] = drop_of_length-le (ended text) {i = i} (omega (arith, length_ended text)) in
+    let is : text_of room text ≡ all (take held now) = going.rest ∙ ap (λ (bs : List ℕ). after (take held now) (text_from (room - held) i scan bs)) none ∙ ap all (append-nil (take held now)) in
     let size : length (take held now) ≡ held = length-take-le held now (omega (arith, going.kept, going.within)) in
     rw (is, size) (refl, refl)
 

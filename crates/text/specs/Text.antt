@@ -10,12 +10,12 @@ use Rattle.text.specs.declared.Turned.{Turned}
 use Rattle.text.specs.declared.Turned.TheVariants as turned
 
 -- white space: a space, or one of tab, line feed, vertical tab, form feed and carriage return
-abbrev pub isSpace : ℕ → Bool
-isSpace b = eqb b 32 || (leb 9 b && leb b 13)
+abbrev pub is_space : ℕ → Bool
+is_space b = eqb b 32 || (leb 9 b && leb b 13)
 
 -- the digits 0 to 9
-abbrev pub isDigit : ℕ → Bool
-isDigit b = leb 48 b && leb b 57
+abbrev pub is_digit : ℕ → Bool
+is_digit b = leb 48 b && leb b 57
 
 -- white space ends a number
 abbrev pub space_of : Scan → Step
@@ -23,13 +23,13 @@ space_of Between = On Between
 space_of (Inside n) = Ends n
 
 -- a digit begins a number or goes on with one, which stays below 2^32
-abbrev pub digitOf : Scan → ℕ → Step
-digitOf Between d = On (Inside d)
-digitOf (Inside n) d = cond (ltb (10 * n + d) (2 ^ 32)) (On (Inside (10 * n + d))) Great
+abbrev pub digit_of : Scan → ℕ → Step
+digit_of Between d = On (Inside d)
+digit_of (Inside n) d = cond (ltb (10 * n + d) (2 ^ 32)) (On (Inside (10 * n + d))) Great
 
 -- what the next byte makes of a text that stands between numbers or inside one
 unfoldable pub step_of : Scan → ℕ → Step
-step_of scan b = cond (isSpace b) (space_of scan) (cond (isDigit b) (digitOf scan (b - 48)) Stranger)
+step_of scan b = cond (is_space b) (space_of scan) (cond (is_digit b) (digit_of scan (b - 48)) Stranger)
 
 -- all numbers of a text, or why and at which byte the reading stops
 pub data Text : Type 0 where
@@ -50,47 +50,47 @@ follow left at go Stranger = stop (parsed.Stranger at)
 follow left at go Great = stop (parsed.Great at)
 
 -- the rest of a text from the byte `at` on, with room for so many numbers
-unfoldable pub textFrom : ℕ → ℕ → Scan → List ℕ → Text
-textFrom left at scan [] = all []
-textFrom left at scan (b ∷ bs) = follow left at (λ k s. textFrom k (suc at) s bs) (step_of scan b)
+unfoldable pub text_from : ℕ → ℕ → Scan → List ℕ → Text
+text_from left at scan [] = all []
+text_from left at scan (b ∷ bs) = follow left at (λ k s. text_from k (suc at) s bs) (step_of scan b)
 
 -- what one turn leaves of `held` numbers that are stored, after a step and with room for so many more
-abbrev pub turnLeaves : ℕ → ℕ → ℕ → Step → Turned → List ℕ → List ℕ → Type 0
-turnLeaves left at held (On scan) r before now = (r ≡ turned.On scan held) × (now ≡ before)
-turnLeaves zero at held (Ends n) r before now = r ≡ turned.Stop (parsed.Full at)
-turnLeaves (suc left) at held (Ends n) r before now = (r ≡ turned.On Between (held + 1)) × (now ≡ set before held n)
-turnLeaves left at held Stranger r before now = r ≡ turned.Stop (parsed.Stranger at)
-turnLeaves left at held Great r before now = r ≡ turned.Stop (parsed.Great at)
+abbrev pub turn_leaves : ℕ → ℕ → ℕ → Step → Turned → List ℕ → List ℕ → Type 0
+turn_leaves left at held (On scan) r before now = (r ≡ turned.On scan held) × (now ≡ before)
+turn_leaves zero at held (Ends n) r before now = r ≡ turned.Stop (parsed.Full at)
+turn_leaves (suc left) at held (Ends n) r before now = (r ≡ turned.On Between (held + 1)) × (now ≡ set before held n)
+turn_leaves left at held Stranger r before now = r ≡ turned.Stop (parsed.Stranger at)
+turn_leaves left at held Great r before now = r ≡ turned.Stop (parsed.Great at)
 
 pub record TurnLeaves (left at held : ℕ) (step : Step) (r : Turned) (before now : List ℕ) : Type 0 where
-  pub leaves : turnLeaves left at held step r before now
+  pub leaves : turn_leaves left at held step r before now
 
 -- the end of a text counts as white space
 abbrev pub ended : List ℕ → List ℕ
 ended text = text ++ (32 ∷ [])
 
 abbrev pub text_of : ℕ → List ℕ → Text
-text_of room text = textFrom room 0 Between (ended text)
+text_of room text = text_from room 0 Between (ended text)
 
 -- an answer and what the cells begin with are those of a text
 abbrev pub ReadAs : Text → Parsed → List ℕ → Type 0
 ReadAs (all xs) r cells = (r ≡ parsed.Values (length xs)) × (take (length xs) cells ≡ xs)
 ReadAs (stop why) r cells = r ≡ why
 
-abbrev pub feedOf : ℕ → ℕ
-feedOf b = cond (eqb b 10) 1 0
+abbrev pub feed_of : ℕ → ℕ
+feed_of b = cond (eqb b 10) 1 0
 
 -- the line of a byte: one more than the line feeds before it
 unfoldable pub feeds : List ℕ → ℕ
 feeds [] = 0
-feeds (b ∷ bs) = feedOf b + feeds bs
+feeds (b ∷ bs) = feed_of b + feeds bs
 
 abbrev pub line_of : List ℕ → ℕ → ℕ
 line_of text at = 1 + feeds (take at text)
 
 -- whether two texts are the same, byte by byte
-unfoldable pub sameOf : List ℕ → List ℕ → Bool
-sameOf [] [] = true
-sameOf [] (y ∷ ys) = false
-sameOf (x ∷ xs) [] = false
-sameOf (x ∷ xs) (y ∷ ys) = cond (eqb x y) (sameOf xs ys) false
+unfoldable pub same_of : List ℕ → List ℕ → Bool
+same_of [] [] = true
+same_of [] (y ∷ ys) = false
+same_of (x ∷ xs) [] = false
+same_of (x ∷ xs) (y ∷ ys) = cond (eqb x y) (same_of xs ys) false

@@ -2,7 +2,7 @@
 #![tactic(auto)]
 
 ghost use Rattle.std.specs.Prelude.{◌≡◌, ◌-◌, ◌≤◌, length, get_or};
-ghost use Rattle.text.specs.Text.{isSpace, space_of, digitOf, step_of, ended, text_of, TurnLeaves, ReadAs, feedOf, line_of, sameOf};
+ghost use Rattle.text.specs.Text.{is_space, space_of, digit_of, step_of, ended, text_of, TurnLeaves, ReadAs, feed_of, line_of, same_of};
 
 // Where a text stands: between numbers, or inside one that is n so far.
 #[derive(Clone, Copy)]
@@ -47,7 +47,7 @@ fn after_space(scan: Scan) -> Step
 
 fn after_digit(scan: Scan, d: u32) -> Step
     requires { d ≤ 9 }
-    ensures { result ≡ digitOf scan d }
+    ensures { result ≡ digit_of scan d }
 {
     match scan {
         Scan::Between => Step::On(Scan::Inside(d)),
@@ -63,7 +63,7 @@ fn after_digit(scan: Scan, d: u32) -> Step
 }
 
 fn is_space(b: u32) -> bool
-    ensures { result ≡ isSpace b }
+    ensures { result ≡ is_space b }
 {
     if b == 32 {
         return true;
@@ -146,7 +146,7 @@ pub fn values_of(text: &[u8], values: &mut [u32]) -> Parsed
 
 // One for a line feed, or none.
 fn feed(b: u8) -> usize
-    ensures { (result ≡ feedOf b) × (result ≤ 1) }
+    ensures { (result ≡ feed_of b) × (result ≤ 1) }
 {
     if b == 10 { 1 } else { 0 }
 }
@@ -169,7 +169,7 @@ pub fn line_of(text: &[u8], at: usize) -> usize
 
 // Whether two texts are the same.
 pub fn same(a: &[u8], b: &[u8]) -> bool
-    ensures { result ≡ sameOf a.now b.now }
+    ensures { result ≡ same_of a.now b.now }
 {
     let mut i = 0;
     while i < a.len() {

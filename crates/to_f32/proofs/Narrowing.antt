@@ -27,8 +27,8 @@ narrow_at (inf s) a c p C v = absurd p
 narrow_at (fin true m e) a c p C v = absurd p
 narrow_at (fin false m e) a c p C v = round_same binary32 false (m * up e) (down e) a c (down_pos e) C v.1
 
-pub kept-le : (m k : ℕ) → m < 9007199254740992 → 29 ≤ k → closest m (2 ^ k) ≤ 2 ^ 24
-kept-le m k h K = le_trans (nearest-le (m / 2 ^ k) (compare (m % 2 ^ k * 2) (2 ^ k))) (shr_lt 24 k (lt_of_lt_of_le h (pow_mono (go k K))))
+pub kept_le : (m k : ℕ) → m < 9007199254740992 → 29 ≤ k → closest m (2 ^ k) ≤ 2 ^ 24
+kept_le m k h K = le_trans (nearest-le (m / 2 ^ k) (compare (m % 2 ^ k * 2) (2 ^ k))) (shr_lt 24 k (lt_of_lt_of_le h (pow_mono (go k K))))
   where
     go : (k : ℕ) → 29 ≤ k → 53 ≤ 24 + k
     go k h = omega arith
@@ -37,8 +37,8 @@ module _ (x : Float) (m e : ℕ) (S : Split binary64 x m e) (p : T (positive x))
   abbrev n : ℕ
   n = m * 2 ^ e * 2 ^ 149
 
-  n-is : n ≡ m * 2 ^ (e + 149)
-  n-is = mul_assoc m (2 ^ e) (2 ^ 149) ∙ ap (λ (z : ℕ). m * z) (sym (pow-add 2 e 149))
+  n_is : n ≡ m * 2 ^ (e + 149)
+  n_is = mul_assoc m (2 ^ e) (2 ^ 149) ∙ ap (λ (z : ℕ). m * z) (sym (pow-add 2 e 149))
 
   start : narrow binary32 x ≡ units binary32 false (closest n (2 ^ 1074 * 2 ^ (size (n / 2 ^ 1074) - 24))) (size (n / 2 ^ 1074) - 24)
   start = narrow_at x (m * 2 ^ e) (2 ^ 1074) p (pow_pos 1074) S.value ∙ round_is binary32 false (m * 2 ^ e) (2 ^ 1074)
@@ -46,7 +46,7 @@ module _ (x : Float) (m e : ℕ) (S : Split binary64 x m e) (p : T (positive x))
   -- the digits dropped from m, where k of m's are, and w of the units
   kept : (k w : ℕ) → e + 149 + k ≡ 1074 + w → closest n (2 ^ 1074 * 2 ^ w) ≡ closest m (2 ^ k)
   kept k w h = closest_same n (2 ^ 1074 * 2 ^ w) m (2 ^ k) (mul-pos (pow_pos 1074) (pow_pos w)) (pow_pos k)
-      (ap (λ (z : ℕ). z * 2 ^ k) n-is ∙ mul_assoc m (2 ^ (e + 149)) (2 ^ k) ∙ ap (λ (z : ℕ). m * z) (sym (pow-add 2 (e + 149) k) ∙ ap (λ (z : ℕ). 2 ^ z) h ∙ pow-add 2 1074 w))
+      (ap (λ (z : ℕ). z * 2 ^ k) n_is ∙ mul_assoc m (2 ^ (e + 149)) (2 ^ k) ∙ ap (λ (z : ℕ). m * z) (sym (pow-add 2 (e + 149) k) ∙ ap (λ (z : ℕ). 2 ^ z) h ∙ pow-add 2 1074 w))
 
   finish : (k w : ℕ) → size (n / 2 ^ 1074) - 24 ≡ w → e + 149 + k ≡ 1074 + w → narrow binary32 x ≡ units binary32 false (closest m (2 ^ k)) w
   finish k w d h = start ∙ ap (λ (z : ℕ). units binary32 false (closest n (2 ^ 1074 * 2 ^ z)) z) d ∙ ap (λ (z : ℕ). units binary32 false z w) (kept k w h)
@@ -71,10 +71,10 @@ module _ (x : Float) (m e : ℕ) (S : Split binary64 x m e) (p : T (positive x))
       go5 e h = omega arith
 
       lo : 2 ^ (e - 873) ≤ n / 2 ^ 1074
-      lo = (le-div_iff_mul-le (pow_pos 1074)).1 (le_trans (le_of_eq (sym (pow-add 2 (e - 873) 1074) ∙ ap (λ (z : ℕ). 2 ^ z) (go3 e h) ∙ pow-add 2 52 (e + 149))) (le_trans (mul-le-mul_right (2 ^ (e + 149)) (S.full (go5 e h))) (le_of_eq (sym n-is))))
+      lo = (le-div_iff_mul-le (pow_pos 1074)).1 (le_trans (le_of_eq (sym (pow-add 2 (e - 873) 1074) ∙ ap (λ (z : ℕ). 2 ^ z) (go3 e h) ∙ pow-add 2 52 (e + 149))) (le_trans (mul-le-mul_right (2 ^ (e + 149)) (S.full (go5 e h))) (le_of_eq (sym n_is))))
 
       hi : n / 2 ^ 1074 < 2 ^ suc (e - 873)
-      hi = (div-lt_iff_lt-mul (pow_pos 1074)).1 (lt_of_le_of_lt (le_of_eq n-is) (lt_of_lt_of_le (shl_lt 53 (e + 149) S.small) (le_of_eq (ap (λ (z : ℕ). 2 ^ z) (go4 e h) ∙ pow-add 2 (suc (e - 873)) 1074))))
+      hi = (div-lt_iff_lt-mul (pow_pos 1074)).1 (lt_of_le_of_lt (le_of_eq n_is) (lt_of_lt_of_le (shl_lt 53 (e + 149) S.small) (le_of_eq (ap (λ (z : ℕ). 2 ^ z) (go4 e h) ∙ pow-add 2 (suc (e - 873)) 1074))))
 
   -- ---- fewer: a multiple of the smallest value
   pub low : e < 896 → narrow binary32 x ≡ units binary32 false (closest m (2 ^ (925 - e))) 0
@@ -90,7 +90,7 @@ module _ (x : Float) (m e : ℕ) (S : Split binary64 x m e) (p : T (positive x))
       go3 e h = omega arith
 
       small : n / 2 ^ 1074 < 2 ^ 24
-      small = (div-lt_iff_lt-mul (pow_pos 1074)).1 (lt_of_le_of_lt (le_of_eq n-is) (lt_of_lt_of_le (shl_lt 53 (e + 149) S.small) (le_trans (pow_mono (go3 e h)) (le_of_eq (pow-add 2 24 1074)))))
+      small = (div-lt_iff_lt-mul (pow_pos 1074)).1 (lt_of_le_of_lt (le_of_eq n_is) (lt_of_lt_of_le (shl_lt 53 (e + 149) S.small) (le_trans (pow_mono (go3 e h)) (le_of_eq (pow-add 2 24 1074)))))
 
   -- ---- none
   nil : units binary32 false 0 0 ≡ of_bits binary32 0

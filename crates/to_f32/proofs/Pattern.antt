@@ -26,13 +26,13 @@ at_top true true s v p = absurd p
 at_top true false s v p = absurd p
 at_top false b s v p = tt
 
-abbrev pub digitsOf : Format → ℕ → ℕ → ℕ
-digitsOf f zero t = t
-digitsOf f (suc j) t = hid f + t
+abbrev pub digits_of : Format → ℕ → ℕ → ℕ
+digits_of f zero t = t
+digits_of f (suc j) t = hid f + t
 
 module _ (f : Format) where
   abbrev Read : Bool → ℕ → ℕ → Float → Type 0
-  Read s x t v = (s ≡ false) × HasValue v s (digitsOf f x t * 2 ^ (x - 1)) (2 ^ low f) × (x ≡ ones f → ⊥)
+  Read s x t v = (s ≡ false) × HasValue v s (digits_of f x t * 2 ^ (x - 1)) (2 ^ low f) × (x ≡ ones f → ⊥)
 
   never : (g : Format) → ◌≡◌ {A = ℕ} 0 (ones g) → ⊥
   never binary32 e = omega arith
@@ -76,14 +76,14 @@ module _ (f : Format) where
     field : b % top f / hid f ≡ b / hid f
     field = ap (λ (z : ℕ). z / hid f) (mod-eq_of_lt under)
 
-    pub value : HasValue x false (digitsOf f (to_bits f x / hid f) (to_bits f x % hid f) * 2 ^ (to_bits f x / hid f - 1)) (2 ^ low f)
-    value = subst (λ (z : ℕ). HasValue x false (digitsOf f z (b % hid f) * 2 ^ (z - 1)) (2 ^ low f)) field (subst (λ (s : Bool). HasValue x s (digitsOf f (b % top f / hid f) (b % hid f) * 2 ^ (b % top f / hid f - 1)) (2 ^ low f)) r.0 r.1)
+    pub value : HasValue x false (digits_of f (to_bits f x / hid f) (to_bits f x % hid f) * 2 ^ (to_bits f x / hid f - 1)) (2 ^ low f)
+    value = subst (λ (z : ℕ). HasValue x false (digits_of f z (b % hid f) * 2 ^ (z - 1)) (2 ^ low f)) field (subst (λ (s : Bool). HasValue x s (digits_of f (b % top f / hid f) (b % hid f) * 2 ^ (b % top f / hid f - 1)) (2 ^ low f)) r.0 r.1)
 
     pub not_top : to_bits f x / hid f ≡ ones f → ⊥
     not_top e = r.2 (field ∙ e)
 
-    pub t-lt : to_bits f x % hid f < hid f
-    t-lt = mod-lt b (pow_pos (prec f - 1))
+    pub t_lt : to_bits f x % hid f < hid f
+    t_lt = mod-lt b (pow_pos (prec f - 1))
 
     pub f_lt : to_bits f x / hid f < suc (ones f)
     f_lt = (div-lt_iff_lt-mul (pow_pos (prec f - 1))).1 (lt_of_lt_of_le under (le_of_eq (mul_comm (hid f) (suc (ones f)))))
@@ -96,14 +96,14 @@ module _ (f : Format) where
 
   -- ---- the digits and their place
   module _ (x : Float) (F : T (fits f x)) (p : T (positive x)) where
-    pub low-split : to_bits f x / hid f ≡ 0 → Split f x (to_bits f x % hid f) 0
-    low-split e =
+    pub low_split : to_bits f x / hid f ≡ 0 → Split f x (to_bits f x % hid f) 0
+    low_split e =
         let t = to_bits f x % hid f in
-        let v : HasValue x false (t * 2 ^ 0) (2 ^ low f) = subst (λ (z : ℕ). HasValue x false (digitsOf f z t * 2 ^ (z - 1)) (2 ^ low f)) e (value x F p) in
+        let v : HasValue x false (t * 2 ^ 0) (2 ^ low f) = subst (λ (z : ℕ). HasValue x false (digits_of f z t * 2 ^ (z - 1)) (2 ^ low f)) e (value x F p) in
         record {
           value = v;
           some = first_pos t (2 ^ 0) (value_pos x (t * 2 ^ 0) (2 ^ low f) p (pow_pos (low f)) v);
-          small = go t (hid f) (2 ^ prec f) (t-lt x F p) lead;
+          small = go t (hid f) (2 ^ prec f) (t_lt x F p) lead;
           place = wide f;
           full = go2;
         }
@@ -118,18 +118,18 @@ module _ (f : Format) where
         go2 : 0 < 0 → hid f ≤ to_bits f x % hid f
         go2 h = absurd (lt_irrefl 0 h)
 
-    pub high-split : (to_bits f x / hid f ≡ 0 → ⊥) → Split f x (to_bits f x % hid f + hid f) (to_bits f x / hid f - 1)
-    high-split n =
+    pub high_split : (to_bits f x / hid f ≡ 0 → ⊥) → Split f x (to_bits f x % hid f + hid f) (to_bits f x / hid f - 1)
+    high_split n =
         let t = to_bits f x % hid f in
         record {
           value = go (to_bits f x / hid f) n (value x F p);
           some = go1 t (hid f) (pow_pos (prec f - 1));
-          small = go2 t (hid f) (2 ^ prec f) (t-lt x F p) lead;
+          small = go2 t (hid f) (2 ^ prec f) (t_lt x F p) lead;
           place = go3 (to_bits f x / hid f) (emax f) n (f_lt x F p) (not_top x F p);
           full = λ h. go4 t (hid f);
         }
       where
-        go : (j : ℕ) → (j ≡ 0 → ⊥) → HasValue x false (digitsOf f j (to_bits f x % hid f) * 2 ^ (j - 1)) (2 ^ low f) → HasValue x false ((to_bits f x % hid f + hid f) * 2 ^ (j - 1)) (2 ^ low f)
+        go : (j : ℕ) → (j ≡ 0 → ⊥) → HasValue x false (digits_of f j (to_bits f x % hid f) * 2 ^ (j - 1)) (2 ^ low f) → HasValue x false ((to_bits f x % hid f + hid f) * 2 ^ (j - 1)) (2 ^ low f)
         go zero n v = absurd (n refl)
         go (suc j) n v = subst (λ (z : ℕ). HasValue x false (z * 2 ^ (suc j - 1)) (2 ^ low f)) (add_comm (hid f) (to_bits f x % hid f)) v
 
@@ -152,8 +152,8 @@ valued nan s a d v = absurd v
 valued (inf t) s a d v = absurd v
 valued (fin t m e) s a d v = tt
 
-pub power-no-nan : (w b : ℕ) → Power w (of_bits binary32 b) → T (not (nan_bits binary32 b))
-power-no-nan w b v = subst (λ (t : Bool). T (not t)) (sym (nan_bits_is binary32 b)) (valued (of_bits binary32 b) false (2 ^ w) (2 ^ 149) v.value)
+pub power_no_nan : (w b : ℕ) → Power w (of_bits binary32 b) → T (not (nan_bits binary32 b))
+power_no_nan w b v = subst (λ (t : Bool). T (not t)) (sym (nan_bits_is binary32 b)) (valued (of_bits binary32 b) false (2 ^ w) (2 ^ 149) v.value)
 
 -- the fields of a pattern below 2 ^ 31
 pub plain : (b : ℕ) → b < 2 ^ 31 → of_bits binary32 b ≡ of_fields binary32 false (b / 2 ^ 23) (b % 2 ^ 23)
@@ -162,9 +162,9 @@ plain b h =
     ∙ ap (λ (s : Bool). of_fields binary32 s (b % 2 ^ 31 / 2 ^ 23) (b % 2 ^ 23)) (is_false (leb (2 ^ 31) b) (lt→nleb (2 ^ 31) b h))
     ∙ ap (λ (z : ℕ). of_fields binary32 false (z / 2 ^ 23) (b % 2 ^ 23)) (mod-eq_of_lt h)
 
-pub low-power : (w : ℕ) → w < 23 → Power w (of_bits binary32 (1 * 2 ^ w % 2 ^ 32))
+pub low_power : (w : ℕ) → w < 23 → Power w (of_bits binary32 (1 * 2 ^ w % 2 ^ 32))
 unfolding of_fields
-low-power w h =
+low_power w h =
     let b = 2 ^ w in
     let B : b < 2 ^ 23 = pow-lt h in
     let e : 1 * 2 ^ w % 2 ^ 32 ≡ b = ap (λ (z : ℕ). z % 2 ^ 32) (one-mul b) ∙ mod-eq_of_lt (lt_of_lt_of_le B (lit≤ tt)) in
@@ -175,9 +175,9 @@ low-power w h =
     subst (λ (z : ℕ). Power w (of_bits binary32 z)) (sym e)
     (record { value = subst (λ (x : Float). HasValue x false b (2 ^ 149)) (sym is) (subst (λ (z : ℕ). HasValue (odd 24 false b 0 149) false z (2 ^ 149)) (mul-one b) (odd_sign 24 false b 0 149)) })
 
-pub high-power : (w : ℕ) → 23 ≤ w → w < 277 → Power w (of_bits binary32 ((w - 22) * 2 ^ 23 % 2 ^ 32))
+pub high_power : (w : ℕ) → 23 ≤ w → w < 277 → Power w (of_bits binary32 ((w - 22) * 2 ^ 23 % 2 ^ 32))
 unfolding of_fields
-high-power w lo hi =
+high_power w lo hi =
     let c = (w - 22) * 2 ^ 23 in
     let is : of_bits binary32 c ≡ of_fields binary32 false (suc (w - 23)) 0 =
     plain c (go1 w lo hi)

@@ -11,7 +11,7 @@ use lib.Ieee.{Format, neg, of_int}
 use lib.Ieee.Bits.{is_false}
 use mir.Syntax.{w64}
 use mir.Val.{SFits}
-use Rattle.numbers.proofs.Units.{neg-round}
+use Rattle.numbers.proofs.Units.{neg_round}
 
 -- z is negative: one taken off its magnitude leaves a number that fits
 pub record Minus (z : ℤ) : Type 0 where
@@ -43,7 +43,7 @@ plus (negsuc n) f h = absurd h
 pub turned : (f : Format) (z : ℤ) → T (lt_z z (pos 0)) → neg (of_int f (pos (nat_abs z))) ≡ of_int f z
 unfolding of_int
 turned f (pos n) h = absurd (omega (arith, lib.Dec.ltb→lt n 0 h))
-turned f (negsuc n) h = neg-round f (suc n) 1
+turned f (negsuc n) h = neg_round f (suc n) 1
 
 pub kept : (f : Format) (z : ℤ) → T (not (lt_z z (pos 0))) → of_int f (pos (nat_abs z)) ≡ of_int f z
 kept f (pos n) h = refl

@@ -22,68 +22,68 @@ abbrev pub signed_of : ℕ → ℤ
 signed_of n = pos (min n (2 ^ 63 - 1))
 
 -- a success is number 0 at place 0; a refusal has counts of 0
-abbrev pub toldRefusal : Code → ℕ → Told
-toldRefusal c p = record { number = number_of c; place = signed_of p; first = pos 0; second = pos 0; third = pos 0; fourth = pos 0 }
+abbrev pub told_refusal : Code → ℕ → Told
+told_refusal c p = record { number = number_of c; place = signed_of p; first = pos 0; second = pos 0; third = pos 0; fourth = pos 0 }
 
-abbrev pub toldRead : ReadAnswer → Told
-toldRead (ReadAnswer.Done s n a) = record { number = 0; place = pos 0; first = pos s; second = pos n; third = a; fourth = pos 0 }
-toldRead (ReadAnswer.Refused c p) = toldRefusal c p
+abbrev pub told_read : ReadAnswer → Told
+told_read (ReadAnswer.Done s n a) = record { number = 0; place = pos 0; first = pos s; second = pos n; third = a; fourth = pos 0 }
+told_read (ReadAnswer.Refused c p) = told_refusal c p
 
-abbrev pub toldWrite : WriteAnswer → Told
-toldWrite (WriteAnswer.Done n) = record { number = 0; place = pos 0; first = signed_of n; second = pos 0; third = pos 0; fourth = pos 0 }
-toldWrite (WriteAnswer.Refused c p) = toldRefusal c p
+abbrev pub told_write : WriteAnswer → Told
+told_write (WriteAnswer.Done n) = record { number = 0; place = pos 0; first = signed_of n; second = pos 0; third = pos 0; fourth = pos 0 }
+told_write (WriteAnswer.Refused c p) = told_refusal c p
 
-abbrev pub toldBuild : BuildAnswer → Told
-toldBuild (BuildAnswer.Done s n a f) = record { number = 0; place = pos 0; first = pos s; second = pos n; third = signed_of a; fourth = pos f }
-toldBuild (BuildAnswer.Refused c p) = toldRefusal c p
+abbrev pub told_build : BuildAnswer → Told
+told_build (BuildAnswer.Done s n a f) = record { number = 0; place = pos 0; first = pos s; second = pos n; third = signed_of a; fourth = pos f }
+told_build (BuildAnswer.Refused c p) = told_refusal c p
 
-abbrev pub toldDraw : DrawAnswer → Told
-toldDraw (DrawAnswer.Done n) = record { number = 0; place = pos 0; first = signed_of n; second = pos 0; third = pos 0; fourth = pos 0 }
-toldDraw (DrawAnswer.Refused c p) = toldRefusal c p
+abbrev pub told_draw : DrawAnswer → Told
+told_draw (DrawAnswer.Done n) = record { number = 0; place = pos 0; first = signed_of n; second = pos 0; third = pos 0; fourth = pos 0 }
+told_draw (DrawAnswer.Refused c p) = told_refusal c p
 
-abbrev pub toldReach : ReachAnswer → Told
-toldReach (ReachAnswer.Done a e) = record { number = 0; place = pos 0; first = pos a; second = pos e; third = pos 0; fourth = pos 0 }
-toldReach (ReachAnswer.Refused c p) = toldRefusal c p
+abbrev pub told_reach : ReachAnswer → Told
+told_reach (ReachAnswer.Done a e) = record { number = 0; place = pos 0; first = pos a; second = pos e; third = pos 0; fourth = pos 0 }
+told_reach (ReachAnswer.Refused c p) = told_refusal c p
 
-abbrev pub toldHide : HideAnswer → Told
-toldHide HideAnswer.Done = record { number = 0; place = pos 0; first = pos 0; second = pos 0; third = pos 0; fourth = pos 0 }
-toldHide (HideAnswer.Refused c p) = toldRefusal c p
+abbrev pub told_hide : HideAnswer → Told
+told_hide HideAnswer.Done = record { number = 0; place = pos 0; first = pos 0; second = pos 0; third = pos 0; fourth = pos 0 }
+told_hide (HideAnswer.Refused c p) = told_refusal c p
 
 -- with the edition as the fifth number; a refusal has counts of 0, and so no edition
-abbrev pub toldFile : FileAnswer → Told
-toldFile (FileAnswer.Done s p a e) = record { number = 0; place = pos 0; first = pos s; second = pos p; third = a; fourth = pos e }
-toldFile (FileAnswer.Refused c q) = toldRefusal c q
+abbrev pub told_file : FileAnswer → Told
+told_file (FileAnswer.Done s p a e) = record { number = 0; place = pos 0; first = pos s; second = pos p; third = a; fourth = pos e }
+told_file (FileAnswer.Refused c q) = told_refusal c q
 
 -- the number, the place and the first count, as the table of codes has them; the other counts are 0
-abbrev pub toldProfile : ProfileAnswer → Told
-toldProfile r = record {
-  number = (profile.toldOf r).number;
-  place = signed_of (profile.toldOf r).place;
-  first = pos (profile.toldOf r).first;
+abbrev pub told_profile : ProfileAnswer → Told
+told_profile r = record {
+  number = (profile.told_of r).number;
+  place = signed_of (profile.told_of r).place;
+  first = pos (profile.told_of r).first;
   second = pos 0;
   third = pos 0;
   fourth = pos 0;
 }
 
 -- the number, the place and the counts
-abbrev pub toldProfileBuild : ProfileBuildAnswer → Told
-toldProfileBuild r = record {
-  number = (building.toldOf r).number;
-  place = signed_of (building.toldOf r).place;
-  first = pos (building.toldOf r).first;
-  second = pos (building.toldOf r).second;
-  third = signed_of (building.toldOf r).third;
-  fourth = pos (building.toldOf r).fourth;
+abbrev pub told_profile_build : ProfileBuildAnswer → Told
+told_profile_build r = record {
+  number = (building.told_of r).number;
+  place = signed_of (building.told_of r).place;
+  first = pos (building.told_of r).first;
+  second = pos (building.told_of r).second;
+  third = signed_of (building.told_of r).third;
+  fourth = pos (building.told_of r).fourth;
 }
 
-abbrev pub toldCheck : CheckAnswer → Told
-toldCheck (CheckAnswer.Done n) = record { number = 0; place = pos 0; first = pos n; second = pos 0; third = pos 0; fourth = pos 0 }
-toldCheck (CheckAnswer.Refused c p) = toldRefusal c p
+abbrev pub told_check : CheckAnswer → Told
+told_check (CheckAnswer.Done n) = record { number = 0; place = pos 0; first = pos n; second = pos 0; third = pos 0; fourth = pos 0 }
+told_check (CheckAnswer.Refused c p) = told_refusal c p
 
-abbrev pub toldBands : BandsAnswer → Told
-toldBands (BandsAnswer.Done n) = record { number = 0; place = pos 0; first = pos n; second = pos 0; third = pos 0; fourth = pos 0 }
-toldBands (BandsAnswer.Refused c p) = toldRefusal c p
+abbrev pub told_bands : BandsAnswer → Told
+told_bands (BandsAnswer.Done n) = record { number = 0; place = pos 0; first = pos n; second = pos 0; third = pos 0; fourth = pos 0 }
+told_bands (BandsAnswer.Refused c p) = told_refusal c p
 
 -- the five numbers
-abbrev pub toldIn : Told → List ℤ
-toldIn t = t.place ∷ t.first ∷ t.second ∷ t.third ∷ t.fourth ∷ []
+abbrev pub told_in : Told → List ℤ
+told_in t = t.place ∷ t.first ∷ t.second ∷ t.third ∷ t.fourth ∷ []

@@ -2,7 +2,7 @@
 #![tactic(auto)]
 
 ghost use Rattle.std.specs.Prelude.{◌≡◌};
-ghost use Rattle.told.specs.Told.{signed_of, toldRefusal, toldHide, toldProfile, toldProfileBuild, toldBands, toldIn};
+ghost use Rattle.told.specs.Told.{signed_of, told_refusal, told_hide, told_profile, told_profile_build, told_bands, told_in};
 
 use bands::BandsAnswer;
 use codes::Code;
@@ -33,7 +33,7 @@ pub struct Told {
 }
 
 pub fn told_refusal(code: Code, place: usize) -> Told
-    ensures { result ≡ toldRefusal code place }
+    ensures { result ≡ told_refusal code place }
 {
     Told {
         number: codes::number_of(code),
@@ -46,7 +46,7 @@ pub fn told_refusal(code: Code, place: usize) -> Told
 }
 
 pub fn told_hide(answer: HideAnswer) -> Told
-    ensures { result ≡ toldHide answer }
+    ensures { result ≡ told_hide answer }
 {
     match answer {
         HideAnswer::Done => Told {
@@ -62,7 +62,7 @@ pub fn told_hide(answer: HideAnswer) -> Told
 }
 
 pub fn told_profile(answer: ProfileAnswer) -> Told
-    ensures { result ≡ toldProfile answer }
+    ensures { result ≡ told_profile answer }
 {
     let told = profile::told(answer);
     Told {
@@ -76,7 +76,7 @@ pub fn told_profile(answer: ProfileAnswer) -> Told
 }
 
 pub fn told_profile_build(answer: ProfileBuildAnswer) -> Told
-    ensures { result ≡ toldProfileBuild answer }
+    ensures { result ≡ told_profile_build answer }
 {
     let told = profile_told::told(answer);
     Told {
@@ -90,7 +90,7 @@ pub fn told_profile_build(answer: ProfileBuildAnswer) -> Told
 }
 
 pub fn told_bands(answer: BandsAnswer) -> Told
-    ensures { result ≡ toldBands answer }
+    ensures { result ≡ told_bands answer }
 {
     match answer {
         BandsAnswer::Done(bands) => Told {
@@ -107,7 +107,7 @@ pub fn told_bands(answer: BandsAnswer) -> Told
 
 // The five numbers.
 pub fn five(told: Told) -> [i64; 5]
-    ensures { result ≡ toldIn told }
+    ensures { result ≡ told_in told }
 {
     let place = told.place;
     let first = told.first;
@@ -118,7 +118,7 @@ pub fn five(told: Told) -> [i64; 5]
 }
 
 pub fn tell(answer: &mut [i64; 5], told: Told)
-    ensures { answer.new ≡ toldIn told }
+    ensures { answer.new ≡ told_in told }
 {
     let numbers = five(told);
     *answer = numbers;

@@ -2,7 +2,7 @@
 #![tactic(auto)]
 
 ghost use Rattle.std.specs.Prelude.{◌≡◌};
-ghost use Rattle.told.specs.Told.{toldRead, toldWrite, toldFile};
+ghost use Rattle.told.specs.Told.{told_read, told_write, told_file};
 
 use reader::ReadAnswer;
 use told::{Told, signed, told_refusal};
@@ -10,7 +10,7 @@ use trace2::FileAnswer;
 use writer::WriteAnswer;
 
 pub fn told_read(answer: ReadAnswer) -> Told
-    ensures { result ≡ toldRead answer }
+    ensures { result ≡ told_read answer }
 {
     match answer {
         ReadAnswer::Done(splines, points, adjustment) => Told {
@@ -26,7 +26,7 @@ pub fn told_read(answer: ReadAnswer) -> Told
 }
 
 pub fn told_write(answer: WriteAnswer) -> Told
-    ensures { result ≡ toldWrite answer }
+    ensures { result ≡ told_write answer }
 {
     match answer {
         WriteAnswer::Done(values) => Told {
@@ -42,7 +42,7 @@ pub fn told_write(answer: WriteAnswer) -> Told
 }
 
 pub fn told_file(answer: FileAnswer) -> Told
-    ensures { result ≡ toldFile answer }
+    ensures { result ≡ told_file answer }
 {
     match answer {
         FileAnswer::Done(splines, points, adjustment, edition) => Told {

@@ -2,7 +2,7 @@
 #![tactic(auto)]
 
 ghost use Rattle.std.specs.Prelude.{◌≡◌};
-ghost use Rattle.told.specs.Told.{toldBuild, toldDraw, toldReach, toldCheck};
+ghost use Rattle.told.specs.Told.{told_build, told_draw, told_reach, told_check};
 
 use draw::DrawAnswer;
 use hull::ReachAnswer;
@@ -11,7 +11,7 @@ use table::BuildAnswer;
 use told::{Told, signed, told_refusal};
 
 pub fn told_build(answer: BuildAnswer) -> Told
-    ensures { result ≡ toldBuild answer }
+    ensures { result ≡ told_build answer }
 {
     match answer {
         BuildAnswer::Done(segments, entries, estimate, faint) => Told {
@@ -27,7 +27,7 @@ pub fn told_build(answer: BuildAnswer) -> Told
 }
 
 pub fn told_draw(answer: DrawAnswer) -> Told
-    ensures { result ≡ toldDraw answer }
+    ensures { result ≡ told_draw answer }
 {
     match answer {
         DrawAnswer::Done(updates) => Told {
@@ -43,7 +43,7 @@ pub fn told_draw(answer: DrawAnswer) -> Told
 }
 
 pub fn told_reach(answer: ReachAnswer) -> Told
-    ensures { result ≡ toldReach answer }
+    ensures { result ≡ told_reach answer }
 {
     match answer {
         ReachAnswer::Done(first, past) => Told {
@@ -59,7 +59,7 @@ pub fn told_reach(answer: ReachAnswer) -> Told
 }
 
 pub fn told_check(answer: CheckAnswer) -> Told
-    ensures { result ≡ toldCheck answer }
+    ensures { result ≡ told_check answer }
 {
     match answer {
         CheckAnswer::Done(entries) => Told {

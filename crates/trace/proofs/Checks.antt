@@ -10,44 +10,44 @@ use lib.Dec.{T}
 use lib.ListN.{length, take, drop, set, get_or, length-drop, drop_of_length-le}
 use lib.Seq.{drop-cons, length-take-le, get_or-take, get_or-drop, take-suc, set_at}
 use Rattle.codes.specs.declared.Code.{Code}
-use Rattle.writer.specs.Write.{Check, check, firstFault}
+use Rattle.writer.specs.Write.{Check, check, first_fault}
 use Rattle.write_judge.specs.declared.Verdict.{Verdict}
 use Rattle.write_judge.specs.declared.Verdict.TheVariants.{Fine, Fault}
 use Rattle.write_judge.proofs.Checks.{fails, passes, passed}
-use Rattle.trace.specs.Trace.{part, numberChecks}
+use Rattle.trace.specs.Trace.{part, number_checks}
 
 module _ {A : Type 0} (test : A → Bool) (c : Code) where
   -- ---- a turn of a loop over the numbers
 
   turn : (xs : List A) (d : A) (k i : ℕ) → i < length xs
-      → numberChecks test c k (drop i xs) ≡ check (test (get_or xs i d)) c (4 * k) ∷ numberChecks test c (suc k) (drop (suc i) xs)
-  unfolding numberChecks
+      → number_checks test c k (drop i xs) ≡ check (test (get_or xs i d)) c (4 * k) ∷ number_checks test c (suc k) (drop (suc i) xs)
+  unfolding number_checks
   turn xs d k i h = rw (drop-cons xs i d h)
 
-  pub turn-fault : (xs : List A) (d : A) (k i : ℕ) → i < length xs → test (get_or xs i d) ≡ true → firstFault (numberChecks test c k (drop i xs)) ≡ Fault c (4 * k)
-  turn-fault xs d k i h e = rw (turn xs d k i h) (fails (test (get_or xs i d)) c (4 * k) _ e)
+  pub turn_fault : (xs : List A) (d : A) (k i : ℕ) → i < length xs → test (get_or xs i d) ≡ true → first_fault (number_checks test c k (drop i xs)) ≡ Fault c (4 * k)
+  turn_fault xs d k i h e = rw (turn xs d k i h) (fails (test (get_or xs i d)) c (4 * k) _ e)
 
-  pub turn-pass : (xs : List A) (d : A) (k i : ℕ) → i < length xs → test (get_or xs i d) ≡ false
-      → firstFault (numberChecks test c k (drop i xs)) ≡ firstFault (numberChecks test c (suc k) (drop (suc i) xs))
-  turn-pass xs d k i h e = rw (turn xs d k i h) (passes (test (get_or xs i d)) c (4 * k) _ e)
+  pub turn_pass : (xs : List A) (d : A) (k i : ℕ) → i < length xs → test (get_or xs i d) ≡ false
+      → first_fault (number_checks test c k (drop i xs)) ≡ first_fault (number_checks test c (suc k) (drop (suc i) xs))
+  turn_pass xs d k i h e = rw (turn xs d k i h) (passes (test (get_or xs i d)) c (4 * k) _ e)
 
-  pub turn_end : (xs : List A) (k i : ℕ) → length xs ≤ i → firstFault (numberChecks test c k (drop i xs)) ≡ Fine
-  unfolding numberChecks firstFault
+  pub turn_end : (xs : List A) (k i : ℕ) → length xs ≤ i → first_fault (number_checks test c k (drop i xs)) ≡ Fine
+  unfolding number_checks first_fault
   turn_end xs k i h = rw (drop_of_length-le xs h)
 
   -- ---- all of them
 
   -- nothing was found: each passes
-  pub fine-each : (xs : List A) (d : A) (k : ℕ) → firstFault (numberChecks test c k xs) ≡ Fine → (i : ℕ) → i < length xs → test (get_or xs i d) ≡ false
-  unfolding numberChecks
-  fine-each [] d k e i h = absurd (not-suc-le-zero h)
-  fine-each (x ∷ xs) d k e zero h = (passed (test x) c (4 * k) (numberChecks test c (suc k) xs) e).0
-  fine-each (x ∷ xs) d k e (suc i) h = fine-each xs d (suc k) (passed (test x) c (4 * k) (numberChecks test c (suc k) xs) e).1 i (le_of_suc-le-suc h)
+  pub fine_each : (xs : List A) (d : A) (k : ℕ) → first_fault (number_checks test c k xs) ≡ Fine → (i : ℕ) → i < length xs → test (get_or xs i d) ≡ false
+  unfolding number_checks
+  fine_each [] d k e i h = absurd (not-suc-le-zero h)
+  fine_each (x ∷ xs) d k e zero h = (passed (test x) c (4 * k) (number_checks test c (suc k) xs) e).0
+  fine_each (x ∷ xs) d k e (suc i) h = fine_each xs d (suc k) (passed (test x) c (4 * k) (number_checks test c (suc k) xs) e).1 i (le_of_suc-le-suc h)
 
-  pub each-fine : (xs : List A) (d : A) (k : ℕ) → ((i : ℕ) → i < length xs → test (get_or xs i d) ≡ false) → firstFault (numberChecks test c k xs) ≡ Fine
-  unfolding numberChecks firstFault
-  each-fine [] d k f = refl
-  each-fine (x ∷ xs) d k f = passes (test x) c (4 * k) (numberChecks test c (suc k) xs) (f 0 (omega arith)) ∙ each-fine xs d (suc k) (λ i h. f (suc i) (omega arith))
+  pub each_fine : (xs : List A) (d : A) (k : ℕ) → ((i : ℕ) → i < length xs → test (get_or xs i d) ≡ false) → first_fault (number_checks test c k xs) ≡ Fine
+  unfolding number_checks first_fault
+  each_fine [] d k f = refl
+  each_fine (x ∷ xs) d k f = passes (test x) c (4 * k) (number_checks test c (suc k) xs) (f 0 (omega arith)) ∙ each_fine xs d (suc k) (λ i h. f (suc i) (omega arith))
 
 -- ---- a part of the numbers
 

@@ -12,8 +12,8 @@ use lib.Ieee.Exact.{HasValue}
 use lib.Ieee.Back.{round_whole, Float-back_signed, positive_back, negative_back}
 use lib.Ieee.Fits.{down_pos}
 use borrow.Author.Tests.{lt-ltb, le-ltb, le-leb, lt-leb, ltb-false, leb-false, eq-eqb, ne_eqb, eqb-true, not-false}
-use Rattle.list.specs.List.{posLimit}
-use Rattle.list.specs.Steps.{f32Of}
+use Rattle.list.specs.List.{pos_limit}
+use Rattle.list.specs.Steps.{f32_of}
 use Rattle.writer.specs.Write.{whole_of}
 use Rattle.write_judge.proofs.Checks.{neither}
 use Rattle.trace.specs.Write.{misfit}
@@ -56,20 +56,20 @@ no_nan : {X : Type 0} → misfit nan ≡ false → X
 unfolding misfit
 no_nan h = absurd (subst T h tt)
 
-no-inf : {X : Type 0} (s : Bool) → misfit (inf s) ≡ false → X
+no_inf : {X : Type 0} (s : Bool) → misfit (inf s) ≡ false → X
 unfolding misfit
-no-inf s h = absurd (subst T h tt)
+no_inf s h = absurd (subst T h tt)
 
 -- it may be cast to an i32
-pub fit-signed : (x : Float) → misfit x ≡ false → T (in_signed binary32 31 x)
+pub fit_signed : (x : Float) → misfit x ≡ false → T (in_signed binary32 31 x)
 unfolding in_signed whole
-fit-signed nan u = no_nan u
-fit-signed (inf s) u = no-inf s u
-fit-signed (fin true m e) u =
+fit_signed nan u = no_nan u
+fit_signed (inf s) u = no_inf s u
+fit_signed (fin true m e) u =
     let f = fit_of true m e u in
     let q = m * up e / down e in
     rw (eq-eqb (m * up e % down e) 0 f.even, le-leb q (2 ^ 24) (omega (arith, f.small)), f.signed, le-leb q (2 ^ 31) (omega (arith, f.small))) tt
-fit-signed (fin false m e) u =
+fit_signed (fin false m e) u =
     let f = fit_of false m e u in
     let q = m * up e / down e in
     rw (eq-eqb (m * up e % down e) 0 f.even, le-leb q (2 ^ 24) (omega (arith, f.small)), lt-ltb q (2 ^ 31) (omega (arith, f.small))) tt
@@ -78,7 +78,7 @@ fit-signed (fin false m e) u =
 pub fit_small : (x : Float) → misfit x ≡ false → mag (whole_of x) < 2 ^ 23
 unfolding to_signed
 fit_small nan u = no_nan u
-fit_small (inf s) u = no-inf s u
+fit_small (inf s) u = no_inf s u
 fit_small (fin true m e) u = below (min (m * up e / down e) (2 ^ 31)) (omega (arith, (fit_of true m e u).small, min-le_left (m * up e / down e) (2 ^ 31)))
   where
     below : (n : ℕ) → n ≤ 2 ^ 23 → mag (neg_ℤ (pos n)) < 2 ^ 23
@@ -91,37 +91,37 @@ fit_small (fin false m e) u =
     omega (arith, min-le_left (m * up e / down e) (2 ^ 31 - 1))
 
 -- it is the f32 of its whole number
-pub fit-back : (x : Float) → T (fits binary32 x) → misfit x ≡ false → f32Of (whole_of x) ≡ x
-unfolding f32Of
-fit-back x f u = (Float-back_signed binary32 31 x f (fit-signed x u)).1
+pub fit_back : (x : Float) → T (fits binary32 x) → misfit x ≡ false → f32_of (whole_of x) ≡ x
+unfolding f32_of
+fit_back x f u = (Float-back_signed binary32 31 x f (fit_signed x u)).1
 
 -- ---- the float of a whole number in range
 
-value-fit : (x : Float) (s : Bool) (n : ℕ) → n ≤ 2 ^ 23 → (s ≡ false → n < 2 ^ 23) → (s ≡ true → 0 < n) → HasValue x s n 1 → misfit x ≡ false
+value_fit : (x : Float) (s : Bool) (n : ℕ) → n ≤ 2 ^ 23 → (s ≡ false → n < 2 ^ 23) → (s ≡ true → 0 < n) → HasValue x s n 1 → misfit x ≡ false
 unfolding misfit
-value-fit nan s n h l g v = absurd v
-value-fit (inf t) s n h l g v = absurd v
-value-fit (fin t m e) s n h l g v =
+value_fit nan s n h l g v = absurd v
+value_fit (inf t) s n h l g v = absurd v
+value_fit (fin t m e) s n h l g v =
     let is : m * up e ≡ n * down e = sym (mul-one (m * up e)) ∙ v.1 in
     let r : m * up e % down e ≡ 0 = ap (λ (u : ℕ). u % down e) is ∙ mul-mod_left n (down e) in
-    rw (in-range t (λ p. l (sym v.0 ∙ p)) is, eq-eqb (m * up e % down e) 0 r) (plain t m is (λ p. g (sym v.0 ∙ p)))
+    rw (in_range_lem t (λ p. l (sym v.0 ∙ p)) is, eq-eqb (m * up e % down e) 0 r) (plain t m is (λ p. g (sym v.0 ∙ p)))
   where
-    in-range : (t : Bool) → (t ≡ false → n < 2 ^ 23) → m * up e ≡ n * down e → cond t (ltb (2 ^ 23 * down e) (m * up e)) (leb (2 ^ 23 * down e) (m * up e)) ≡ false
-    in-range true l is = le-ltb (2 ^ 23 * down e) (m * up e) (omega (arith, mul-le-mul_right (down e) h))
-    in-range false l is = lt-leb (2 ^ 23 * down e) (m * up e) (omega (arith, mul-lt-mul_of_pos_right (l refl) (down_pos e)))
+    in_range_lem : (t : Bool) → (t ≡ false → n < 2 ^ 23) → m * up e ≡ n * down e → cond t (ltb (2 ^ 23 * down e) (m * up e)) (leb (2 ^ 23 * down e) (m * up e)) ≡ false
+    in_range_lem true l is = le-ltb (2 ^ 23 * down e) (m * up e) (omega (arith, mul-le-mul_right (down e) h))
+    in_range_lem false l is = lt-leb (2 ^ 23 * down e) (m * up e) (omega (arith, mul-lt-mul_of_pos_right (l refl) (down_pos e)))
 
     plain : (t : Bool) (m : ℕ) → m * up e ≡ n * down e → (t ≡ true → 0 < n) → (t && eqb m 0) ≡ false
     plain false m is g = refl
     plain true zero is g = let b : 0 * down e < n * down e = mul-lt-mul_of_pos_right (g refl) (down_pos e) in absurd (omega arith)
     plain true (suc m) is g = ne_eqb (suc m) 0 (λ z. omega arith)
 
-pub whole-fit : (z : ℤ) → mag z < 2 ^ 23 → misfit (f32Of z) ≡ false
-unfolding f32Of of_int
-whole-fit (pos n) h = value-fit (round binary32 false n 1) false n (omega arith) (λ f. h) (λ p. absurd (subst T (sym p) tt)) (round_whole binary32 false n (omega arith))
-whole-fit (negsuc n) h = value-fit (round binary32 true (suc n) 1) true (suc n) h (λ f. absurd (subst T f tt)) (λ p. omega arith) (round_whole binary32 true (suc n) (omega arith))
+pub whole_fit : (z : ℤ) → mag z < 2 ^ 23 → misfit (f32_of z) ≡ false
+unfolding f32_of of_int
+whole_fit (pos n) h = value_fit (round binary32 false n 1) false n (omega arith) (λ f. h) (λ p. absurd (subst T (sym p) tt)) (round_whole binary32 false n (omega arith))
+whole_fit (negsuc n) h = value_fit (round binary32 true (suc n) 1) true (suc n) h (λ f. absurd (subst T f tt)) (λ p. omega arith) (round_whole binary32 true (suc n) (omega arith))
 
-pub whole_back : (z : ℤ) → mag z < 2 ^ 23 → whole_of (f32Of z) ≡ z
-unfolding f32Of in_float
+pub whole_back : (z : ℤ) → mag z < 2 ^ 23 → whole_of (f32_of z) ≡ z
+unfolding f32_of in_float
 whole_back (pos n) h = (positive_back binary32 31 n (le→leb n (2 ^ 24) (omega arith)) (omega arith)).1
 whole_back (negsuc n) h = (negative_back binary32 31 n (lt→ltb n (2 ^ 24) (omega arith)) (omega arith)).1
 

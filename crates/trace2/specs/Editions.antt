@@ -14,13 +14,13 @@ abbrev pub layout_of : ℕ → Layout
 layout_of version = cond (eqb version 2) version2 version1
 
 -- what the header of a version has behind its first eight numbers
-abbrev pub moreOf : ℕ → ℕ → List ℕ
-moreOf version edition = cond (eqb version 2) (edition ∷ []) []
+abbrev pub more_of : ℕ → ℕ → List ℕ
+more_of version edition = cond (eqb version 2) (edition ∷ []) []
 
 -- how many numbers the header of a version has
-abbrev pub headerLong : ℕ → ℕ
-headerLong version = cond (eqb version 2) 9 8
+abbrev pub header_long : ℕ → ℕ
+header_long version = cond (eqb version 2) 9 8
 
 -- the edition that the numbers of a file say
-abbrev pub editionIn : List ℕ → ℕ
-editionIn ns = cond (eqb (get_or ns 0 0) 2) (get_or ns 8 0) 1
+abbrev pub edition_in : List ℕ → ℕ
+edition_in ns = cond (eqb (get_or ns 0 0) 2) (get_or ns 8 0) 1

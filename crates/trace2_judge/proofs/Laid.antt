@@ -6,63 +6,63 @@ use Prim.Native.Nat.{ℕ, ◌≤◌, ◌<◌}
 use borrow.Author.Tests.{lt-ltb, le-ltb}
 use Rattle.codes.specs.declared.Code.{Code}
 use Rattle.codes.specs.declared.Code.TheVariants.{Short, Edition}
-use Rattle.writer.specs.Write.{Check, check, firstFault}
+use Rattle.writer.specs.Write.{Check, check, first_fault}
 use Rattle.write_judge.specs.declared.Verdict.{Verdict}
 use Rattle.write_judge.specs.declared.Verdict.TheVariants.{Fine, Fault}
-use Rattle.write_judge.proofs.Checks.{fails, passes, passed, faults-before, fine_before, both-fine}
-use Rattle.trace.specs.Read.{offsetChecks, bodyChecks}
+use Rattle.write_judge.proofs.Checks.{fails, passes, passed, faults_before, fine_before, both_fine}
+use Rattle.trace.specs.Read.{offset_checks, body_checks}
 use Rattle.trace2.specs.Editions.{unknown}
-use Rattle.trace2.specs.Read.{laidChecks}
-use Rattle.trace2_judge.specs.Steps.{eitherFault}
+use Rattle.trace2.specs.Read.{laid_checks}
+use Rattle.trace2_judge.specs.Steps.{either_fault}
 
-pub edition-fault : (e : ℕ) → unknown e ≡ true → Fault Edition 32 ≡ firstFault (check (unknown e) Edition 32 ∷ [])
-edition-fault e h = sym (fails _ Edition 32 [] h)
+pub edition_fault : (e : ℕ) → unknown e ≡ true → Fault Edition 32 ≡ first_fault (check (unknown e) Edition 32 ∷ [])
+edition_fault e h = sym (fails _ Edition 32 [] h)
 
-pub edition-fine : (e : ℕ) → unknown e ≡ false → Fine ≡ firstFault (check (unknown e) Edition 32 ∷ [])
-unfolding firstFault
-edition-fine e h = rw h
+pub edition_fine : (e : ℕ) → unknown e ≡ false → Fine ≡ first_fault (check (unknown e) Edition 32 ∷ [])
+unfolding first_fault
+edition_fine e h = rw h
 
 -- of two lists of checks, the first that finds a fault
-in_order : (xs ys : List Check) → eitherFault (firstFault xs) (firstFault ys) ≡ firstFault (xs ++ ys)
-in_order xs ys = go (firstFault xs) refl
+in_order : (xs ys : List Check) → either_fault (first_fault xs) (first_fault ys) ≡ first_fault (xs ++ ys)
+in_order xs ys = go (first_fault xs) refl
   where
-    go : (v : Verdict) → firstFault xs ≡ v → eitherFault v (firstFault ys) ≡ firstFault (xs ++ ys)
+    go : (v : Verdict) → first_fault xs ≡ v → either_fault v (first_fault ys) ≡ first_fault (xs ++ ys)
     go Fine f = sym (fine_before xs ys f)
-    go (Fault c p) f = sym (faults-before xs ys c p f)
+    go (Fault c p) f = sym (faults_before xs ys c p f)
 
-pub first_then : (xs ys : List Check) {v w r : Verdict} → v ≡ firstFault xs → w ≡ firstFault ys → r ≡ eitherFault v w → r ≡ firstFault (xs ++ ys)
+pub first_then : (xs ys : List Check) {v w r : Verdict} → v ≡ first_fault xs → w ≡ first_fault ys → r ≡ either_fault v w → r ≡ first_fault (xs ++ ys)
 first_then xs ys f g is = is ∙ rw (f, g) (in_order xs ys)
 
 module _ (e size : ℕ) (ns : List ℕ) where
   abbrev Head : List Check
-  Head = offsetChecks 9 ns ++ (check (unknown e) Edition 32 ∷ [])
+  Head = offset_checks 9 ns ++ (check (unknown e) Edition 32 ∷ [])
 
-  pub laid-short : size < 36 → Fault Short size ≡ firstFault (laidChecks 9 e size ns)
-  unfolding laidChecks
-  laid-short h = sym (fails _ Short size _ (lt-ltb size 36 h))
+  pub laid_short : size < 36 → Fault Short size ≡ first_fault (laid_checks 9 e size ns)
+  unfolding laid_checks
+  laid_short h = sym (fails _ Short size _ (lt-ltb size 36 h))
 
   module _ (long : 36 ≤ size) where
     -- the edition stands at the end of the header's checks
-    laid-after : firstFault (laidChecks 9 e size ns) ≡ firstFault (Head ++ bodyChecks 9 size ns)
-    unfolding laidChecks
-    laid-after = passes _ Short size _ (le-ltb size 36 long) ∙ ap firstFault (sym (regrouped (offsetChecks 9 ns)))
+    laid_after : first_fault (laid_checks 9 e size ns) ≡ first_fault (Head ++ body_checks 9 size ns)
+    unfolding laid_checks
+    laid_after = passes _ Short size _ (le-ltb size 36 long) ∙ ap first_fault (sym (regrouped (offset_checks 9 ns)))
       where
-        regrouped : (xs : List Check) → (xs ++ (check (unknown e) Edition 32 ∷ [])) ++ bodyChecks 9 size ns ≡ xs ++ (check (unknown e) Edition 32 ∷ bodyChecks 9 size ns)
+        regrouped : (xs : List Check) → (xs ++ (check (unknown e) Edition 32 ∷ [])) ++ body_checks 9 size ns ≡ xs ++ (check (unknown e) Edition 32 ∷ body_checks 9 size ns)
         regrouped [] = refl
         regrouped (x ∷ xs) = ap (λ (t : List Check). x ∷ t) (regrouped xs)
 
-    pub laid-header : (c : Code) (q : ℕ) → firstFault Head ≡ Fault c q → Fault c q ≡ firstFault (laidChecks 9 e size ns)
-    laid-header c q f = sym (laid-after ∙ faults-before Head _ c q f)
+    pub laid_header : (c : Code) (q : ℕ) → first_fault Head ≡ Fault c q → Fault c q ≡ first_fault (laid_checks 9 e size ns)
+    laid_header c q f = sym (laid_after ∙ faults_before Head _ c q f)
 
-    pub laid-body : firstFault Head ≡ Fine → firstFault (bodyChecks 9 size ns) ≡ firstFault (laidChecks 9 e size ns)
-    laid-body f = sym (laid-after ∙ fine_before Head _ f)
+    pub laid_body : first_fault Head ≡ Fine → first_fault (body_checks 9 size ns) ≡ first_fault (laid_checks 9 e size ns)
+    laid_body f = sym (laid_after ∙ fine_before Head _ f)
 
   -- no fault: none behind the header
-  pub laid-sound : firstFault (laidChecks 9 e size ns) ≡ Fine → firstFault (bodyChecks 9 size ns) ≡ Fine
-  unfolding laidChecks
-  laid-sound f =
+  pub laid_sound : first_fault (laid_checks 9 e size ns) ≡ Fine → first_fault (body_checks 9 size ns) ≡ Fine
+  unfolding laid_checks
+  laid_sound f =
       let a = passed _ Short size _ f in
-      let b = both-fine (offsetChecks 9 ns) _ a.1 in
+      let b = both_fine (offset_checks 9 ns) _ a.1 in
       (passed _ Edition 32 _ b.1).1
 
 -- Assumes nothing.

@@ -4,13 +4,13 @@
 
 ghost use Rattle.std.specs.Prelude.{◌≡◌, [], ◌∷◌, ◌++◌, ◌≤◌, length, get_or};
 ghost use Rattle.codes.specs.declared.Code.{Code};
-ghost use Rattle.writer.specs.Write.{check, firstFault};
-ghost use Rattle.little.specs.Little.{numbersIn};
-ghost use Rattle.trace.specs.Read.{offsetChecks};
+ghost use Rattle.writer.specs.Write.{check, first_fault};
+ghost use Rattle.little.specs.Little.{numbers_in};
+ghost use Rattle.trace.specs.Read.{offset_checks};
 ghost use Rattle.trace_judge.specs.Counted.{Counted};
 ghost use Rattle.trace2.specs.Editions.{unknown};
-ghost use Rattle.trace2.specs.Read.{laidChecks};
-ghost use Rattle.trace2_judge.specs.Steps.{Second, eitherFault};
+ghost use Rattle.trace2.specs.Read.{laid_checks};
+ghost use Rattle.trace2_judge.specs.Steps.{Second, either_fault};
 
 use codes::Code;
 use little::number_at;
@@ -20,7 +20,7 @@ use write_judge::Verdict;
 
 // Of two verdicts the first that is a fault.
 fn first_of(first: Verdict, then: Verdict) -> Verdict
-    ensures { result ≡ eitherFault first then }
+    ensures { result ≡ either_fault first then }
 {
     match first {
         Verdict::Fault(c, place) => Verdict::Fault(c, place),
@@ -31,7 +31,7 @@ fn first_of(first: Verdict, then: Verdict) -> Verdict
 // Whether the edition is none.
 fn judge_edition(bytes: &[u8]) -> Verdict
     requires { 36 ≤ length bytes.now }
-    ensures { result ≡ firstFault (check (unknown (get_or (numbersIn bytes.now) 8 0)) Code.Edition 32 ∷ []) }
+    ensures { result ≡ first_fault (check (unknown (get_or (numbers_in bytes.now) 8 0)) Code.Edition 32 ∷ []) }
 {
     if unknown(number_at(bytes, 8)) {
         return Verdict::Fault(Code::Edition, 32);
@@ -42,7 +42,7 @@ fn judge_edition(bytes: &[u8]) -> Verdict
 // The first wrong number of the header, for s splines and p points: the offsets, then the edition.
 fn judge_header(bytes: &[u8], s: usize, p: usize) -> Verdict
     requires { Counted bytes.now 9 s p × (36 ≤ length bytes.now) }
-    ensures { result ≡ firstFault (offsetChecks 9 (numbersIn bytes.now) ++ (check (unknown (get_or (numbersIn bytes.now) 8 0)) Code.Edition 32 ∷ [])) }
+    ensures { result ≡ first_fault (offset_checks 9 (numbers_in bytes.now) ++ (check (unknown (get_or (numbers_in bytes.now) 8 0)) Code.Edition 32 ∷ [])) }
 {
     let offsets = judge_offsets(bytes, 9, s, p);
     let edition = judge_edition(bytes);
@@ -52,7 +52,7 @@ fn judge_header(bytes: &[u8], s: usize, p: usize) -> Verdict
 // The first fault of a file that says version 2, but for the room.
 pub fn judge_second(bytes: &[u8]) -> Verdict
     requires { Second bytes.now }
-    ensures { result ≡ firstFault (laidChecks 9 (get_or (numbersIn bytes.now) 8 0) (length bytes.now) (numbersIn bytes.now)) }
+    ensures { result ≡ first_fault (laid_checks 9 (get_or (numbers_in bytes.now) 8 0) (length bytes.now) (numbers_in bytes.now)) }
 {
     if bytes.len() < 36 {
         return Verdict::Fault(Code::Short, bytes.len());

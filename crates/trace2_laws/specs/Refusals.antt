@@ -1,11 +1,11 @@
 -- The codes of reading and of writing a trace file of either version, and when each is given: the table of codes, in the order of the checks. Definitions only.
--- That a call refuses exactly so is `read-exactly` of proofs/ReadWhen.antt and `write-exactly` of proofs/WriteWhen.antt. What the versions share is in Behind.antt of `trace_laws`, over how many numbers the header has.
+-- That a call refuses exactly so is `read_exactly` of proofs/ReadWhen.antt and `write_exactly` of proofs/WriteWhen.antt. What the versions share is in Behind.antt of `trace_laws`, over how many numbers the header has.
 use Rattle.std.specs.Prelude.{◌≡◌, ◌⊎◌, List, ℕ, ◌+◌, ◌*◌, ◌≤◌, ◌<◌, length, ℤ, Float}
 use Rattle.codes.specs.declared.Code.{Code}
 use Rattle.codes.specs.declared.Code.TheVariants.{Short, Room, Shape, Header, Edition}
 use Rattle.shape.specs.Shape.{points_of, Shaped}
 use Rattle.list.specs.List.{ListRooms}
-use Rattle.trace_laws.specs.Behind.{number, S, P, fileLong, LaidBy, TamedBy, OffsetRefusal, BodyRefusal, WritableBy, PutRefusal}
+use Rattle.trace_laws.specs.Behind.{number, S, P, file_long, LaidBy, TamedBy, OffsetRefusal, BodyRefusal, WritableBy, PutRefusal}
 use Rattle.trace_laws.specs.Refusals.{ListLacks}
 
 -- 1 and 2 are the versions, and the editions
@@ -34,7 +34,7 @@ pub data FileReadRefusal (rooms : ListRooms) (bytes : List ℕ) : Code → ℕ �
   -- 17: another version
   version : 32 ≤ length bytes → Unknown (number bytes 0) → FileReadRefusal rooms bytes Header 0
   -- 1: version 2 below 36 bytes
-  cut-second : 32 ≤ length bytes → number bytes 0 ≡ 2 → length bytes < 36 → FileReadRefusal rooms bytes Short (length bytes)
+  cut_second : 32 ≤ length bytes → number bytes 0 ≡ 2 → length bytes < 36 → FileReadRefusal rooms bytes Short (length bytes)
   -- 17: the first wrong offset
   offset : {h e : ℕ} {c : Code} {q : ℕ} → OffsetRefusal h (Says bytes h e) bytes c q → FileReadRefusal rooms bytes c q
   -- 22: an edition other than 1 or 2
@@ -49,7 +49,7 @@ pub data FileReadRefusal (rooms : ListRooms) (bytes : List ℕ) : Code → ℕ �
 -- an edition that a version does not hold
 pub data Barred (v e : ℕ) : Type 0 where
   none : Unknown e → Barred v e
-  second-in-first : v ≡ 1 → e ≡ 2 → Barred v e
+  second_in_first : v ≡ 1 → e ≡ 2 → Barred v e
 
 -- a version and its edition, with so many numbers in the header
 pub data Holds (v e : ℕ) : ℕ → Type 0 where
@@ -72,11 +72,11 @@ pub data FileWriteRefusal (ns : List ℕ) (ss : List Float) (ds cs : List ℤ) (
   -- 17, 3, 5: the first count or offset of 2^32 or more, then the starts and the double deltas
   put : {h : ℕ} {c : Code} {q : ℕ} → PutRefusal h (Open ns ss ds cs v e h) ns ss ds c q → FileWriteRefusal ns ss ds cs v e room c q
   -- 7: nothing else is given, and the bytes are too few
-  room : {h : ℕ} → WritableBy h (Open ns ss ds cs v e h) ns ss ds → room < fileLong h (length ns) (points_of ns) → FileWriteRefusal ns ss ds cs v e room Room 0
+  room : {h : ℕ} → WritableBy h (Open ns ss ds cs v e h) ns ss ds → room < file_long h (length ns) (points_of ns) → FileWriteRefusal ns ss ds cs v e room Room 0
 
 -- 0: nothing is given, and so many bytes are written
 pub record FileAccepted (ns : List ℕ) (ss : List Float) (ds cs : List ℤ) (v e room bytes : ℕ) : Type 0 where
   pub header : ℕ
   pub writable : WritableBy header (Open ns ss ds cs v e header) ns ss ds
-  pub held : fileLong header (length ns) (points_of ns) ≤ room
-  pub all : bytes ≡ fileLong header (length ns) (points_of ns)
+  pub held : file_long header (length ns) (points_of ns) ≤ room
+  pub all : bytes ≡ file_long header (length ns) (points_of ns)

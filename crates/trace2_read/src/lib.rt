@@ -6,12 +6,12 @@ ghost use Rattle.std.specs.Prelude.{◌≡◌, [], length, get_or};
 ghost use Rattle.list.specs.List.{Got};
 ghost use Rattle.reader.specs.Read.{leaves, outcome, rooms_of};
 ghost use Rattle.reader.specs.Rest.{ListLeft};
-ghost use Rattle.writer.specs.Write.{firstFault};
-ghost use Rattle.little.specs.Little.{numbersIn};
-ghost use Rattle.trace.specs.Read.{splinesIn, pointsIn, describedIn};
+ghost use Rattle.writer.specs.Write.{first_fault};
+ghost use Rattle.little.specs.Little.{numbers_in};
+ghost use Rattle.trace.specs.Read.{splines_in, points_in, described_in};
 ghost use Rattle.trace_load.specs.Steps.{Loadable};
-ghost use Rattle.trace_read.specs.Steps.{roomsFrom};
-ghost use Rattle.trace2.specs.Read.{wholeChecks2, readFile, answer_of, editionOf, editionTold, fileLeaves, readFileOf};
+ghost use Rattle.trace_read.specs.Steps.{rooms_from};
+ghost use Rattle.trace2.specs.Read.{whole_checks2, read_file, answer_of, edition_of, edition_told, file_leaves, read_file_of};
 ghost use Rattle.trace2_judge.specs.Steps.{Second};
 ghost use Rattle.trace2_read.specs.Steps.{second};
 
@@ -38,7 +38,7 @@ fn says_second(bytes: &[u8]) -> bool
 
 // The ninth number of a file, or 0 where there is none.
 fn ninth(bytes: &[u8]) -> u32
-    ensures { result ≡ get_or (numbersIn bytes.now) 8 0 }
+    ensures { result ≡ get_or (numbers_in bytes.now) 8 0 }
 {
     if 36 <= bytes.len() {
         return number_at(bytes, 8);
@@ -57,7 +57,7 @@ fn judge_whole(
     coefficients: usize,
 ) -> Verdict
     requires { Second bytes.now }
-    ensures { result ≡ firstFault (wholeChecks2 (roomsFrom counts starts deltas coefficients) bytes.now) }
+    ensures { result ≡ first_fault (whole_checks2 (rooms_from counts starts deltas coefficients) bytes.now) }
 {
     match judge_second(bytes) {
         Verdict::Fault(c, place) => Verdict::Fault(c, place),
@@ -82,8 +82,8 @@ fn load(
     deltas: &mut [i32],
     coefficients: &mut [i32],
 ) -> ReadAnswer
-    requires { Loadable bytes.now 9 (splinesIn (numbersIn bytes.now)) (pointsIn (numbersIn bytes.now)) (rooms_of counts.old starts.old deltas.old coefficients.old) }
-    ensures { ListLeft (Got.got (describedIn 9 (numbersIn bytes.now)) []) result counts.old counts.new starts.old starts.new deltas.old deltas.new coefficients.old coefficients.new }
+    requires { Loadable bytes.now 9 (splines_in (numbers_in bytes.now)) (points_in (numbers_in bytes.now)) (rooms_of counts.old starts.old deltas.old coefficients.old) }
+    ensures { ListLeft (Got.got (described_in 9 (numbers_in bytes.now)) []) result counts.old counts.new starts.old starts.new deltas.old deltas.new coefficients.old coefficients.new }
 {
     let s = number_at(bytes, 1);
     let p = number_at(bytes, 2);
@@ -111,7 +111,7 @@ fn read_second(
 ) -> ReadAnswer
     requires { Second bytes.now }
     ensures { leaves result counts.new starts.new deltas.new coefficients.new
-        ≡ outcome (rooms_of counts.old starts.old deltas.old coefficients.old) (readFile (rooms_of counts.old starts.old deltas.old coefficients.old) bytes.now) }
+        ≡ outcome (rooms_of counts.old starts.old deltas.old coefficients.old) (read_file (rooms_of counts.old starts.old deltas.old coefficients.old) bytes.now) }
 {
     wipe(counts, starts, deltas, coefficients);
     match judge_whole(
@@ -128,7 +128,7 @@ fn read_second(
 
 // An answer with the edition of its file.
 fn with_edition(answer: ReadAnswer, edition: u32) -> FileAnswer
-    ensures { (answer_of result ≡ answer) × (editionOf result ≡ editionTold answer edition) }
+    ensures { (answer_of result ≡ answer) × (edition_of result ≡ edition_told answer edition) }
 {
     match answer {
         ReadAnswer::Done(s, p, adjustment) => FileAnswer::Done(s, p, adjustment, edition),
@@ -143,8 +143,8 @@ pub fn trace_read2(
     deltas: &mut [i32],
     coefficients: &mut [i32],
 ) -> FileAnswer
-    ensures { fileLeaves result counts.new starts.new deltas.new coefficients.new
-        ≡ readFileOf (rooms_of counts.old starts.old deltas.old coefficients.old) bytes.now }
+    ensures { file_leaves result counts.new starts.new deltas.new coefficients.new
+        ≡ read_file_of (rooms_of counts.old starts.old deltas.old coefficients.old) bytes.now }
 {
     if says_second(bytes) {
         let edition = ninth(bytes);

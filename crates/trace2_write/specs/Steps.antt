@@ -2,9 +2,9 @@
 use Rattle.std.specs.Prelude.{◌≡◌, Bool, ◌&&◌, List, ℕ, ◌*◌, ◌^◌, ◌≤◌, ◌<◌, eqb, length, ℤ, Float}
 use Rattle.codes.specs.declared.Code.TheVariants.{Coord}
 use Rattle.shape.specs.Shape.{points_of}
-use Rattle.writer.specs.Write.{firstFault}
+use Rattle.writer.specs.Write.{first_fault}
 use Rattle.write_judge.specs.declared.Verdict.TheVariants.{Fine}
-use Rattle.trace.specs.Trace.{startsFrom, coefficientsFrom, numbersOf, numberChecks}
+use Rattle.trace.specs.Trace.{starts_from, coefficients_from, numbers_of, number_checks}
 use Rattle.trace.specs.Write.{misfit}
 
 -- version 1 with its edition
@@ -15,9 +15,9 @@ plain version edition = eqb version 1 && eqb edition 1
 pub record Puttable (counts : List ℕ) (starts : List Float) (deltas coefficients : List ℤ) (room : ℕ) : Type 0 where
   pub few : length counts < 2 ^ 32
   pub fewer : points_of counts < 2 ^ 32
-  pub offsets : 4 * coefficientsFrom 9 (length counts) (points_of counts) < 2 ^ 32
+  pub offsets : 4 * coefficients_from 9 (length counts) (points_of counts) < 2 ^ 32
   pub pairs : length starts ≡ 2 * length counts
   pub points : length deltas ≡ 2 * points_of counts
   pub rows : length coefficients ≡ 128 * length counts
-  pub fit : firstFault (numberChecks misfit Coord (startsFrom 9 (length counts)) starts) ≡ Fine
-  pub held : 4 * numbersOf 9 (length counts) (points_of counts) ≤ room
+  pub fit : first_fault (number_checks misfit Coord (starts_from 9 (length counts)) starts) ≡ Fine
+  pub held : 4 * numbers_of 9 (length counts) (points_of counts) ≤ room

@@ -4,12 +4,12 @@
 
 ghost use Rattle.std.specs.Prelude.{◌≡◌, Bool, [], ◌∷◌, ◌+◌, ◌*◌, ◌≤◌, ◌<◌, ◌^◌, length};
 ghost use Rattle.std.proofs.lemmas.List.Edits.{sets};
-ghost use Rattle.writer.specs.Write.{firstFault, leaves};
+ghost use Rattle.writer.specs.Write.{first_fault, leaves};
 ghost use Rattle.little.specs.Little.{bytes_of};
-ghost use Rattle.trace.specs.Trace.{headerOf};
-ghost use Rattle.trace_put.specs.Steps.{partNumbers};
-ghost use Rattle.trace2.specs.Editions.{version2, headerLong};
-ghost use Rattle.trace2.specs.Write.{barred, writeChecks2, writeFileOf};
+ghost use Rattle.trace.specs.Trace.{header_of};
+ghost use Rattle.trace_put.specs.Steps.{part_numbers};
+ghost use Rattle.trace2.specs.Editions.{version2, header_long};
+ghost use Rattle.trace2.specs.Write.{barred, write_checks2, write_file_of};
 ghost use Rattle.trace2_write.specs.Steps.{plain, Puttable};
 
 use buffers::clear_u8;
@@ -37,7 +37,7 @@ fn barred(version: u32, edition: u32) -> bool
 
 // How many numbers the header of a version has.
 fn header_long(version: u32) -> usize
-    ensures { (result ≡ headerLong version) × (result < 16) }
+    ensures { (result ≡ header_long version) × (result < 16) }
 {
     if version == 2 { 9 } else { 8 }
 }
@@ -51,7 +51,7 @@ fn judge_file(
     version: u32,
     edition: u32,
 ) -> Verdict
-    ensures { result ≡ firstFault (writeChecks2 version edition counts.now starts.now deltas.now coefficients.now) }
+    ensures { result ≡ first_fault (write_checks2 version edition counts.now starts.now deltas.now coefficients.now) }
 {
     if !shape_good(counts, starts, deltas, coefficients) {
         return Verdict::Fault(Code::Shape, 0);
@@ -70,7 +70,7 @@ fn judge_file(
 // The header of version 2, for s splines and p points.
 fn put_header(bytes: &mut [u8], s: u32, p: u32, adjustment: i32, edition: u32)
     requires { (36 ≤ length bytes.old) × (4 * (9 + (3 * s + 2 * p)) < 2 ^ 32) }
-    ensures { bytes.new ≡ sets bytes.old 0 (bytes_of (headerOf version2 (edition ∷ []) s p adjustment)) }
+    ensures { bytes.new ≡ sets bytes.old 0 (bytes_of (header_of version2 (edition ∷ []) s p adjustment)) }
 {
     let starts = 4 * (9 + s);
     let deltas = 4 * (9 + 3 * s);
@@ -92,7 +92,7 @@ fn put_header(bytes: &mut [u8], s: u32, p: u32, adjustment: i32, edition: u32)
 // What follows the header.
 fn put_parts(counts: &[u32], starts: &[f32], deltas: &[i32], coefficients: &[i32], bytes: &mut [u8])
     requires { Puttable counts.now starts.now deltas.now coefficients.now (length bytes.old) }
-    ensures { bytes.new ≡ sets bytes.old 36 (bytes_of (partNumbers counts.now starts.now deltas.now coefficients.now)) }
+    ensures { bytes.new ≡ sets bytes.old 36 (bytes_of (part_numbers counts.now starts.now deltas.now coefficients.now)) }
 {
     let s = counts.len();
     let from = 9 + (3 * s + deltas.len());
@@ -115,7 +115,7 @@ fn write_second(
 ) -> WriteAnswer
     requires { plain version edition ≡ Bool.false }
     ensures { leaves result bytes.new
-        ≡ writeFileOf counts.now starts.now deltas.now coefficients.now adjustment version edition (length bytes.old) }
+        ≡ write_file_of counts.now starts.now deltas.now coefficients.now adjustment version edition (length bytes.old) }
 {
     clear_u8(bytes);
     match judge_file(counts, starts, deltas, coefficients, version, edition) {
@@ -152,7 +152,7 @@ pub fn trace_write2(
     bytes: &mut [u8],
 ) -> WriteAnswer
     ensures { leaves result bytes.new
-        ≡ writeFileOf counts.now starts.now deltas.now coefficients.now adjustment version edition (length bytes.old) }
+        ≡ write_file_of counts.now starts.now deltas.now coefficients.now adjustment version edition (length bytes.old) }
 {
     if is_plain(version, edition) {
         trace_write(counts, starts, deltas, coefficients, adjustment, bytes)

@@ -15,13 +15,13 @@ use borrow.Author.Tests.{lt-ltb, le-ltb, lt-leb, le-leb, ltb-true, ltb-false, le
 use Rattle.codes.specs.declared.Code.{Code}
 use Rattle.codes.specs.declared.Code.TheVariants.{Coord, Delta, Shape, Header}
 use Rattle.shape.specs.Shape.{points_of, shaped}
-use Rattle.shape.proofs.Shape.{shaped-is}
-use Rattle.list.specs.List.{posLimit}
-use Rattle.writer.specs.Write.{Check, check, firstFault, misshapen, unfit}
+use Rattle.shape.proofs.Shape.{shaped_is}
+use Rattle.list.specs.List.{pos_limit}
+use Rattle.writer.specs.Write.{Check, check, first_fault, misshapen, unfit}
 use Rattle.write_judge.specs.declared.Verdict.TheVariants.{Fine, Fault}
-use Rattle.write_judge.proofs.Checks.{fails, passes, passed, faults-before, fine_before}
-use Rattle.trace.specs.Trace.{startsFrom, deltasFrom, coefficientsFrom, wild, numberChecks}
-use Rattle.trace.specs.Write.{misfit, unheld, headerChecks, valueChecks, writeChecks}
+use Rattle.write_judge.proofs.Checks.{fails, passes, passed, faults_before, fine_before}
+use Rattle.trace.specs.Trace.{starts_from, deltas_from, coefficients_from, wild, number_checks}
+use Rattle.trace.specs.Write.{misfit, unheld, header_checks, value_checks, write_checks}
 
 -- ---- starts
 
@@ -31,11 +31,11 @@ both true b e = (refl, e)
 both false b e = absurd (subst T (sym e) tt)
 
 -- -2^23 itself
-pub start-least : (x : Float) → eq x (fin true 1 (pos 23)) ≡ true → false ≡ misfit x
+pub start_least : (x : Float) → eq x (fin true 1 (pos 23)) ≡ true → false ≡ misfit x
 unfolding eq misfit
-start-least nan e = absurd (subst T (sym e) tt)
-start-least (inf s) e = absurd (subst T (sym e) tt)
-start-least (fin s m e) h =
+start_least nan e = absurd (subst T (sym e) tt)
+start_least (inf s) e = absurd (subst T (sym e) tt)
+start_least (fin s m e) h =
     let b = both (eqb (m * up e * 1) (8388608 * down e)) (beq s true || eqb (m * up e * 1) 0) h in
     let is : m * up e ≡ 2 ^ 23 * down e = sym (mul-one (m * up e)) ∙ eqb-true (m * up e * 1) (8388608 * down e) b.0 in
     let k = down_pos e in
@@ -48,20 +48,20 @@ start-least (fin s m e) h =
     plain (suc m) h = ne_eqb (suc m) 0 (λ z. omega arith)
 
     go : (s : Bool) (m : ℕ) → m * up e ≡ 2 ^ 23 * down e → m * up e % down e ≡ 0 → 0 < m * up e → (beq s true || eqb (m * up e * 1) 0) ≡ true
-        → false ≡ (cond s (ltb (posLimit * down e) (m * up e)) (leb (posLimit * down e) (m * up e)) || (not (eqb (m * up e % down e) 0) || (s && eqb m 0)))
+        → false ≡ (cond s (ltb (pos_limit * down e) (m * up e)) (leb (pos_limit * down e) (m * up e)) || (not (eqb (m * up e % down e) 0) || (s && eqb m 0)))
     go true m is r some h = sym (rw (le-ltb (2 ^ 23 * down e) (m * up e) (omega arith), eq-eqb (m * up e % down e) 0 r) (plain m some))
     go false m is r some h = let z = eqb-true (m * up e * 1) 0 h in absurd (omega (arith, mul-one (m * up e)))
 
 -- any other number
-pub start-other : (x : Float) → eq x (fin true 1 (pos 23)) ≡ false → unfit x ≡ misfit x
+pub start_other : (x : Float) → eq x (fin true 1 (pos 23)) ≡ false → unfit x ≡ misfit x
 unfolding eq misfit unfit
-start-other nan e = refl
-start-other (inf s) e = refl
-start-other (fin false m e) h = refl
-start-other (fin true m e) h = ap (λ (t : Bool). t || (not (eqb (m * up e % down e) 0) || (true && eqb m 0))) (go (eqb (m * up e * 1) (8388608 * down e)) refl h)
+start_other nan e = refl
+start_other (inf s) e = refl
+start_other (fin false m e) h = refl
+start_other (fin true m e) h = ap (λ (t : Bool). t || (not (eqb (m * up e % down e) 0) || (true && eqb m 0))) (go (eqb (m * up e * 1) (8388608 * down e)) refl h)
   where
     go : (t : Bool) → eqb (m * up e * 1) (8388608 * down e) ≡ t → (t && (beq true true || eqb (m * up e * 1) 0)) ≡ false
-        → leb (posLimit * down e) (m * up e) ≡ ltb (posLimit * down e) (m * up e)
+        → leb (pos_limit * down e) (m * up e) ≡ ltb (pos_limit * down e) (m * up e)
     go true q h = absurd (subst T h tt)
     go false q h = by (ltb (2 ^ 23 * down e) (m * up e)) refl
       where
@@ -74,90 +74,90 @@ start-other (fin true m e) h = ap (λ (t : Bool). t || (not (eqb (m * up e % dow
 -- ---- the header
 
 module _ (h s p : ℕ) where
-  pub many-splines : 4294967296 ≤ s → Fault Header 4 ≡ firstFault (headerChecks h s p)
-  unfolding headerChecks
-  many-splines e = sym (fails _ Header 4 _ (le-leb (2 ^ 32) s e))
+  pub many_splines : 4294967296 ≤ s → Fault Header 4 ≡ first_fault (header_checks h s p)
+  unfolding header_checks
+  many_splines e = sym (fails _ Header 4 _ (le-leb (2 ^ 32) s e))
 
   module _ (a : s < 4294967296) where
-    pub many-points : 4294967296 ≤ p → Fault Header 8 ≡ firstFault (headerChecks h s p)
-    unfolding headerChecks
-    many-points e = sym (passes _ Header 4 _ (lt-leb (2 ^ 32) s a) ∙ fails _ Header 8 _ (le-leb (2 ^ 32) p e))
+    pub many_points : 4294967296 ≤ p → Fault Header 8 ≡ first_fault (header_checks h s p)
+    unfolding header_checks
+    many_points e = sym (passes _ Header 4 _ (lt-leb (2 ^ 32) s a) ∙ fails _ Header 8 _ (le-leb (2 ^ 32) p e))
 
     module _ (b : p < 4294967296) (few : h < 16) where
-      after : firstFault (headerChecks h s p)
-          ≡ firstFault (check (unheld (4 * startsFrom h s)) Header 20 ∷ check (unheld (4 * deltasFrom h s)) Header 24 ∷ check (unheld (4 * coefficientsFrom h s p)) Header 28 ∷ [])
-      unfolding headerChecks
+      after : first_fault (header_checks h s p)
+          ≡ first_fault (check (unheld (4 * starts_from h s)) Header 20 ∷ check (unheld (4 * deltas_from h s)) Header 24 ∷ check (unheld (4 * coefficients_from h s p)) Header 28 ∷ [])
+      unfolding header_checks
       after = passes _ Header 4 _ (lt-leb (2 ^ 32) s a) ∙ passes _ Header 8 _ (lt-leb (2 ^ 32) p b) ∙ passes _ Header 16 _ (lt-leb (2 ^ 32) (4 * h) (omega arith))
 
-      pub far-starts : 4294967296 ≤ 4 * startsFrom h s → Fault Header 20 ≡ firstFault (headerChecks h s p)
-      far-starts e = sym (after ∙ fails _ Header 20 _ (le-leb (2 ^ 32) (4 * startsFrom h s) e))
+      pub far_starts : 4294967296 ≤ 4 * starts_from h s → Fault Header 20 ≡ first_fault (header_checks h s p)
+      far_starts e = sym (after ∙ fails _ Header 20 _ (le-leb (2 ^ 32) (4 * starts_from h s) e))
 
-      module _ (c : 4 * startsFrom h s < 4294967296) where
-        pub far-deltas : 4294967296 ≤ 4 * deltasFrom h s → Fault Header 24 ≡ firstFault (headerChecks h s p)
-        far-deltas e = sym (after ∙ passes _ Header 20 _ (lt-leb (2 ^ 32) (4 * startsFrom h s) c) ∙ fails _ Header 24 _ (le-leb (2 ^ 32) (4 * deltasFrom h s) e))
+      module _ (c : 4 * starts_from h s < 4294967296) where
+        pub far_deltas : 4294967296 ≤ 4 * deltas_from h s → Fault Header 24 ≡ first_fault (header_checks h s p)
+        far_deltas e = sym (after ∙ passes _ Header 20 _ (lt-leb (2 ^ 32) (4 * starts_from h s) c) ∙ fails _ Header 24 _ (le-leb (2 ^ 32) (4 * deltas_from h s) e))
 
-        module _ (d : 4 * deltasFrom h s < 4294967296) where
-          last : firstFault (headerChecks h s p) ≡ firstFault (check (unheld (4 * coefficientsFrom h s p)) Header 28 ∷ [])
-          last = after ∙ passes _ Header 20 _ (lt-leb (2 ^ 32) (4 * startsFrom h s) c) ∙ passes _ Header 24 _ (lt-leb (2 ^ 32) (4 * deltasFrom h s) d)
+        module _ (d : 4 * deltas_from h s < 4294967296) where
+          last : first_fault (header_checks h s p) ≡ first_fault (check (unheld (4 * coefficients_from h s p)) Header 28 ∷ [])
+          last = after ∙ passes _ Header 20 _ (lt-leb (2 ^ 32) (4 * starts_from h s) c) ∙ passes _ Header 24 _ (lt-leb (2 ^ 32) (4 * deltas_from h s) d)
 
-          pub far-coefficients : 4294967296 ≤ 4 * coefficientsFrom h s p → Fault Header 28 ≡ firstFault (headerChecks h s p)
-          far-coefficients e = sym (last ∙ fails _ Header 28 _ (le-leb (2 ^ 32) (4 * coefficientsFrom h s p) e))
+          pub far_coefficients : 4294967296 ≤ 4 * coefficients_from h s p → Fault Header 28 ≡ first_fault (header_checks h s p)
+          far_coefficients e = sym (last ∙ fails _ Header 28 _ (le-leb (2 ^ 32) (4 * coefficients_from h s p) e))
 
-          pub header-fine : 4 * coefficientsFrom h s p < 4294967296 → Fine ≡ firstFault (headerChecks h s p)
-          unfolding firstFault
-          header-fine e = sym (last ∙ rw (lt-leb (2 ^ 32) (4 * coefficientsFrom h s p) e))
+          pub header_fine : 4 * coefficients_from h s p < 4294967296 → Fine ≡ first_fault (header_checks h s p)
+          unfolding first_fault
+          header_fine e = sym (last ∙ rw (lt-leb (2 ^ 32) (4 * coefficients_from h s p) e))
 
   -- no fault: the counts are below 2^32, and so is the last offset
-  pub header-held : firstFault (headerChecks h s p) ≡ Fine → (s < 2 ^ 32) × (p < 2 ^ 32) × (4 * coefficientsFrom h s p < 2 ^ 32)
-  unfolding headerChecks
-  header-held e =
+  pub header_held : first_fault (header_checks h s p) ≡ Fine → (s < 2 ^ 32) × (p < 2 ^ 32) × (4 * coefficients_from h s p < 2 ^ 32)
+  unfolding header_checks
+  header_held e =
       let a = passed _ Header 4 _ e in
       let b = passed _ Header 8 _ a.1 in
       let c = passed _ Header 16 _ b.1 in
       let d = passed _ Header 20 _ c.1 in
       let f = passed _ Header 24 _ d.1 in
       let g = passed _ Header 28 [] f.1 in
-      (leb-false (2 ^ 32) s a.0, leb-false (2 ^ 32) p b.0, leb-false (2 ^ 32) (4 * coefficientsFrom h s p) g.0)
+      (leb-false (2 ^ 32) s a.0, leb-false (2 ^ 32) p b.0, leb-false (2 ^ 32) (4 * coefficients_from h s p) g.0)
 
 -- ---- the checks one after the other
 
 module _ (h s : ℕ) (ss : List Float) (ds : List ℤ) where
   abbrev Starts : List Check
-  Starts = numberChecks misfit Coord (startsFrom h s) ss
+  Starts = number_checks misfit Coord (starts_from h s) ss
 
-  pub values-start : (c : Code) (q : ℕ) → firstFault Starts ≡ Fault c q → Fault c q ≡ firstFault (valueChecks h s ss ds)
-  unfolding valueChecks
-  values-start c q e = sym (faults-before Starts _ c q e)
+  pub values_start : (c : Code) (q : ℕ) → first_fault Starts ≡ Fault c q → Fault c q ≡ first_fault (value_checks h s ss ds)
+  unfolding value_checks
+  values_start c q e = sym (faults_before Starts _ c q e)
 
-  pub values-rest : firstFault Starts ≡ Fine → firstFault (numberChecks wild Delta (deltasFrom h s) ds) ≡ firstFault (valueChecks h s ss ds)
-  unfolding valueChecks
-  values-rest e = sym (fine_before Starts _ e)
+  pub values_rest : first_fault Starts ≡ Fine → first_fault (number_checks wild Delta (deltas_from h s) ds) ≡ first_fault (value_checks h s ss ds)
+  unfolding value_checks
+  values_rest e = sym (fine_before Starts _ e)
 
 module _ (h : ℕ) (ns : List ℕ) (ss : List Float) (ds cs : List ℤ) where
-  pub judge-shape : shaped ns ss ds cs ≡ false → Fault Shape 0 ≡ firstFault (writeChecks h ns ss ds cs)
-  unfolding writeChecks misshapen
-  judge-shape e = sym (fails _ Shape 0 _ (rw e))
+  pub judge_shape : shaped ns ss ds cs ≡ false → Fault Shape 0 ≡ first_fault (write_checks h ns ss ds cs)
+  unfolding write_checks misshapen
+  judge_shape e = sym (fails _ Shape 0 _ (rw e))
 
   module _ (good : shaped ns ss ds cs ≡ true) where
     -- half the double deltas are the points
     pub half : length ds / 2 ≡ points_of ns
-    half = omega (arith, (shaped-is ns ss ds cs good).deltas)
+    half = omega (arith, (shaped_is ns ss ds cs good).deltas)
 
-    after-shape : firstFault (writeChecks h ns ss ds cs) ≡ firstFault (headerChecks h (length ns) (points_of ns) ++ valueChecks h (length ns) ss ds)
-    unfolding writeChecks misshapen
-    after-shape = passes _ Shape 0 _ (rw good)
+    after_shape : first_fault (write_checks h ns ss ds cs) ≡ first_fault (header_checks h (length ns) (points_of ns) ++ value_checks h (length ns) ss ds)
+    unfolding write_checks misshapen
+    after_shape = passes _ Shape 0 _ (rw good)
 
-    pub judge-head : (c : Code) (q : ℕ) → firstFault (headerChecks h (length ns) (length ds / 2)) ≡ Fault c q → Fault c q ≡ firstFault (writeChecks h ns ss ds cs)
-    judge-head c q e = sym (after-shape ∙ faults-before (headerChecks h (length ns) (points_of ns)) _ c q (rw half at e))
+    pub judge_head : (c : Code) (q : ℕ) → first_fault (header_checks h (length ns) (length ds / 2)) ≡ Fault c q → Fault c q ≡ first_fault (write_checks h ns ss ds cs)
+    judge_head c q e = sym (after_shape ∙ faults_before (header_checks h (length ns) (points_of ns)) _ c q (rw half at e))
 
-    pub judge-rest : firstFault (headerChecks h (length ns) (length ds / 2)) ≡ Fine → firstFault (valueChecks h (length ns) ss ds) ≡ firstFault (writeChecks h ns ss ds cs)
-    judge-rest e = sym (after-shape ∙ fine_before (headerChecks h (length ns) (points_of ns)) _ (rw half at e))
+    pub judge_rest : first_fault (header_checks h (length ns) (length ds / 2)) ≡ Fine → first_fault (value_checks h (length ns) ss ds) ≡ first_fault (write_checks h ns ss ds cs)
+    judge_rest e = sym (after_shape ∙ fine_before (header_checks h (length ns) (points_of ns)) _ (rw half at e))
 
     -- the lengths that are looked at are small
-    pub few : firstFault (headerChecks h (length ns) (length ds / 2)) ≡ Fine → (length ns < 2 ^ 32) × (length ss < 2 ^ 40) × (length ds < 2 ^ 40)
+    pub few : first_fault (header_checks h (length ns) (length ds / 2)) ≡ Fine → (length ns < 2 ^ 32) × (length ss < 2 ^ 40) × (length ds < 2 ^ 40)
     few e =
-        let g = header-held h (length ns) (length ds / 2) e in
-        let k = shaped-is ns ss ds cs good in
+        let g = header_held h (length ns) (length ds / 2) e in
+        let k = shaped_is ns ss ds cs good in
         (g.0, omega (arith, k.starts, g.0), omega (arith, k.deltas, half, g.1))
 
 -- Assumes nothing.

@@ -4,9 +4,9 @@
 
 ghost use Rattle.std.specs.Prelude.{◌≡◌, ◌+◌, ◌*◌, ◌≤◌, ◌<◌, ◌^◌, length};
 ghost use Rattle.codes.specs.declared.Code.{Code};
-ghost use Rattle.writer.specs.Write.{firstFault};
-ghost use Rattle.trace.specs.Trace.{wild, numberChecks};
-ghost use Rattle.trace.specs.Write.{misfit, headerChecks, valueChecks, writeChecks};
+ghost use Rattle.writer.specs.Write.{first_fault};
+ghost use Rattle.trace.specs.Trace.{wild, number_checks};
+ghost use Rattle.trace.specs.Write.{misfit, header_checks, value_checks, write_checks};
 
 use codes::Code;
 use shape::shape_good;
@@ -26,7 +26,7 @@ pub fn no_start(x: f32) -> bool
 // The first count or offset that 32 bits cannot hold: once the counts are below 2^32, no offset wraps.
 pub fn judge_header(h: usize, s: usize, p: usize) -> Verdict
     requires { h < 16 }
-    ensures { result ≡ firstFault (headerChecks h s p) }
+    ensures { result ≡ first_fault (header_checks h s p) }
 {
     if 4294967296 <= s {
         return Verdict::Fault(Code::Header, 4);
@@ -48,7 +48,7 @@ pub fn judge_header(h: usize, s: usize, p: usize) -> Verdict
 
 fn judge_starts(starts: &[f32], from: usize) -> Verdict
     requires { from + length starts.now < 2 ^ 60 }
-    ensures { result ≡ firstFault (numberChecks misfit Code.Coord from starts.now) }
+    ensures { result ≡ first_fault (number_checks misfit Code.Coord from starts.now) }
 {
     let mut i = 0;
     while i < starts.len() {
@@ -62,7 +62,7 @@ fn judge_starts(starts: &[f32], from: usize) -> Verdict
 
 fn judge_deltas(deltas: &[i32], from: usize) -> Verdict
     requires { from + length deltas.now < 2 ^ 60 }
-    ensures { result ≡ firstFault (numberChecks wild Code.Delta from deltas.now) }
+    ensures { result ≡ first_fault (number_checks wild Code.Delta from deltas.now) }
 {
     let mut i = 0;
     while i < deltas.len() {
@@ -76,7 +76,7 @@ fn judge_deltas(deltas: &[i32], from: usize) -> Verdict
 
 pub fn judge_values(starts: &[f32], deltas: &[i32], h: usize, s: usize) -> Verdict
     requires { (h < 16) × (s < 2 ^ 32) × (length starts.now < 2 ^ 40) × (length deltas.now < 2 ^ 40) }
-    ensures { result ≡ firstFault (valueChecks h s starts.now deltas.now) }
+    ensures { result ≡ first_fault (value_checks h s starts.now deltas.now) }
 {
     match judge_starts(starts, h + s) {
         Verdict::Fault(c, place) => Verdict::Fault(c, place),
@@ -93,7 +93,7 @@ pub fn judge(
     h: usize,
 ) -> Verdict
     requires { h < 16 }
-    ensures { result ≡ firstFault (writeChecks h counts.now starts.now deltas.now coefficients.now) }
+    ensures { result ≡ first_fault (write_checks h counts.now starts.now deltas.now coefficients.now) }
 {
     if !shape_good(counts, starts, deltas, coefficients) {
         return Verdict::Fault(Code::Shape, 0);

@@ -3,10 +3,10 @@
 #![tactic(auto)]
 
 ghost use Rattle.std.specs.Prelude.{◌≡◌, not, ◌+◌, ◌*◌, ◌≤◌, eqb, length, get_or};
-ghost use Rattle.writer.specs.Write.{firstFault};
-ghost use Rattle.little.specs.Little.{numbersIn};
+ghost use Rattle.writer.specs.Write.{first_fault};
+ghost use Rattle.little.specs.Little.{numbers_in};
 ghost use Rattle.trace.specs.Trace.{version1};
-ghost use Rattle.trace.specs.Read.{offsetChecks, lengthChecks, bodyChecks, readChecks};
+ghost use Rattle.trace.specs.Read.{offset_checks, length_checks, body_checks, read_checks};
 ghost use Rattle.trace_judge.specs.Counted.{Counted};
 
 use codes::Code;
@@ -19,7 +19,7 @@ use write_judge::Verdict;
 // Whether the number of index i is not the one that is due there, which may be too large for any.
 fn wrong(bytes: &[u8], i: usize, due: usize) -> bool
     requires { 4 * i + 4 ≤ length bytes.now }
-    ensures { result ≡ not (eqb (get_or (numbersIn bytes.now) i 0) due) }
+    ensures { result ≡ not (eqb (get_or (numbers_in bytes.now) i 0) due) }
 {
     number_at(bytes, i) as usize != due
 }
@@ -29,7 +29,7 @@ fn wrong(bytes: &[u8], i: usize, due: usize) -> bool
 // The first wrong offset of the parts.
 pub fn judge_offsets(bytes: &[u8], h: usize, s: usize, p: usize) -> Verdict
     requires { Counted bytes.now h s p }
-    ensures { result ≡ firstFault (offsetChecks h (numbersIn bytes.now)) }
+    ensures { result ≡ first_fault (offset_checks h (numbers_in bytes.now)) }
 {
     if wrong(bytes, 4, 4 * h) {
         return Verdict::Fault(Code::Header, 16);
@@ -48,7 +48,7 @@ pub fn judge_offsets(bytes: &[u8], h: usize, s: usize, p: usize) -> Verdict
 
 // Whether a file is too short or too long.
 fn judge_length(size: usize, due: usize) -> Verdict
-    ensures { result ≡ firstFault (lengthChecks size due) }
+    ensures { result ≡ first_fault (length_checks size due) }
 {
     if size < due {
         return Verdict::Fault(Code::Short, size);
@@ -62,7 +62,7 @@ fn judge_length(size: usize, due: usize) -> Verdict
 // The first fault behind the header.
 pub fn judge_body(bytes: &[u8], h: usize, s: usize, p: usize) -> Verdict
     requires { Counted bytes.now h s p }
-    ensures { result ≡ firstFault (bodyChecks h (length bytes.now) (numbersIn bytes.now)) }
+    ensures { result ≡ first_fault (body_checks h (length bytes.now) (numbers_in bytes.now)) }
 {
     match judge_length(bytes.len(), 4 * (h + (131 * s + 2 * p))) {
         Verdict::Fault(c, place) => Verdict::Fault(c, place),
@@ -72,7 +72,7 @@ pub fn judge_body(bytes: &[u8], h: usize, s: usize, p: usize) -> Verdict
 
 // The first fault of a file of version 1, but for the room.
 pub fn judge(bytes: &[u8]) -> Verdict
-    ensures { result ≡ firstFault (readChecks version1 (length bytes.now) (numbersIn bytes.now)) }
+    ensures { result ≡ first_fault (read_checks version1 (length bytes.now) (numbers_in bytes.now)) }
 {
     if bytes.len() < 32 {
         return Verdict::Fault(Code::Short, bytes.len());

@@ -13,8 +13,8 @@ behind : (zs : List ℤ) (z : ℤ) → Signeds zs → mag z < 2 ^ 31 → Signeds
 behind [] z s h = (h, tt)
 behind (y ∷ zs) z s h = (s.0, behind zs z s.1 h)
 
-pub signed-more : (zs : List ℤ) (i : ℕ) → i < length zs → Signeds (take i zs) → mag (get_or zs i (pos 0)) < 2 ^ 31 → Signeds (take (i + 1) zs)
-signed-more zs i h s m = rw (add-one, take-suc zs i (pos 0) h) (behind (take i zs) (get_or zs i (pos 0)) s m)
+pub signed_more : (zs : List ℤ) (i : ℕ) → i < length zs → Signeds (take i zs) → mag (get_or zs i (pos 0)) < 2 ^ 31 → Signeds (take (i + 1) zs)
+signed_more zs i h s m = rw (add-one, take-suc zs i (pos 0) h) (behind (take i zs) (get_or zs i (pos 0)) s m)
 
 pub signed_all : (zs : List ℤ) (i : ℕ) → length zs ≤ i → Signeds (take i zs) → Signeds zs
 signed_all zs i h s = subst Signeds (take_all i zs h) s

@@ -7,40 +7,40 @@ use lib.ListN.{replicate}
 use lib.IntN.{ℤ, pos, negsuc}
 use lib.Ieee.{Float, fin, binary32, of_int, round}
 use Rattle.list.specs.List.{Got, got, Described, described}
-use Rattle.list.specs.Steps.{f32Of}
+use Rattle.list.specs.Steps.{f32_of}
 use Rattle.reader.specs.Read.{leaves}
 use Rattle.read_list.specs.declared.ReadAnswer.{ReadAnswer}
-use Rattle.writer.specs.Write.{firstFault}
-use Rattle.little.specs.Little.{bytes_of, numbersIn}
-use Rattle.trace.specs.Trace.{version1, fileOf, numberChecks}
-use Rattle.trace.specs.Read.{versionChecks, offsetChecks, lengthChecks, misplaced, tooWild, partChecks, bodyChecks, readChecks, tight, wholeChecks, describedIn, readTrace, readTraceOf}
-use Rattle.trace_laws.specs.Small.{smallHeader, smallFile, smallRooms}
+use Rattle.writer.specs.Write.{first_fault}
+use Rattle.little.specs.Little.{bytes_of, numbers_in}
+use Rattle.trace.specs.Trace.{version1, file_of, number_checks}
+use Rattle.trace.specs.Read.{version_checks, offset_checks, length_checks, misplaced, too_wild, part_checks, body_checks, read_checks, tight, whole_checks, described_in, read_trace, read_trace_of}
+use Rattle.trace_laws.specs.Small.{small_header, small_file, small_rooms}
 
-abbrev smallWhole : Described
-smallWhole = described (negsuc 7) (negsuc 2 ∷ negsuc 8388607 ∷ []) (0 ∷ []) [] (replicate 128 (pos 0))
+abbrev small_whole : Described
+small_whole = described (negsuc 7) (negsuc 2 ∷ negsuc 8388607 ∷ []) (0 ∷ []) [] (replicate 128 (pos 0))
 
 -- it is read: adjustment -8, start -3 and -8388608
-pub small-read : readTrace smallRooms smallFile ≡ got smallWhole []
-unfolding readTrace wholeChecks readChecks versionChecks offsetChecks bodyChecks lengthChecks partChecks misplaced tooWild numberChecks tight describedIn firstFault numbersIn
-small-read = refl
+pub small_read : read_trace small_rooms small_file ≡ got small_whole []
+unfolding read_trace whole_checks read_checks version_checks offset_checks body_checks length_checks part_checks misplaced too_wild number_checks tight described_in first_fault numbers_in
+small_read = refl
 
 -- it is the file of what it says
-pub small-written : fileOf version1 [] smallWhole ≡ smallFile
-unfolding fileOf bytes_of
-small-written = refl
+pub small_written : file_of version1 [] small_whole ≡ small_file
+unfolding file_of bytes_of
+small_written = refl
 
 -- as f32
-pub start-minus-3 : f32Of (negsuc 2) ≡ fin true 3 (pos 0)
-unfolding f32Of of_int round
-start-minus-3 = refl
+pub start_minus_3 : f32_of (negsuc 2) ≡ fin true 3 (pos 0)
+unfolding f32_of of_int round
+start_minus_3 = refl
 
-pub start-least : f32Of (negsuc 8388607) ≡ fin true 1 (pos 23)
-unfolding f32Of of_int round
-start-least = refl
+pub start_least : f32_of (negsuc 8388607) ≡ fin true 1 (pos 23)
+unfolding f32_of of_int round
+start_least = refl
 
 -- all of what the call leaves
-pub small-outcome : readTraceOf smallRooms smallFile ≡ leaves (ReadAnswer.Done 1 0 (negsuc 7)) (0 ∷ []) (fin true 3 (pos 0) ∷ fin true 1 (pos 23) ∷ []) [] (replicate 128 (pos 0))
-unfolding readTraceOf
-small-outcome = rw (small-read, start-minus-3, start-least)
+pub small_outcome : read_trace_of small_rooms small_file ≡ leaves (ReadAnswer.Done 1 0 (negsuc 7)) (0 ∷ []) (fin true 3 (pos 0) ∷ fin true 1 (pos 23) ∷ []) [] (replicate 128 (pos 0))
+unfolding read_trace_of
+small_outcome = rw (small_read, start_minus_3, start_least)
 
 -- Assumes nothing.

@@ -15,29 +15,29 @@ use Rattle.buffers.specs.Padded.{padded}
 use Rattle.codes.specs.declared.Code.TheVariants.{Room}
 use Rattle.shape.specs.Shape.{points_of}
 use Rattle.list.specs.List.{ListRooms, Got, got, stop, Described, described}
-use Rattle.list.specs.Steps.{f32Of, zeroF32}
+use Rattle.list.specs.Steps.{f32_of, zero_f32}
 use Rattle.reader.specs.Read.{ReadOutcome}
 use Rattle.reader.specs.Read as reading
 use Rattle.read_list.specs.declared.ReadAnswer.{ReadAnswer}
-use Rattle.writer.specs.Write.{Check, check, firstFault, whole_of, WriteOutcome, leaves, outcome}
+use Rattle.writer.specs.Write.{Check, check, first_fault, whole_of, WriteOutcome, leaves, outcome}
 use Rattle.write_judge.specs.declared.Verdict.{Verdict}
 use Rattle.write_judge.specs.declared.Verdict.TheVariants.{Fine, Fault}
 use Rattle.writer.specs.declared.WriteAnswer.{WriteAnswer}
-use Rattle.write_judge.proofs.Checks.{passes, fine_before, both-fine}
+use Rattle.write_judge.proofs.Checks.{passes, fine_before, both_fine}
 use Rattle.write_laws.specs.Floats.{Floats}
 use Rattle.roundtrip.specs.Enough.{Enough}
-use Rattle.little.specs.Little.{numbersIn, signedIn, Bytes, Numbers, Signeds}
-use Rattle.trace.specs.Trace.{version1, numbersOf, fileOf}
-use Rattle.trace.specs.Read.{wholeChecks, describedIn, readTrace, readTraceOf}
-use Rattle.trace.specs.Write.{writeChecks, writeTraceOf}
-use Rattle.trace_read.proofs.Loads.{judged-fine, judged-fault}
-use Rattle.trace_write.proofs.Puts.{judged, file-size}
-use Rattle.trace_laws.proofs.Back.{starts-back, file-is-read, nsIn, zsIn, dsIn, csIn, again-fine, taken, found_first}
+use Rattle.little.specs.Little.{numbers_in, signed_in, Bytes, Numbers, Signeds}
+use Rattle.trace.specs.Trace.{version1, numbers_of, file_of}
+use Rattle.trace.specs.Read.{whole_checks, described_in, read_trace, read_trace_of}
+use Rattle.trace.specs.Write.{write_checks, write_trace_of}
+use Rattle.trace_read.proofs.Loads.{judged_fine, judged_fault}
+use Rattle.trace_write.proofs.Puts.{judged, file_size_lem}
+use Rattle.trace_laws.proofs.Back.{starts_back, file_is_read, ns_in, zs_in, ds_in, cs_in, again_fine, taken, found_first}
 
 -- ---- what an accepted call leaves, by the checks of its content, its file, and how long that is
 
 pub record Left (content : List Check) (file : List ℕ) (room n : ℕ) (bytes : List ℕ) : Type 0 where
-  pub fine : firstFault content ≡ Fine
+  pub fine : first_fault content ≡ Fine
   pub size : n ≡ length file
   pub is : bytes ≡ file ++ replicate (room - n) 0
 
@@ -46,102 +46,102 @@ module _ (content : List Check) (file : List ℕ) (due room : ℕ) where
   Last = check (ltb room due) Room 0 ∷ []
 
   -- an answer of success tells all
-  pub done-left : (o : WriteOutcome) (n : ℕ) → o ≡ outcome room file (firstFault (content ++ Last)) → o.answer ≡ WriteAnswer.Done n → Left content file room n o.list
-  done-left o n p e = go (firstFault (content ++ Last)) refl (sym (ap (λ (u : WriteOutcome). u.answer) p) ∙ e) (ap (λ (u : WriteOutcome). u.list) p)
+  pub done_left : (o : WriteOutcome) (n : ℕ) → o ≡ outcome room file (first_fault (content ++ Last)) → o.answer ≡ WriteAnswer.Done n → Left content file room n o.list
+  done_left o n p e = go (first_fault (content ++ Last)) refl (sym (ap (λ (u : WriteOutcome). u.answer) p) ∙ e) (ap (λ (u : WriteOutcome). u.list) p)
     where
-      go : (v : Verdict) → firstFault (content ++ Last) ≡ v → (outcome room file v).answer ≡ WriteAnswer.Done n → o.list ≡ (outcome room file v).list
+      go : (v : Verdict) → first_fault (content ++ Last) ≡ v → (outcome room file v).answer ≡ WriteAnswer.Done n → o.list ≡ (outcome room file v).list
           → Left content file room n o.list
       go (Fault c q) f e l = let z : ◌≡◌ {A = ℕ} 0 1 = cc in absurd (omega arith)
       go Fine f e l =
           let k : length file ≡ n = cc in
-          record { fine = (both-fine content Last f).0; size = sym k; is = l ∙ ap (λ (m : ℕ). file ++ replicate (room - m) 0) k }
+          record { fine = (both_fine content Last f).0; size = sym k; is = l ∙ ap (λ (m : ℕ). file ++ replicate (room - m) 0) k }
 
   -- what is accepted, with room for its file
-  pub accepted-left : firstFault content ≡ Fine → length file ≡ due → due ≤ room
-      → outcome room file (firstFault (content ++ Last)) ≡ leaves (WriteAnswer.Done (length file)) (file ++ replicate (room - length file) 0)
-  unfolding firstFault
-  accepted-left f size h = rw (fine_before content Last f, passes (ltb room due) Room 0 [] (le-ltb room due h))
+  pub accepted_left : first_fault content ≡ Fine → length file ≡ due → due ≤ room
+      → outcome room file (first_fault (content ++ Last)) ≡ leaves (WriteAnswer.Done (length file)) (file ++ replicate (room - length file) 0)
+  unfolding first_fault
+  accepted_left f size h = rw (fine_before content Last f, passes (ltb room due) Room 0 [] (le-ltb room due h))
 
 -- version 1
 module _ (ns : List ℕ) (ss : List Float) (ds cs : List ℤ) (a : ℤ) (room : ℕ) where
   abbrev File : List ℕ
-  File = fileOf version1 [] (described a (map whole_of ss) ns ds cs)
+  File = file_of version1 [] (described a (map whole_of ss) ns ds cs)
 
-  done-written : (o : WriteOutcome) (n : ℕ) → o ≡ writeTraceOf ns ss ds cs a room → o.answer ≡ WriteAnswer.Done n → Left (writeChecks 8 ns ss ds cs) File room n o.list
-  unfolding writeTraceOf
-  done-written = done-left (writeChecks 8 ns ss ds cs) File (4 * numbersOf 8 (length ns) (points_of ns)) room
+  done_written : (o : WriteOutcome) (n : ℕ) → o ≡ write_trace_of ns ss ds cs a room → o.answer ≡ WriteAnswer.Done n → Left (write_checks 8 ns ss ds cs) File room n o.list
+  unfolding write_trace_of
+  done_written = done_left (write_checks 8 ns ss ds cs) File (4 * numbers_of 8 (length ns) (points_of ns)) room
 
-  accepted : firstFault (writeChecks 8 ns ss ds cs) ≡ Fine → length File ≤ room
-      → writeTraceOf ns ss ds cs a room ≡ leaves (WriteAnswer.Done (length File)) (File ++ replicate (room - length File) 0)
-  unfolding writeTraceOf
+  accepted : first_fault (write_checks 8 ns ss ds cs) ≡ Fine → length File ≤ room
+      → write_trace_of ns ss ds cs a room ≡ leaves (WriteAnswer.Done (length File)) (File ++ replicate (room - length File) 0)
+  unfolding write_trace_of
   accepted f h =
       let j = judged 8 ns ss ds cs f in
-      let size = file-size version1 [] ns ss ds cs a refl j.pairs j.points j.rows in
-      accepted-left (writeChecks 8 ns ss ds cs) File (4 * numbersOf 8 (length ns) (points_of ns)) room f size (omega arith)
+      let size = file_size_lem version1 [] ns ss ds cs a refl j.pairs j.points j.rows in
+      accepted_left (write_checks 8 ns ss ds cs) File (4 * numbers_of 8 (length ns) (points_of ns)) room f size (omega arith)
 
 -- ---- what is written is read
 
 -- the description that a file was written from is read from it, every number, with rooms exact or larger
-pub file-then-read : (ns : List ℕ) (ss : List Float) (ds cs : List ℤ) (a : ℤ) (room : ℕ) (o : WriteOutcome) (n : ℕ)
-    → Numbers ns → Floats ss → Signeds cs → mag a < 2 ^ 31 → o ≡ writeTraceOf ns ss ds cs a room → o.answer ≡ WriteAnswer.Done n
-    → (rooms : ListRooms) → Enough rooms ns ss ds cs → (q : ReadOutcome) → q ≡ readTraceOf rooms (take n o.list)
-    → q ≡ reading.leaves (ReadAnswer.Done (length ns) (points_of ns) a) (padded rooms.counts 0 ns) (padded rooms.starts zeroF32 ss)
+pub file_then_read : (ns : List ℕ) (ss : List Float) (ds cs : List ℤ) (a : ℤ) (room : ℕ) (o : WriteOutcome) (n : ℕ)
+    → Numbers ns → Floats ss → Signeds cs → mag a < 2 ^ 31 → o ≡ write_trace_of ns ss ds cs a room → o.answer ≡ WriteAnswer.Done n
+    → (rooms : ListRooms) → Enough rooms ns ss ds cs → (q : ReadOutcome) → q ≡ read_trace_of rooms (take n o.list)
+    → q ≡ reading.leaves (ReadAnswer.Done (length ns) (points_of ns) a) (padded rooms.counts 0 ns) (padded rooms.starts zero_f32 ss)
     (padded rooms.deltas (pos 0) ds) (padded rooms.coefficients (pos 0) cs)
-unfolding readTraceOf
-file-then-read ns ss ds cs a room o n nn f nc na p e rooms h q r =
-    let w = done-written ns ss ds cs a room o n p e in
-    let file = fileOf version1 [] (described a (map whole_of ss) ns ds cs) in
+unfolding read_trace_of
+file_then_read ns ss ds cs a room o n nn f nc na p e rooms h q r =
+    let w = done_written ns ss ds cs a room o n p e in
+    let file = file_of version1 [] (described a (map whole_of ss) ns ds cs) in
     let bytes : take n o.list ≡ file = ap (take n) w.is ∙ take_at file (replicate (room - n) 0) n (sym w.size) in
-    let got-it = file-is-read ns ss ds cs a w.fine nn nc na rooms h in
-    let back = starts-back _ ss f (judged 8 ns ss ds cs w.fine).fit in
-    r ∙ rw (bytes, got-it, back)
+    let got_it = file_is_read ns ss ds cs a w.fine nn nc na rooms h in
+    let back = starts_back _ ss f (judged 8 ns ss ds cs w.fine).fit in
+    r ∙ rw (bytes, got_it, back)
 
 -- ---- what is read is written
 
 pub record DoneRead (rooms : ListRooms) (bytes : List ℕ) (q : ReadOutcome) (s p : ℕ) (a : ℤ) : Type 0 where
-  pub fine : firstFault (wholeChecks rooms bytes) ≡ Fine
-  pub is : q ≡ reading.outcome rooms (got (describedIn 8 (numbersIn bytes)) [])
+  pub fine : first_fault (whole_checks rooms bytes) ≡ Fine
+  pub is : q ≡ reading.outcome rooms (got (described_in 8 (numbers_in bytes)) [])
 
-pub done-read : (rooms : ListRooms) (bytes : List ℕ) (q : ReadOutcome) (s p : ℕ) (a : ℤ) → q ≡ readTraceOf rooms bytes → q.answer ≡ ReadAnswer.Done s p a → DoneRead rooms bytes q s p a
-unfolding readTraceOf
-done-read rooms bytes q s p a r e = go (firstFault (wholeChecks rooms bytes)) refl
+pub done_read : (rooms : ListRooms) (bytes : List ℕ) (q : ReadOutcome) (s p : ℕ) (a : ℤ) → q ≡ read_trace_of rooms bytes → q.answer ≡ ReadAnswer.Done s p a → DoneRead rooms bytes q s p a
+unfolding read_trace_of
+done_read rooms bytes q s p a r e = go (first_fault (whole_checks rooms bytes)) refl
   where
-    go : (v : Verdict) → firstFault (wholeChecks rooms bytes) ≡ v → DoneRead rooms bytes q s p a
-    go Fine f = record { fine = f; is = r ∙ ap (reading.outcome rooms) (judged-fine rooms bytes f) }
+    go : (v : Verdict) → first_fault (whole_checks rooms bytes) ≡ v → DoneRead rooms bytes q s p a
+    go Fine f = record { fine = f; is = r ∙ ap (reading.outcome rooms) (judged_fine rooms bytes f) }
     go (Fault c k) f =
-        let x : q ≡ reading.outcome rooms (stop c k) = r ∙ ap (reading.outcome rooms) (judged-fault rooms bytes c k f) in
+        let x : q ≡ reading.outcome rooms (stop c k) = r ∙ ap (reading.outcome rooms) (judged_fault rooms bytes c k f) in
         let y : ReadAnswer.Refused c k ≡ ReadAnswer.Done s p a = sym (ap (λ (u : ReadOutcome). u.answer) x) ∙ e in
         let z : ◌≡◌ {A = ℕ} 0 1 = cc in absurd (omega arith)
 
 -- the file that a description was read from is written from it, every byte, and zeros after it
-pub read-then-file : (rooms : ListRooms) (bytes : List ℕ) (q : ReadOutcome) (s p : ℕ) (a : ℤ) → Bytes bytes → q ≡ readTraceOf rooms bytes → q.answer ≡ ReadAnswer.Done s p a
+pub read_then_file : (rooms : ListRooms) (bytes : List ℕ) (q : ReadOutcome) (s p : ℕ) (a : ℤ) → Bytes bytes → q ≡ read_trace_of rooms bytes → q.answer ≡ ReadAnswer.Done s p a
     → (room : ℕ) → length bytes ≤ room → (o : WriteOutcome)
-    → o ≡ writeTraceOf (take s q.counts) (take (2 * s) q.starts) (take (2 * p) q.deltas) (take (128 * s) q.coefficients) a room
+    → o ≡ write_trace_of (take s q.counts) (take (2 * s) q.starts) (take (2 * p) q.deltas) (take (128 * s) q.coefficients) a room
     → o ≡ leaves (WriteAnswer.Done (length bytes)) (bytes ++ replicate (room - length bytes) 0)
-read-then-file rooms bytes q s p a b r e room h o w =
-    let t = done-read rooms bytes q s p a r e in
+read_then_file rooms bytes q s p a b r e room h o w =
+    let t = done_read rooms bytes q s p a r e in
     let found = found_first rooms bytes t.fine in
     let k = taken version1 [] bytes _ _ found b rooms q s p a t.is e in
     let file = k.file in
-    let done = accepted (nsIn 8 bytes) (map f32Of (zsIn 8 bytes)) (dsIn 8 bytes) (csIn 8 bytes) a room (again-fine version1 [] bytes _ _ found b) (omega (arith, ap length file)) in
+    let done = accepted (ns_in 8 bytes) (map f32_of (zs_in 8 bytes)) (ds_in 8 bytes) (cs_in 8 bytes) a room (again_fine version1 [] bytes _ _ found b) (omega (arith, ap length file)) in
     w ∙ rw (k.counts, k.starts, k.deltas, k.coefficients) (done ∙ ap (λ (l : List ℕ). leaves (WriteAnswer.Done (length l)) (l ++ replicate (room - length l) 0)) file)
 
 -- ---- one file a description
 
-pub same-front : (xs ys : List ℕ) (us vs : List ℕ) → length xs ≡ length ys → xs ++ us ≡ ys ++ vs → xs ≡ ys
-same-front xs ys us vs h e = sym (take_at xs us (length xs) refl) ∙ ap (take (length xs)) e ∙ take_at ys vs (length xs) (sym h)
+pub same_front : (xs ys : List ℕ) (us vs : List ℕ) → length xs ≡ length ys → xs ++ us ≡ ys ++ vs → xs ≡ ys
+same_front xs ys us vs h e = sym (take_at xs us (length xs) refl) ∙ ap (take (length xs)) e ∙ take_at ys vs (length xs) (sym h)
 
 -- two files that are read as one description are the same bytes
-pub same-file : (rooms : ListRooms) (bytes bytes' : List ℕ) (q : ReadOutcome) (s p : ℕ) (a : ℤ) → Bytes bytes → Bytes bytes' → q ≡ readTraceOf rooms bytes → q ≡ readTraceOf rooms bytes'
+pub same_file : (rooms : ListRooms) (bytes bytes' : List ℕ) (q : ReadOutcome) (s p : ℕ) (a : ℤ) → Bytes bytes → Bytes bytes' → q ≡ read_trace_of rooms bytes → q ≡ read_trace_of rooms bytes'
     → q.answer ≡ ReadAnswer.Done s p a → bytes ≡ bytes'
-same-file rooms bytes bytes' q s p a b b' r r' e =
+same_file rooms bytes bytes' q s p a b b' r r' e =
     let room = length bytes + length bytes' in
-    let o = writeTraceOf (take s q.counts) (take (2 * s) q.starts) (take (2 * p) q.deltas) (take (128 * s) q.coefficients) a room in
-    let x = read-then-file rooms bytes q s p a b r e room (omega arith) o refl in
-    let y = read-then-file rooms bytes' q s p a b' r' e room (omega arith) o refl in
+    let o = write_trace_of (take s q.counts) (take (2 * s) q.starts) (take (2 * p) q.deltas) (take (128 * s) q.coefficients) a room in
+    let x = read_then_file rooms bytes q s p a b r e room (omega arith) o refl in
+    let y = read_then_file rooms bytes' q s p a b' r' e room (omega arith) o refl in
     let z = sym x ∙ y in
     let w : WriteAnswer.Done (length bytes) ≡ WriteAnswer.Done (length bytes') = ap (λ (u : WriteOutcome). u.answer) z in
     let k : length bytes ≡ length bytes' = cc in
-    same-front bytes bytes' _ _ k (ap (λ (u : WriteOutcome). u.list) z)
+    same_front bytes bytes' _ _ k (ap (λ (u : WriteOutcome). u.list) z)
 
 -- Assumes nothing.

@@ -7,14 +7,14 @@ use Rattle.codes.specs.declared.Code.{Code}
 use Rattle.codes.specs.declared.Code.TheVariants.{Short, Coord, Delta, Trail, Shape, Header}
 use Rattle.shape.specs.Shape.{points_of}
 use Rattle.write_laws.specs.Refusals.{NoneOf}
-use Rattle.little.specs.Little.{numbersIn, signedIn}
+use Rattle.little.specs.Little.{numbers_in, signed_in}
 use Rattle.trace.specs.Trace.{part}
 
 -- ---- what a file says, by the numbers of it
 
 -- number k of a file, which stands at byte 4 * k
 abbrev pub number : List ℕ → ℕ → ℕ
-number bytes k = get_or (numbersIn bytes) k 0
+number bytes k = get_or (numbers_in bytes) k 0
 
 -- the splines and the points that its header names
 abbrev pub S : List ℕ → ℕ
@@ -24,16 +24,16 @@ abbrev pub P : List ℕ → ℕ
 P bytes = number bytes 2
 
 -- how long a file of s splines and p points is
-abbrev pub fileLong : ℕ → ℕ → ℕ → ℕ
-fileLong h s p = 4 * h + 524 * s + 8 * p
+abbrev pub file_long : ℕ → ℕ → ℕ → ℕ
+file_long h s p = 4 * h + 524 * s + 8 * p
 
 -- start number k is below -2^23, or 2^23 or more: `mag` is n both for n and for -(n + 1)
 abbrev pub OutsideAt : ℕ → List ℕ → ℕ → Type 0
-OutsideAt h bytes k = 2 ^ 23 ≤ mag (signedIn (number bytes (h + S bytes + k)))
+OutsideAt h bytes k = 2 ^ 23 ≤ mag (signed_in (number bytes (h + S bytes + k)))
 
 -- double delta number k is of magnitude 2^30 or more
 abbrev pub WildAt : ℕ → List ℕ → ℕ → Type 0
-WildAt h bytes k = 2 ^ 30 ≤ nat_abs (signedIn (number bytes (h + 3 * S bytes + k)))
+WildAt h bytes k = 2 ^ 30 ≤ nat_abs (signed_in (number bytes (h + 3 * S bytes + k)))
 
 -- ---- reading: what holds once so many checks have passed, behind a header of h numbers
 
@@ -48,8 +48,8 @@ pub record LaidBy (h : ℕ) (Before : Type 0) (bytes : List ℕ) : Type 0 where
 -- it is as long as it should be, and its counts sum to its points
 pub record SummedBy (h : ℕ) (Before : Type 0) (bytes : List ℕ) : Type 0 where
   pub laid : Before
-  pub whole : length bytes ≡ fileLong h (S bytes) (P bytes)
-  pub sums : points_of (part h (S bytes) (numbersIn bytes)) ≡ P bytes
+  pub whole : length bytes ≡ file_long h (S bytes) (P bytes)
+  pub sums : points_of (part h (S bytes) (numbers_in bytes)) ≡ P bytes
 
 -- every start, and every double delta, is in range
 pub record PlacedBy (h : ℕ) (Before : Type 0) (bytes : List ℕ) : Type 0 where
@@ -71,11 +71,11 @@ pub data OffsetRefusal (h : ℕ) (Before : Type 0) (bytes : List ℕ) : Code →
 -- what follows the header: the length, the counts, the starts and the double deltas
 pub data BodyRefusal (h : ℕ) (Before : Type 0) (bytes : List ℕ) : Code → ℕ → Type 0 where
   -- 1: shorter than it should be
-  short : Before → length bytes < fileLong h (S bytes) (P bytes) → BodyRefusal h Before bytes Short (length bytes)
+  short : Before → length bytes < file_long h (S bytes) (P bytes) → BodyRefusal h Before bytes Short (length bytes)
   -- 6: bytes left over
-  trail : Before → fileLong h (S bytes) (P bytes) < length bytes → BodyRefusal h Before bytes Trail (fileLong h (S bytes) (P bytes))
+  trail : Before → file_long h (S bytes) (P bytes) < length bytes → BodyRefusal h Before bytes Trail (file_long h (S bytes) (P bytes))
   -- 9: counts that do not sum to the points
-  shape : Before → length bytes ≡ fileLong h (S bytes) (P bytes) → (points_of (part h (S bytes) (numbersIn bytes)) ≡ P bytes → ⊥) → BodyRefusal h Before bytes Shape 0
+  shape : Before → length bytes ≡ file_long h (S bytes) (P bytes) → (points_of (part h (S bytes) (numbers_in bytes)) ≡ P bytes → ⊥) → BodyRefusal h Before bytes Shape 0
   -- 3: start number k is the first out of range
   coord : SummedBy h Before bytes → (k : ℕ) → k < 2 * S bytes → NoneOf k (OutsideAt h bytes) → OutsideAt h bytes k → BodyRefusal h Before bytes Coord (4 * h + 4 * S bytes + 4 * k)
   -- 5: double delta number k is the first out of range
@@ -90,8 +90,8 @@ pub data Misfit : Float → Type 0 where
   -- below -2^23, or 2^23 or more
   below : {m : ℕ} {e : ℤ} → 2 ^ 23 * down e < m * up e → Misfit (fin true m e)
   above : {s : Bool} {m : ℕ} {e : ℤ} → s ≡ false → 2 ^ 23 * down e ≤ m * up e → Misfit (fin s m e)
-  not-whole : {s : Bool} {m : ℕ} {e : ℤ} → (m * up e % down e ≡ 0 → ⊥) → Misfit (fin s m e)
-  minus-zero : {e : ℤ} → Misfit (fin true 0 e)
+  not_whole : {s : Bool} {m : ℕ} {e : ℤ} → (m * up e % down e ≡ 0 → ⊥) → Misfit (fin s m e)
+  minus_zero : {e : ℤ} → Misfit (fin true 0 e)
 
 abbrev pub MisfitAt : List Float → ℕ → Type 0
 MisfitAt ss k = Misfit (get_or ss k nan)

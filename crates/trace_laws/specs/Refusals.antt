@@ -1,5 +1,5 @@
 -- The codes of reading and of writing a trace file, and when each is given: the table of codes, in the order of the checks. Definitions only.
--- That a call refuses exactly so is `read-exactly` and `write-exactly` of proofs/When.antt.
+-- That a call refuses exactly so is `read_exactly` and `write_exactly` of proofs/When.antt.
 use Rattle.std.specs.Prelude.{◌≡◌, Bool, true, false, List, ℕ, suc, ◌+◌, ◌*◌, ◌%◌, ◌^◌, ◌≤◌, ◌<◌, length, get_or, ℤ, pos, nat_abs, Float}
 use Rattle.std.specs.Int.Signed.{mag}
 use Rattle.std.specs.Float.{nan, inf, fin}
@@ -9,15 +9,15 @@ use Rattle.codes.specs.declared.Code.TheVariants.{Short, Coord, Delta, Trail, Ro
 use Rattle.shape.specs.Shape.{points_of, Shaped}
 use Rattle.list.specs.List.{ListRooms}
 use Rattle.write_laws.specs.Refusals.{NoneOf}
-use Rattle.little.specs.Little.{numbersIn, signedIn}
+use Rattle.little.specs.Little.{numbers_in, signed_in}
 use Rattle.trace.specs.Trace.{part}
 use Rattle.trace_laws.specs.Behind.{number, S, P, OutsideAt, WildAt, LaidBy, SummedBy, PlacedBy, TamedBy, MisfitAt, WildIn, HeadedBy, HeadableBy, FittingBy, WritableBy}
 
 -- ---- reading: what holds once so many checks have passed
 
 -- how long a file of s splines and p points is
-abbrev pub fileSize : ℕ → ℕ → ℕ
-fileSize s p = 32 + 524 * s + 8 * p
+abbrev pub file_size : ℕ → ℕ → ℕ
+file_size s p = 32 + 524 * s + 8 * p
 
 -- the first eight numbers are there, the version is 1, and the offsets of the four parts are as they should be
 pub record Opened (bytes : List ℕ) : Type 0 where
@@ -57,11 +57,11 @@ pub data TraceReadRefusal (rooms : ListRooms) (bytes : List ℕ) : Code → ℕ 
   coefficients : Opened bytes → number bytes 4 ≡ 32 → number bytes 5 ≡ 32 + 4 * S bytes → number bytes 6 ≡ 32 + 12 * S bytes
       → (number bytes 7 ≡ 32 + 12 * S bytes + 8 * P bytes → ⊥) → TraceReadRefusal rooms bytes Header 28
   -- 1: shorter than it should be
-  short : Laid bytes → length bytes < fileSize (S bytes) (P bytes) → TraceReadRefusal rooms bytes Short (length bytes)
+  short : Laid bytes → length bytes < file_size (S bytes) (P bytes) → TraceReadRefusal rooms bytes Short (length bytes)
   -- 6: bytes left over
-  trail : Laid bytes → fileSize (S bytes) (P bytes) < length bytes → TraceReadRefusal rooms bytes Trail (fileSize (S bytes) (P bytes))
+  trail : Laid bytes → file_size (S bytes) (P bytes) < length bytes → TraceReadRefusal rooms bytes Trail (file_size (S bytes) (P bytes))
   -- 9: counts that do not sum to the points
-  shape : Laid bytes → length bytes ≡ fileSize (S bytes) (P bytes) → (points_of (part 8 (S bytes) (numbersIn bytes)) ≡ P bytes → ⊥) → TraceReadRefusal rooms bytes Shape 0
+  shape : Laid bytes → length bytes ≡ file_size (S bytes) (P bytes) → (points_of (part 8 (S bytes) (numbers_in bytes)) ≡ P bytes → ⊥) → TraceReadRefusal rooms bytes Shape 0
   -- 3: start number k is the first out of range
   coord : Summed bytes → (k : ℕ) → k < 2 * S bytes → NoneOf k (OutsideAt 8 bytes) → OutsideAt 8 bytes k → TraceReadRefusal rooms bytes Coord (32 + 4 * S bytes + 4 * k)
   -- 5: double delta number k is the first out of range
@@ -106,10 +106,10 @@ pub data TraceWriteRefusal (ns : List ℕ) (ss : List Float) (ds cs : List ℤ) 
   -- 5: double delta number k is the first of magnitude 2^30 or more
   delta : Fitting ns ss ds cs → (k : ℕ) → k < length ds → NoneOf k (WildIn ds) → WildIn ds k → TraceWriteRefusal ns ss ds cs room Delta (32 + 12 * length ns + 4 * k)
   -- 7: nothing else is given, and the bytes are too few
-  room : Writable ns ss ds cs → room < fileSize (length ns) (points_of ns) → TraceWriteRefusal ns ss ds cs room Room 0
+  room : Writable ns ss ds cs → room < file_size (length ns) (points_of ns) → TraceWriteRefusal ns ss ds cs room Room 0
 
 -- 0: nothing is given, and so many bytes are written
 pub record TraceAccepted (ns : List ℕ) (ss : List Float) (ds cs : List ℤ) (room bytes : ℕ) : Type 0 where
   pub writable : Writable ns ss ds cs
-  pub held : fileSize (length ns) (points_of ns) ≤ room
-  pub all : bytes ≡ fileSize (length ns) (points_of ns)
+  pub held : file_size (length ns) (points_of ns) ≤ room
+  pub all : bytes ≡ file_size (length ns) (points_of ns)

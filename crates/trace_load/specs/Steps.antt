@@ -3,23 +3,23 @@ use Rattle.std.specs.Prelude.{◌≡◌, List, map, ℕ, ◌+◌, ◌*◌, ◌�
 use Rattle.codes.specs.declared.Code.TheVariants.{Coord}
 use Rattle.shape.specs.Shape.{points_of}
 use Rattle.list.specs.List.{ListRooms}
-use Rattle.list.specs.Steps.{f32Of}
+use Rattle.list.specs.Steps.{f32_of}
 use Rattle.read_steps.specs.Steps.{Front}
-use Rattle.writer.specs.Write.{firstFault}
+use Rattle.writer.specs.Write.{first_fault}
 use Rattle.write_judge.specs.declared.Verdict.TheVariants.{Fine}
-use Rattle.little.specs.Little.{numbersIn, signedIn}
-use Rattle.trace.specs.Trace.{startsFrom, deltasFrom, coefficientsFrom, numbersOf, part, numberChecks}
+use Rattle.little.specs.Little.{numbers_in, signed_in}
+use Rattle.trace.specs.Trace.{starts_from, deltas_from, coefficients_from, numbers_of, part, number_checks}
 use Rattle.trace.specs.Read.{misplaced}
 
 -- the start that a number of the file stands for
 unfoldable pub start_in : ℕ → Float
-start_in u = f32Of (signedIn u)
+start_in u = f32_of (signed_in u)
 
 -- a file in which no fault was found, of s splines and p points behind a header of h numbers, and room for it
 pub record Loadable (bytes : List ℕ) (h s p : ℕ) (rooms : ListRooms) : Type 0 where
-  pub whole : length bytes ≡ 4 * numbersOf h s p
-  pub sums : points_of (part h s (numbersIn bytes)) ≡ p
-  pub placed : firstFault (numberChecks misplaced Coord (startsFrom h s) (part (startsFrom h s) (2 * s) (numbersIn bytes))) ≡ Fine
+  pub whole : length bytes ≡ 4 * numbers_of h s p
+  pub sums : points_of (part h s (numbers_in bytes)) ≡ p
+  pub placed : first_fault (number_checks misplaced Coord (starts_from h s) (part (starts_from h s) (2 * s) (numbers_in bytes))) ≡ Fine
   pub counts : s ≤ rooms.counts
   pub starts : 2 * s ≤ rooms.starts
   pub deltas : 2 * p ≤ rooms.deltas
@@ -28,6 +28,6 @@ pub record Loadable (bytes : List ℕ) (h s p : ℕ) (rooms : ListRooms) : Type 
 -- the four parts stand in front
 pub record Loaded (ns : List ℕ) (h s p : ℕ) (n n' : List ℕ) (f f' : List Float) (d d' c c' : List ℤ) : Type 0 where
   pub counts : Front (part h s ns) n n'
-  pub starts : Front (map start_in (part (startsFrom h s) (2 * s) ns)) f f'
-  pub deltas : Front (map signedIn (part (deltasFrom h s) (2 * p) ns)) d d'
-  pub coefficients : Front (map signedIn (part (coefficientsFrom h s p) (128 * s) ns)) c c'
+  pub starts : Front (map start_in (part (starts_from h s) (2 * s) ns)) f f'
+  pub deltas : Front (map signed_in (part (deltas_from h s) (2 * p) ns)) d d'
+  pub coefficients : Front (map signed_in (part (coefficients_from h s p) (128 * s) ns)) c c'

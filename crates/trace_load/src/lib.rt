@@ -7,11 +7,11 @@ ghost use Rattle.list.specs.List.{Got};
 ghost use Rattle.read_steps.specs.Steps.{Front};
 ghost use Rattle.reader.specs.Read.{rooms_of};
 ghost use Rattle.reader.specs.Rest.{ListLeft};
-ghost use Rattle.writer.specs.Write.{firstFault};
+ghost use Rattle.writer.specs.Write.{first_fault};
 ghost use Rattle.write_judge.specs.declared.Verdict.{Verdict};
-ghost use Rattle.little.specs.Little.{numbersIn, signedIn};
-ghost use Rattle.trace.specs.Trace.{part, numberChecks};
-ghost use Rattle.trace.specs.Read.{splinesIn, pointsIn, misplaced, describedIn};
+ghost use Rattle.little.specs.Little.{numbers_in, signed_in};
+ghost use Rattle.trace.specs.Trace.{part, number_checks};
+ghost use Rattle.trace.specs.Read.{splines_in, points_in, misplaced, described_in};
 ghost use Rattle.trace_load.specs.Steps.{start_in, Loadable, Loaded};
 
 use little::{number_at, signed};
@@ -23,7 +23,7 @@ use reader::ReadAnswer;
 // n counts, from an index on.
 fn load_counts(bytes: &[u8], from: usize, n: usize, out: &mut [u32])
     requires { (4 * (from + n) ≤ length bytes.now) × (n ≤ length out.old) }
-    ensures { Front (part from n (numbersIn bytes.now)) out.old out.new }
+    ensures { Front (part from n (numbers_in bytes.now)) out.old out.new }
 {
     let mut i = 0;
     while i < n {
@@ -35,7 +35,7 @@ fn load_counts(bytes: &[u8], from: usize, n: usize, out: &mut [u32])
 // n signed numbers.
 fn load_signed(bytes: &[u8], from: usize, n: usize, out: &mut [i32])
     requires { (4 * (from + n) ≤ length bytes.now) × (n ≤ length out.old) }
-    ensures { Front (map signedIn (part from n (numbersIn bytes.now))) out.old out.new }
+    ensures { Front (map signed_in (part from n (numbers_in bytes.now))) out.old out.new }
 {
     let mut i = 0;
     while i < n {
@@ -54,8 +54,8 @@ fn start_in(number: u32) -> f32
 
 // n numbers of starts.
 fn load_starts(bytes: &[u8], from: usize, n: usize, out: &mut [f32])
-    requires { (4 * (from + n) ≤ length bytes.now) × (n ≤ length out.old) × (firstFault (numberChecks misplaced Code.Coord from (part from n (numbersIn bytes.now))) ≡ Verdict.Fine) }
-    ensures { Front (map start_in (part from n (numbersIn bytes.now))) out.old out.new }
+    requires { (4 * (from + n) ≤ length bytes.now) × (n ≤ length out.old) × (first_fault (number_checks misplaced Code.Coord from (part from n (numbers_in bytes.now))) ≡ Verdict.Fine) }
+    ensures { Front (map start_in (part from n (numbers_in bytes.now))) out.old out.new }
 {
     let mut i = 0;
     while i < n {
@@ -78,7 +78,7 @@ pub fn load_parts(
     coefficients: &mut [i32],
 )
     requires { Loadable bytes.now h s p (rooms_of counts.old starts.old deltas.old coefficients.old) }
-    ensures { Loaded (numbersIn bytes.now) h s p counts.old counts.new starts.old starts.new deltas.old deltas.new coefficients.old coefficients.new }
+    ensures { Loaded (numbers_in bytes.now) h s p counts.old counts.new starts.old starts.new deltas.old deltas.new coefficients.old coefficients.new }
 {
     load_counts(bytes, h, s, counts);
     load_starts(bytes, h + s, 2 * s, starts);
@@ -94,8 +94,8 @@ pub fn load(
     deltas: &mut [i32],
     coefficients: &mut [i32],
 ) -> ReadAnswer
-    requires { Loadable bytes.now 8 (splinesIn (numbersIn bytes.now)) (pointsIn (numbersIn bytes.now)) (rooms_of counts.old starts.old deltas.old coefficients.old) }
-    ensures { ListLeft (Got.got (describedIn 8 (numbersIn bytes.now)) []) result counts.old counts.new starts.old starts.new deltas.old deltas.new coefficients.old coefficients.new }
+    requires { Loadable bytes.now 8 (splines_in (numbers_in bytes.now)) (points_in (numbers_in bytes.now)) (rooms_of counts.old starts.old deltas.old coefficients.old) }
+    ensures { ListLeft (Got.got (described_in 8 (numbers_in bytes.now)) []) result counts.old counts.new starts.old starts.new deltas.old deltas.new coefficients.old coefficients.new }
 {
     let s = number_at(bytes, 1);
     let p = number_at(bytes, 2);

@@ -5,10 +5,10 @@
 ghost use Rattle.std.specs.Prelude.{◌≡◌, ◌+◌, ◌*◌, ◌≤◌, eqb, length};
 ghost use Rattle.codes.specs.declared.Code.{Code};
 ghost use Rattle.shape.specs.Shape.{points_of};
-ghost use Rattle.writer.specs.Write.{firstFault};
-ghost use Rattle.little.specs.Little.{numbersIn};
-ghost use Rattle.trace.specs.Trace.{numbersOf, part, numberChecks};
-ghost use Rattle.trace.specs.Read.{partChecks, misplaced, tooWild};
+ghost use Rattle.writer.specs.Write.{first_fault};
+ghost use Rattle.little.specs.Little.{numbers_in};
+ghost use Rattle.trace.specs.Trace.{numbers_of, part, number_checks};
+ghost use Rattle.trace.specs.Read.{part_checks, misplaced, too_wild};
 
 use codes::Code;
 use little::number_at;
@@ -29,7 +29,7 @@ fn no_start(number: u32) -> bool
 
 // Whether a number is no double delta: neither below 2^30 nor within 2^30 of 2^32.
 fn no_delta(number: u32) -> bool
-    ensures { result ≡ tooWild number }
+    ensures { result ≡ too_wild number }
 {
     if number < 1073741824 {
         false
@@ -43,7 +43,7 @@ fn no_delta(number: u32) -> bool
 // Whether n counts, from an index on, sum to just so many points: the sum itself may be too large to hold, so points are taken away instead.
 fn sum_is(bytes: &[u8], from: usize, n: usize, points: usize) -> bool
     requires { 4 * (from + n) ≤ length bytes.now }
-    ensures { result ≡ eqb (points_of (part from n (numbersIn bytes.now))) points }
+    ensures { result ≡ eqb (points_of (part from n (numbers_in bytes.now))) points }
 {
     let mut left = points;
     let mut i = 0;
@@ -60,7 +60,7 @@ fn sum_is(bytes: &[u8], from: usize, n: usize, points: usize) -> bool
 
 fn judge_starts(bytes: &[u8], from: usize, n: usize) -> Verdict
     requires { 4 * (from + n) ≤ length bytes.now }
-    ensures { result ≡ firstFault (numberChecks misplaced Code.Coord from (part from n (numbersIn bytes.now))) }
+    ensures { result ≡ first_fault (number_checks misplaced Code.Coord from (part from n (numbers_in bytes.now))) }
 {
     let mut i = 0;
     while i < n {
@@ -74,7 +74,7 @@ fn judge_starts(bytes: &[u8], from: usize, n: usize) -> Verdict
 
 fn judge_deltas(bytes: &[u8], from: usize, n: usize) -> Verdict
     requires { 4 * (from + n) ≤ length bytes.now }
-    ensures { result ≡ firstFault (numberChecks tooWild Code.Delta from (part from n (numbersIn bytes.now))) }
+    ensures { result ≡ first_fault (number_checks too_wild Code.Delta from (part from n (numbers_in bytes.now))) }
 {
     let mut i = 0;
     while i < n {
@@ -88,8 +88,8 @@ fn judge_deltas(bytes: &[u8], from: usize, n: usize) -> Verdict
 
 // The first fault of the parts of a file that is as long as it should be.
 pub fn judge_parts(bytes: &[u8], h: usize, s: usize, p: usize) -> Verdict
-    requires { length bytes.now ≡ 4 * numbersOf h s p }
-    ensures { result ≡ firstFault (partChecks h s p (numbersIn bytes.now)) }
+    requires { length bytes.now ≡ 4 * numbers_of h s p }
+    ensures { result ≡ first_fault (part_checks h s p (numbers_in bytes.now)) }
 {
     if !sum_is(bytes, h, s, p) {
         return Verdict::Fault(Code::Shape, 0);

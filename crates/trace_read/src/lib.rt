@@ -4,9 +4,9 @@
 
 ghost use Rattle.std.specs.Prelude.{◌≡◌, ◌<◌, ◌^◌, length};
 ghost use Rattle.reader.specs.Read.{leaves, rooms_of};
-ghost use Rattle.writer.specs.Write.{firstFault};
-ghost use Rattle.trace.specs.Read.{tight, wholeChecks, readTraceOf};
-ghost use Rattle.trace_read.specs.Steps.{roomsFrom};
+ghost use Rattle.writer.specs.Write.{first_fault};
+ghost use Rattle.trace.specs.Read.{tight, whole_checks, read_trace_of};
+ghost use Rattle.trace_read.specs.Steps.{rooms_from};
 
 use codes::Code;
 use little::number_at;
@@ -25,7 +25,7 @@ pub fn lacks_room(
     p: usize,
 ) -> bool
     requires { (s < 2 ^ 32) × (p < 2 ^ 32) }
-    ensures { result ≡ tight (roomsFrom counts starts deltas coefficients) s p }
+    ensures { result ≡ tight (rooms_from counts starts deltas coefficients) s p }
 {
     if counts < s {
         return true;
@@ -47,7 +47,7 @@ fn judge_whole(
     deltas: usize,
     coefficients: usize,
 ) -> Verdict
-    ensures { result ≡ firstFault (wholeChecks (roomsFrom counts starts deltas coefficients) bytes.now) }
+    ensures { result ≡ first_fault (whole_checks (rooms_from counts starts deltas coefficients) bytes.now) }
 {
     match judge(bytes) {
         Verdict::Fault(c, place) => Verdict::Fault(c, place),
@@ -70,7 +70,7 @@ pub fn trace_read(
     coefficients: &mut [i32],
 ) -> ReadAnswer
     ensures { leaves result counts.new starts.new deltas.new coefficients.new
-        ≡ readTraceOf (rooms_of counts.old starts.old deltas.old coefficients.old) bytes.now }
+        ≡ read_trace_of (rooms_of counts.old starts.old deltas.old coefficients.old) bytes.now }
 {
     wipe(counts, starts, deltas, coefficients);
     match judge_whole(

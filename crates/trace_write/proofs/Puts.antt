@@ -13,46 +13,46 @@ use Rattle.codes.specs.declared.Code.{Code}
 use Rattle.codes.specs.declared.Code.TheVariants.{Coord, Room, Shape}
 use Rattle.shape.specs.Shape.{points_of}
 use Rattle.list.specs.List.{described}
-use Rattle.writer.specs.Write.{Check, check, firstFault, misshapen, whole_of, WriteOutcome, leaves, outcome}
+use Rattle.writer.specs.Write.{Check, check, first_fault, misshapen, whole_of, WriteOutcome, leaves, outcome}
 use Rattle.write_judge.specs.declared.Verdict.TheVariants.{Fine, Fault}
 use Rattle.writer.specs.declared.WriteAnswer.TheVariants.{Done, Refused}
-use Rattle.write_judge.proofs.Checks.{fails, passes, passed, faults-before, fine_before, both-fine, agreed}
-use Rattle.write_steps.proofs.Stores.{zeros-after}
-use Rattle.little.specs.Little.{bytes_of, unsignedOf}
-use Rattle.little.proofs.Little.{bytes-length}
-use Rattle.trace.specs.Trace.{Layout, version1, headerOf, fileOf, startsFrom, coefficientsFrom, numbersOf, numberChecks}
-use Rattle.trace.specs.Write.{misfit, headerChecks, valueChecks, writeChecks, writeTraceOf}
-use Rattle.trace_fit.proofs.Fits.{header-held}
-use Rattle.trace_put.specs.Steps.{startNumber, partNumbers}
-use Rattle.trace_put.proofs.Puts.{put-behind}
+use Rattle.write_judge.proofs.Checks.{fails, passes, passed, faults_before, fine_before, both_fine, agreed}
+use Rattle.write_steps.proofs.Stores.{zeros_after}
+use Rattle.little.specs.Little.{bytes_of, unsigned_of}
+use Rattle.little.proofs.Little.{bytes_length}
+use Rattle.trace.specs.Trace.{Layout, version1, header_of, file_of, starts_from, coefficients_from, numbers_of, number_checks}
+use Rattle.trace.specs.Write.{misfit, header_checks, value_checks, write_checks, write_trace_of}
+use Rattle.trace_fit.proofs.Fits.{header_held}
+use Rattle.trace_put.specs.Steps.{start_number, part_numbers}
+use Rattle.trace_put.proofs.Puts.{put_behind}
 
 -- ---- the whole file
 
-starts-are : (ss : List Float) → map startNumber ss ≡ map unsignedOf (map whole_of ss)
-unfolding startNumber
-starts-are [] = refl
-starts-are (x ∷ ss) = ap (λ (t : List ℕ). unsignedOf (whole_of x) ∷ t) (starts-are ss)
+starts_are : (ss : List Float) → map start_number ss ≡ map unsigned_of (map whole_of ss)
+unfolding start_number
+starts_are [] = refl
+starts_are (x ∷ ss) = ap (λ (t : List ℕ). unsigned_of (whole_of x) ∷ t) (starts_are ss)
 
 -- a file of any version, whose header has so many numbers as its layout says
-module _ (v : Layout) (more ns : List ℕ) (ss : List Float) (ds cs : List ℤ) (a : ℤ) (long : v.header ≡ length (headerOf v more (length ns) (points_of ns) a)) where
+module _ (v : Layout) (more ns : List ℕ) (ss : List Float) (ds cs : List ℤ) (a : ℤ) (long : v.header ≡ length (header_of v more (length ns) (points_of ns) a)) where
   abbrev File : List ℕ
-  File = fileOf v more (described a (map whole_of ss) ns ds cs)
+  File = file_of v more (described a (map whole_of ss) ns ds cs)
 
   abbrev Header : List ℕ
-  Header = headerOf v more (length ns) (points_of ns) a
+  Header = header_of v more (length ns) (points_of ns) a
 
-  pub file-put : (l o q : List ℕ) → o ≡ sets l 0 (bytes_of Header) → q ≡ sets o (4 * v.header) (bytes_of (partNumbers ns ss ds cs)) → q ≡ sets l 0 File
-  unfolding fileOf partNumbers
-  file-put l o q x y = put-behind l o q 0 v.header Header (partNumbers ns ss ds cs) x y (omega (arith, long)) ∙ rw (starts-are ss)
+  pub file_put : (l o q : List ℕ) → o ≡ sets l 0 (bytes_of Header) → q ≡ sets o (4 * v.header) (bytes_of (part_numbers ns ss ds cs)) → q ≡ sets l 0 File
+  unfolding file_of part_numbers
+  file_put l o q x y = put_behind l o q 0 v.header Header (part_numbers ns ss ds cs) x y (omega (arith, long)) ∙ rw (starts_are ss)
 
   module _ (hs : length ss ≡ 2 * length ns) (hd : length ds ≡ 2 * points_of ns) (hc : length cs ≡ 128 * length ns) where
-    pub file-size : length File ≡ 4 * numbersOf v.header (length ns) (points_of ns)
-    unfolding fileOf
-    file-size =
-        let zs = map unsignedOf (map whole_of ss) in
-        let es = map unsignedOf ds in
-        let bs = map unsignedOf cs in
-        let k : length (Header ++ (ns ++ (zs ++ (es ++ bs)))) ≡ numbersOf v.header (length ns) (points_of ns)
+    pub file_size_lem : length File ≡ 4 * numbers_of v.header (length ns) (points_of ns)
+    unfolding file_of
+    file_size_lem =
+        let zs = map unsigned_of (map whole_of ss) in
+        let es = map unsigned_of ds in
+        let bs = map unsigned_of cs in
+        let k : length (Header ++ (ns ++ (zs ++ (es ++ bs)))) ≡ numbers_of v.header (length ns) (points_of ns)
         = length-append Header (ns ++ (zs ++ (es ++ bs)))
         ∙ omega (
           arith,
@@ -60,12 +60,12 @@ module _ (v : Layout) (more ns : List ℕ) (ss : List Float) (ds cs : List ℤ) 
           length-append ns (zs ++ (es ++ bs)),
           length-append zs (es ++ bs),
           length-append es bs,
-          length-map (map whole_of ss) unsignedOf,
+          length-map (map whole_of ss) unsigned_of,
           length-map ss whole_of,
-          length-map ds unsignedOf,
-          length-map cs unsignedOf,
+          length-map ds unsigned_of,
+          length-map cs unsigned_of,
         ) in
-        bytes-length (Header ++ (ns ++ (zs ++ (es ++ bs)))) ∙ ap (λ (n : ℕ). 4 * n) k
+        bytes_length (Header ++ (ns ++ (zs ++ (es ++ bs)))) ∙ ap (λ (n : ℕ). 4 * n) k
 
 -- ---- the answers
 
@@ -77,21 +77,21 @@ module _ (h : ℕ) (ns : List ℕ) (ss : List Float) (ds cs : List ℤ) where
     pub rows : length cs ≡ 128 * length ns
     pub few : length ns < 2 ^ 32
     pub fewer : points_of ns < 2 ^ 32
-    pub offsets : 4 * coefficientsFrom h (length ns) (points_of ns) < 2 ^ 32
-    pub fit : firstFault (numberChecks misfit Coord (startsFrom h (length ns)) ss) ≡ Fine
+    pub offsets : 4 * coefficients_from h (length ns) (points_of ns) < 2 ^ 32
+    pub fit : first_fault (number_checks misfit Coord (starts_from h (length ns)) ss) ≡ Fine
 
-  pub judged : firstFault (writeChecks h ns ss ds cs) ≡ Fine → Judged
-  unfolding writeChecks valueChecks
+  pub judged : first_fault (write_checks h ns ss ds cs) ≡ Fine → Judged
+  unfolding write_checks value_checks
   judged e =
       let a = passed (misshapen ns ss ds cs) Shape 0 _ e in
       let s = agreed ns ss ds cs a.0 in
-      let b = both-fine (headerChecks h (length ns) (points_of ns)) (valueChecks h (length ns) ss ds) a.1 in
-      let k = header-held h (length ns) (points_of ns) b.0 in
-      let d = both-fine (numberChecks misfit Coord (startsFrom h (length ns)) ss) _ b.1 in
+      let b = both_fine (header_checks h (length ns) (points_of ns)) (value_checks h (length ns) ss ds) a.1 in
+      let k = header_held h (length ns) (points_of ns) b.0 in
+      let d = both_fine (number_checks misfit Coord (starts_from h (length ns)) ss) _ b.1 in
       record { pairs = s.0; points = s.1; rows = s.2; few = k.0; fewer = k.1; offsets = k.2; fit = d.0 }
 
   -- the size that is computed
-  pub size_is : Judged → 4 * (h + (131 * length ns + 2 * (length ds / 2))) ≡ 4 * numbersOf h (length ns) (points_of ns)
+  pub size_is : Judged → 4 * (h + (131 * length ns + 2 * (length ds / 2))) ≡ 4 * numbers_of h (length ns) (points_of ns)
   size_is j = omega (arith, j.points)
 
   pub half_is : Judged → length ds / 2 ≡ points_of ns
@@ -99,52 +99,52 @@ module _ (h : ℕ) (ns : List ℕ) (ss : List Float) (ds cs : List ℤ) where
 
 -- what is left in bytes that were cleared: by the checks of the content, the file, and how long it is
 module _ (content : List Check) (file : List ℕ) (due room : ℕ) where
-  abbrev judgedOutcome : WriteOutcome
-  judgedOutcome = outcome room file (firstFault (content ++ check (ltb room due) Room 0 ∷ []))
+  abbrev judged_outcome : WriteOutcome
+  judged_outcome = outcome room file (first_fault (content ++ check (ltb room due) Room 0 ∷ []))
 
-  pub left-fault : (c : Code) (p : ℕ) (l : List ℕ) → l ≡ replicate room 0 → firstFault content ≡ Fault c p → leaves (Refused c p) l ≡ judgedOutcome
-  left-fault c p l z e = rw (faults-before content (check (ltb room due) Room 0 ∷ []) c p e, z)
+  pub left_fault : (c : Code) (p : ℕ) (l : List ℕ) → l ≡ replicate room 0 → first_fault content ≡ Fault c p → leaves (Refused c p) l ≡ judged_outcome
+  left_fault c p l z e = rw (faults_before content (check (ltb room due) Room 0 ∷ []) c p e, z)
 
-  module _ (fine : firstFault content ≡ Fine) where
-    pub left-room : (l : List ℕ) → l ≡ replicate room 0 → length l < due → leaves (Refused Room 0) l ≡ judgedOutcome
-    left-room l z h =
+  module _ (fine : first_fault content ≡ Fine) where
+    pub left_room : (l : List ℕ) → l ≡ replicate room 0 → length l < due → leaves (Refused Room 0) l ≡ judged_outcome
+    left_room l z h =
         let k : length l ≡ room = ap length z ∙ length-replicate {A = ℕ} room 0 in
         let t = fails (ltb room due) Room 0 [] (lt-ltb room due (omega arith)) in
         rw (fine_before content (check (ltb room due) Room 0 ∷ []) fine, t, z)
 
-    pub left-done : (l l' : List ℕ) (n : ℕ) → l ≡ replicate room 0 → n ≡ due → length file ≡ due → n ≤ length l → l' ≡ sets l 0 file → leaves (Done n) l' ≡ judgedOutcome
-    unfolding firstFault
-    left-done l l' n z e long h is =
+    pub left_done : (l l' : List ℕ) (n : ℕ) → l ≡ replicate room 0 → n ≡ due → length file ≡ due → n ≤ length l → l' ≡ sets l 0 file → leaves (Done n) l' ≡ judged_outcome
+    unfolding first_fault
+    left_done l l' n z e long h is =
         let k : length l ≡ room = ap length z ∙ length-replicate {A = ℕ} room 0 in
         let size : length file ≡ n = long ∙ sym e in
         let t = passes (ltb room due) Room 0 [] (le-ltb room due (omega arith)) in
-        let w : l' ≡ file ++ replicate (room - length file) 0 = is ∙ ap (λ (o : List ℕ). sets o 0 file) z ∙ zeros-after room file (omega arith) in
+        let w : l' ≡ file ++ replicate (room - length file) 0 = is ∙ ap (λ (o : List ℕ). sets o 0 file) z ∙ zeros_after room file (omega arith) in
         rw (fine_before content (check (ltb room due) Room 0 ∷ []) fine, t, ← size, w)
 
 -- version 1
 module _ (ns : List ℕ) (ss : List Float) (ds cs : List ℤ) (a : ℤ) (room : ℕ) where
   abbrev Due : ℕ
-  Due = 4 * numbersOf 8 (length ns) (points_of ns)
+  Due = 4 * numbers_of 8 (length ns) (points_of ns)
 
   abbrev Written : List ℕ
-  Written = fileOf version1 [] (described a (map whole_of ss) ns ds cs)
+  Written = file_of version1 [] (described a (map whole_of ss) ns ds cs)
 
-  pub answer-fault : (c : Code) (p : ℕ) (l : List ℕ) → l ≡ replicate room 0 → firstFault (writeChecks 8 ns ss ds cs) ≡ Fault c p
-      → leaves (Refused c p) l ≡ writeTraceOf ns ss ds cs a room
-  unfolding writeTraceOf
-  answer-fault = left-fault (writeChecks 8 ns ss ds cs) Written Due room
+  pub answer_fault : (c : Code) (p : ℕ) (l : List ℕ) → l ≡ replicate room 0 → first_fault (write_checks 8 ns ss ds cs) ≡ Fault c p
+      → leaves (Refused c p) l ≡ write_trace_of ns ss ds cs a room
+  unfolding write_trace_of
+  answer_fault = left_fault (write_checks 8 ns ss ds cs) Written Due room
 
-  module _ (fine : firstFault (writeChecks 8 ns ss ds cs) ≡ Fine) where
-    pub answer-room : (l : List ℕ) → l ≡ replicate room 0 → length l < 4 * (8 + (131 * length ns + 2 * (length ds / 2)))
-        → leaves (Refused Room 0) l ≡ writeTraceOf ns ss ds cs a room
-    unfolding writeTraceOf
-    answer-room l z h = left-room (writeChecks 8 ns ss ds cs) Written Due room fine l z (omega (arith, size_is 8 ns ss ds cs (judged 8 ns ss ds cs fine)))
+  module _ (fine : first_fault (write_checks 8 ns ss ds cs) ≡ Fine) where
+    pub answer_room : (l : List ℕ) → l ≡ replicate room 0 → length l < 4 * (8 + (131 * length ns + 2 * (length ds / 2)))
+        → leaves (Refused Room 0) l ≡ write_trace_of ns ss ds cs a room
+    unfolding write_trace_of
+    answer_room l z h = left_room (write_checks 8 ns ss ds cs) Written Due room fine l z (omega (arith, size_is 8 ns ss ds cs (judged 8 ns ss ds cs fine)))
 
-    pub answer-done : (l l' : List ℕ) (n : ℕ) → l ≡ replicate room 0 → n ≡ 4 * (8 + (131 * length ns + 2 * (length ds / 2))) → n ≤ length l → l' ≡ sets l 0 Written
-        → leaves (Done n) l' ≡ writeTraceOf ns ss ds cs a room
-    unfolding writeTraceOf
-    answer-done l l' n z e h is =
+    pub answer_done : (l l' : List ℕ) (n : ℕ) → l ≡ replicate room 0 → n ≡ 4 * (8 + (131 * length ns + 2 * (length ds / 2))) → n ≤ length l → l' ≡ sets l 0 Written
+        → leaves (Done n) l' ≡ write_trace_of ns ss ds cs a room
+    unfolding write_trace_of
+    answer_done l l' n z e h is =
         let j = judged 8 ns ss ds cs fine in
-        left-done (writeChecks 8 ns ss ds cs) Written Due room fine l l' n z (e ∙ size_is 8 ns ss ds cs j) (file-size version1 [] ns ss ds cs a refl j.pairs j.points j.rows) h is
+        left_done (write_checks 8 ns ss ds cs) Written Due room fine l l' n z (e ∙ size_is 8 ns ss ds cs j) (file_size_lem version1 [] ns ss ds cs a refl j.pairs j.points j.rows) h is
 
 -- Assumes nothing.

@@ -3,7 +3,7 @@
 
 ghost use Rattle.std.specs.Prelude.{◌≡◌, length};
 ghost use Rattle.writer.specs.Write.{leaves};
-ghost use Rattle.trace.specs.Write.{writeTraceOf};
+ghost use Rattle.trace.specs.Write.{write_trace_of};
 
 use buffers::clear_u8;
 use codes::Code;
@@ -21,7 +21,7 @@ pub fn trace_write(
     bytes: &mut [u8],
 ) -> WriteAnswer
     ensures { leaves result bytes.new
-        ≡ writeTraceOf counts.now starts.now deltas.now coefficients.now adjustment (length bytes.old) }
+        ≡ write_trace_of counts.now starts.now deltas.now coefficients.now adjustment (length bytes.old) }
 {
     clear_u8(bytes);
     match judge(counts, starts, deltas, coefficients, 8) {

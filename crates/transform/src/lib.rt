@@ -5,8 +5,8 @@ ghost use Rattle.std.specs.Prelude.{◌≡◌, ◌⊎◌, ◌+◌, ◌-◌, ◌%
 ghost use Rattle.std.specs.Float.{nan};
 ghost use Rattle.numbers.specs.Arith.{◌⊗◌};
 ghost use Rattle.dequantize.specs.Coefficients.{table};
-ghost use Rattle.eights.specs.Eights.{cosineAt, sum_of};
-ghost use Rattle.transform.specs.Transform.{sumsOf};
+ghost use Rattle.eights.specs.Eights.{cosine_at, sum_of};
+ghost use Rattle.transform.specs.Transform.{sums_of};
 
 use dequantize::Spline;
 use eights::{cosines, fed};
@@ -31,14 +31,14 @@ fn more(
     t: f32,
 ) -> Sums
     requires { (from % 8 ≡ 0) × (from < 32)
-        × ((from ≡ 0) ⊎ (sums.x ≡ sum_of (λ i. get_or x.now i nan ⊗ get_or (table (cosineAt t) 32) i nan) (from - 1)))
-        × ((from ≡ 0) ⊎ (sums.y ≡ sum_of (λ i. get_or y.now i nan ⊗ get_or (table (cosineAt t) 32) i nan) (from - 1)))
-        × ((from ≡ 0) ⊎ (sums.b ≡ sum_of (λ i. get_or b.now i nan ⊗ get_or (table (cosineAt t) 32) i nan) (from - 1)))
-        × ((from ≡ 0) ⊎ (sums.sigma ≡ sum_of (λ i. get_or sigma.now i nan ⊗ get_or (table (cosineAt t) 32) i nan) (from - 1))) }
-    ensures { (result.x ≡ sum_of (λ i. get_or x.now i nan ⊗ get_or (table (cosineAt t) 32) i nan) (from + 7))
-        × (result.y ≡ sum_of (λ i. get_or y.now i nan ⊗ get_or (table (cosineAt t) 32) i nan) (from + 7))
-        × (result.b ≡ sum_of (λ i. get_or b.now i nan ⊗ get_or (table (cosineAt t) 32) i nan) (from + 7))
-        × (result.sigma ≡ sum_of (λ i. get_or sigma.now i nan ⊗ get_or (table (cosineAt t) 32) i nan) (from + 7)) }
+        × ((from ≡ 0) ⊎ (sums.x ≡ sum_of (λ i. get_or x.now i nan ⊗ get_or (table (cosine_at t) 32) i nan) (from - 1)))
+        × ((from ≡ 0) ⊎ (sums.y ≡ sum_of (λ i. get_or y.now i nan ⊗ get_or (table (cosine_at t) 32) i nan) (from - 1)))
+        × ((from ≡ 0) ⊎ (sums.b ≡ sum_of (λ i. get_or b.now i nan ⊗ get_or (table (cosine_at t) 32) i nan) (from - 1)))
+        × ((from ≡ 0) ⊎ (sums.sigma ≡ sum_of (λ i. get_or sigma.now i nan ⊗ get_or (table (cosine_at t) 32) i nan) (from - 1))) }
+    ensures { (result.x ≡ sum_of (λ i. get_or x.now i nan ⊗ get_or (table (cosine_at t) 32) i nan) (from + 7))
+        × (result.y ≡ sum_of (λ i. get_or y.now i nan ⊗ get_or (table (cosine_at t) 32) i nan) (from + 7))
+        × (result.b ≡ sum_of (λ i. get_or b.now i nan ⊗ get_or (table (cosine_at t) 32) i nan) (from + 7))
+        × (result.sigma ≡ sum_of (λ i. get_or sigma.now i nan ⊗ get_or (table (cosine_at t) 32) i nan) (from + 7)) }
 {
     let eight = cosines(from, t);
     Sums {
@@ -50,7 +50,7 @@ fn more(
 }
 
 pub fn sums_at(spline: Spline, t: f32) -> Sums
-    ensures { result ≡ sumsOf spline t }
+    ensures { result ≡ sums_of spline t }
 {
     let x = spline.x;
     let y = spline.y;

@@ -6,7 +6,7 @@ use Rattle.shape.specs.Shape as Shape
 use Rattle.dequantize.specs.declared.Given.{Given}
 use Rattle.dequantize.specs.declared.judge.Judged.{Judged}
 use Rattle.dequantize.specs.declared.judge.Judged.TheVariants as Judged
-use Rattle.dequantize.specs.Judge.{Description, judgeOf}
+use Rattle.dequantize.specs.Judge.{Description, judge_of}
 
 abbrev pub sized : ℕ → ℕ → Bool
 sized width height = leb width (2 ^ 23) && leb height (2 ^ 23)
@@ -15,14 +15,14 @@ sized width height = leb width (2 ^ 23) && leb height (2 ^ 23)
 abbrev pub shaped : Description → Bool
 shaped d = Shape.shaped d.counts d.starts d.deltas d.coefficients
 
-abbrev pub orRefused : Bool → Code → Judged → Judged
-orRefused true code rest = rest
-orRefused false code rest = Judged.Refused code 0
+abbrev pub or_refused : Bool → Code → Judged → Judged
+or_refused true code rest = rest
+or_refused false code rest = Judged.Refused code 0
 
 -- SIZE, SHAPE, ROOM for the row starts, then every spline judged
-unfoldable pub verdictOf : Description → Given → ℕ → ℕ → ℕ → Judged
-verdictOf d g width height rows =
-    orRefused (sized width height) Code.Size
-    (orRefused (shaped d) Code.Shape
-    (orRefused (leb (suc height) rows) Code.Room
-    (judgeOf d g)))
+unfoldable pub verdict_of : Description → Given → ℕ → ℕ → ℕ → Judged
+verdict_of d g width height rows =
+    or_refused (sized width height) Code.Size
+    (or_refused (shaped d) Code.Shape
+    (or_refused (leb (suc height) rows) Code.Room
+    (judge_of d g)))

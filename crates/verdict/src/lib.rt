@@ -2,8 +2,8 @@
 #![tactic(auto)]
 
 ghost use Rattle.std.specs.Prelude.{◌≡◌};
-ghost use Rattle.dequantize.specs.Judge.{descriptionOf};
-ghost use Rattle.verdict.specs.Verdict.{sized, verdictOf};
+ghost use Rattle.dequantize.specs.Judge.{description_of};
+ghost use Rattle.verdict.specs.Verdict.{sized, verdict_of};
 
 use codes::Code;
 use dequantize::Given;
@@ -29,7 +29,7 @@ pub fn judge_all(
     height: u32,
     rows: usize,
 ) -> Judged
-    ensures { result ≡ verdictOf (descriptionOf counts.now starts.now deltas.now coefficients.now) given width height rows }
+    ensures { result ≡ verdict_of (description_of counts.now starts.now deltas.now coefficients.now) given width height rows }
 {
     let small = size_good(width, height);
     let agrees = shape::shape_good(counts, starts, deltas, coefficients);

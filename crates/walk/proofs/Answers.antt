@@ -6,49 +6,49 @@ use native.Mathlib.Omega.{arith}
 use lib.ListN.{length, take, get_or}
 use lib.Seq.{get_or-take}
 use lib.Ieee.{Float, nan}
-use Rattle.buffers.proofs.Fronts.{take-onto}
+use Rattle.buffers.proofs.Fronts.{take_onto}
 use Rattle.walk.specs.declared.Walked.TheVariants.{Points, Room}
-use Rattle.walk.specs.Walk.{PointToDraw, Walk, More, Ended, walkIn, lastMultiplier, flat, toDrawAt, walkedOf, WalkedOn}
-use Rattle.walk.proofs.Walking.{length-flat}
-use Rattle.walk.proofs.Fuel.{walk-within, walk-two}
+use Rattle.walk.specs.Walk.{PointToDraw, Walk, More, Ended, walk_in, last_multiplier, flat, to_draw_at, walked_of, WalkedOn}
+use Rattle.walk.proofs.Walking.{length_flat}
+use Rattle.walk.proofs.Fuel.{walk_within, walk_two}
 
 -- a walk of n points had room and stands on the front of the buffer e
 pub record Taken (room : ℕ) (path e : List Float) (n : ℕ) : Type 0 where
   pub points : List PointToDraw
-  pub ended : walkIn room path ≡ Ended points
+  pub ended : walk_in room path ≡ Ended points
   pub count : n ≡ length points
   pub two : 2 ≤ n
   pub fits : n ≤ room
   pub front : take (3 * n) e ≡ flat points
 
-pub walked-got : (room : ℕ) (path o e : List Float) (n : ℕ) → Points n ≡ walkedOf (walkIn room path) → WalkedOn (walkIn room path) o e → Taken room path e n
-walked-got room path o e n a b = go (walkIn room path) refl a b
+pub walked-got : (room : ℕ) (path o e : List Float) (n : ℕ) → Points n ≡ walked_of (walk_in room path) → WalkedOn (walk_in room path) o e → Taken room path e n
+walked-got room path o e n a b = go (walk_in room path) refl a b
   where
-    go : (w : Walk) → walkIn room path ≡ w → Points n ≡ walkedOf w → WalkedOn w o e → Taken room path e n
+    go : (w : Walk) → walk_in room path ≡ w → Points n ≡ walked_of w → WalkedOn w o e → Taken room path e n
     go More h a b = absurd (let z : ◌≡◌ {A = ℕ} 0 1 = cc in omega arith)
     go (Ended xs) h a b =
         let k : n ≡ length xs = cc in
-        let l : length (flat xs) ≡ 3 * n = length-flat xs ∙ ap (λ (i : ℕ). 3 * i) (sym k) in
+        let l : length (flat xs) ≡ 3 * n = length_flat xs ∙ ap (λ (i : ℕ). 3 * i) (sym k) in
         record {
           points = xs;
           ended = h;
           count = k;
-          two = omega (arith, walk-two room path xs h);
-          fits = omega (arith, walk-within room path xs h);
-          front = rw b (take-onto (flat xs) o (3 * n) l);
+          two = omega (arith, walk_two room path xs h);
+          fits = omega (arith, walk_within room path xs h);
+          front = rw b (take_onto (flat xs) o (3 * n) l);
         }
 
-pub walked_none : (room : ℕ) (path : List Float) → Room ≡ walkedOf (walkIn room path) → walkIn room path ≡ More
-walked_none room path a = go (walkIn room path) a
+pub walked_none : (room : ℕ) (path : List Float) → Room ≡ walked_of (walk_in room path) → walk_in room path ≡ More
+walked_none room path a = go (walk_in room path) a
   where
-    go : (w : Walk) → Room ≡ walkedOf w → w ≡ More
+    go : (w : Walk) → Room ≡ walked_of w → w ≡ More
     go More a = refl
     go (Ended xs) a = absurd (let z : ◌≡◌ {A = ℕ} 0 1 = cc in omega arith)
 
 -- ---- point by point
 
-at-flat : (xs : List PointToDraw) (i : ℕ) (d : PointToDraw) → i < length xs → toDrawAt (flat xs) i ≡ get_or xs i d
-unfolding toDrawAt flat
+at-flat : (xs : List PointToDraw) (i : ℕ) (d : PointToDraw) → i < length xs → to_draw_at (flat xs) i ≡ get_or xs i d
+unfolding to_draw_at flat
 at-flat [] i d h = absurd (omega arith)
 at-flat (p ∷ xs) zero d h = refl
 at-flat (p ∷ xs) (suc i) d h =
@@ -57,8 +57,8 @@ at-flat (p ∷ xs) (suc i) d h =
     let g : 3 * suc i + 2 ≡ suc (suc (suc (3 * i + 2))) = omega arith in
     rw (f, g, e) (at-flat xs i d (omega arith))
 
-last_flat : (xs : List PointToDraw) → 0 < length xs → get_or (flat xs) (3 * length xs - 1) nan ≡ lastMultiplier xs
-unfolding flat lastMultiplier
+last_flat : (xs : List PointToDraw) → 0 < length xs → get_or (flat xs) (3 * length xs - 1) nan ≡ last_multiplier xs
+unfolding flat last_multiplier
 last_flat [] h = absurd (omega arith)
 last_flat (p ∷ []) h = refl
 last_flat (p ∷ q ∷ xs) h =
@@ -66,13 +66,13 @@ last_flat (p ∷ q ∷ xs) h =
     rw e (last_flat (q ∷ xs) (omega arith))
 
 module _ (room : ℕ) (path e : List Float) (n : ℕ) (t : Taken room path e n) where
-  pub taken_at : (i : ℕ) (d : PointToDraw) → i < n → toDrawAt e i ≡ get_or t.points i d
-  unfolding toDrawAt
+  pub taken_at : (i : ℕ) (d : PointToDraw) → i < n → to_draw_at e i ≡ get_or t.points i d
+  unfolding to_draw_at
   taken_at i d h =
       rw (← get_or-take (3 * n) e (3 * i) nan (omega arith), ← get_or-take (3 * n) e (3 * i + 1) nan (omega arith), ← get_or-take (3 * n) e (3 * i + 2) nan (omega arith), t.front)
       (at-flat t.points i d (omega (arith, t.count)))
 
-  pub taken-last : get_or e (3 * n - 1) nan ≡ lastMultiplier t.points
+  pub taken-last : get_or e (3 * n - 1) nan ≡ last_multiplier t.points
   taken-last =
       sym (get_or-take (3 * n) e (3 * n - 1) nan (omega (arith, t.two)))
       ∙ ap (λ (l : List Float). get_or l (3 * n - 1) nan) t.front

@@ -2,7 +2,7 @@
 #![tactic(auto)]
 
 ghost use Rattle.std.specs.Prelude.{◌≡◌, ◌+◌, ◌*◌, ◌≤◌, length};
-ghost use Rattle.walk.specs.Walk.{distance_of, pointAt, stretchOf, walkIn, walkRoom, walkedOf, WalkedOn, walkLength};
+ghost use Rattle.walk.specs.Walk.{distance_of, point_at, stretch_of, walk_in, walk_room, walked_of, WalkedOn, walk_length};
 
 use curve::Point;
 
@@ -30,7 +30,7 @@ fn distance(delta: Point) -> f32
 // Point i of a path of two numbers a point.
 fn point_at(path: &[f32], i: usize) -> Point
     requires { 2 * i + 2 ≤ length path.now }
-    ensures { result ≡ pointAt path.now i }
+    ensures { result ≡ point_at path.now i }
 {
     Point {
         x: path[2 * i],
@@ -40,7 +40,7 @@ fn point_at(path: &[f32], i: usize) -> Point
 
 // One unit of length on, from a point that lies before the path's point next.
 fn onward(path: &[f32], next: usize, from: Point) -> Stretch
-    ensures { result ≡ stretchOf path.now next from }
+    ensures { result ≡ stretch_of path.now next from }
 {
     let n = path.len() / 2;
     let mut i = next;
@@ -62,7 +62,7 @@ fn onward(path: &[f32], next: usize, from: Point) -> Stretch
 
 // How many points a walk may have in a buffer of len numbers.
 fn walk_room(len: usize) -> usize
-    ensures { result ≡ walkRoom len }
+    ensures { result ≡ walk_room len }
 {
     let n = len / 3;
     if n <= 8388608 { n } else { 8388608 }
@@ -71,8 +71,8 @@ fn walk_room(len: usize) -> usize
 // The walk along a path of one point or more, on the front of out.
 pub fn walk(path: &[f32], out: &mut [f32]) -> Walked
     requires { 2 ≤ length path.now }
-    ensures { (result ≡ walkedOf (walkIn (walkRoom (length out.old)) path.now))
-        × WalkedOn (walkIn (walkRoom (length out.old)) path.now) out.old out.new }
+    ensures { (result ≡ walked_of (walk_in (walk_room (length out.old)) path.now))
+        × WalkedOn (walk_in (walk_room (length out.old)) path.now) out.old out.new }
 {
     let room = walk_room(out.len());
     if room == 0 {
@@ -102,7 +102,7 @@ pub fn walk(path: &[f32], out: &mut [f32]) -> Walked
 // The length of a walk of n points, by the last one's multiplier.
 pub fn length_of(n: usize, last: f32) -> f32
     requires { (2 ≤ n) × (n ≤ 8388608) }
-    ensures { result ≡ walkLength n last }
+    ensures { result ≡ walk_length n last }
 {
     ((n - 2) as f32) * 1.0 + last
 }

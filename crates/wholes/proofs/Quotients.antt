@@ -10,29 +10,29 @@ use lib.Ieee.{Float, fin, Format, up, down, round, fits}
 use lib.Ieee.Fits.{down_pos}
 use lib.Ieee.Exact.{HasValue}
 use lib.Ieee.Back.{round_whole}
-use Rattle.wholes.specs.Whole.{raised, half, wholeBy, away}
-use Rattle.wholes.proofs.Wholes.{digits, whole_is, round-id}
+use Rattle.wholes.specs.Whole.{raised, half, whole_by, away}
+use Rattle.wholes.proofs.Wholes.{digits, whole_is, round_id}
 
 -- ---- a quotient and its remainder
 module _ (x d : ℕ) (D : 0 < d) where
-  pub quotient-lo : x / d * d ≤ x
-  quotient-lo = div-mul-le_self x d
+  pub quotient_lo : x / d * d ≤ x
+  quotient_lo = div-mul-le_self x d
 
-  pub quotient-hi : x < x / d * d + d
-  quotient-hi =
+  pub quotient_hi : x < x / d * d + d
+  quotient_hi =
       let e : x / d * d + x % d ≡ x = div-add-mod' x d in
       let l : x % d < d = mod-lt x D in
       omega arith
 
 module _ (n d : ℕ) (D : 0 < d) where
-  pub raised-reaches : n ≤ raised n d * d
-  raised-reaches = go (raised n d * d) (quotient-hi (n + (d - 1)) d D) D
+  pub raised_reaches : n ≤ raised n d * d
+  raised_reaches = go (raised n d * d) (quotient_hi (n + (d - 1)) d D) D
     where
       go : (p : ℕ) → n + (d - 1) < p + d → 0 < d → n ≤ p
       go p h g = omega arith
 
-  pub raised-short : raised n d * d < n + d
-  raised-short = go (raised n d * d) (quotient-lo (n + (d - 1)) d D) D
+  pub raised_short : raised n d * d < n + d
+  raised_short = go (raised n d * d) (quotient_lo (n + (d - 1)) d D) D
     where
       go : (p : ℕ) → p ≤ n + (d - 1) → 0 < d → p < n + d
       go p h g = omega arith
@@ -43,8 +43,8 @@ module _ (n d : ℕ) (D : 0 < d) where
   pub next : (a : ℕ) → (a + 1) * d ≡ a * d + d
   next a = add-mul a 1 d ∙ ap (λ (z : ℕ). a * d + z) (one-mul d)
 
-  pub raised-le : raised n d ≤ n
-  raised-le = le_of_suc-le-suc (lt_of_not-le (λ (g : suc n ≤ raised n d). go (n * d) (raised n d * d) as_many raised-short (le_trans (le_of_eq (sym (next2))) (mul-le-mul_right d g))))
+  pub raised_le : raised n d ≤ n
+  raised_le = le_of_suc-le-suc (lt_of_not-le (λ (g : suc n ≤ raised n d). go (n * d) (raised n d * d) as_many raised_short (le_trans (le_of_eq (sym (next2))) (mul-le-mul_right d g))))
     where
       next2 : suc n * d ≡ n * d + d
       next2 = omega arith
@@ -52,14 +52,14 @@ module _ (n d : ℕ) (D : 0 < d) where
       go : (p r : ℕ) → n ≤ p → r < n + d → p + d ≤ r → ⊥
       go p r a b c = omega arith
 
-  pub half-lo : 2 * half n d * d ≤ 2 * n + d
-  half-lo = le_trans (le_of_eq (mul_assoc 2 (half n d) d ∙ sym (mul_left_comm (half n d) 2 d))) (quotient-lo (2 * n + d) (2 * d) (go D))
+  pub half_lo : 2 * half n d * d ≤ 2 * n + d
+  half_lo = le_trans (le_of_eq (mul_assoc 2 (half n d) d ∙ sym (mul_left_comm (half n d) 2 d))) (quotient_lo (2 * n + d) (2 * d) (go D))
     where
       go : 0 < d → 0 < 2 * d
       go h = omega arith
 
-  pub half-hi : 2 * n < 2 * half n d * d + d
-  half-hi = go (half n d * (2 * d)) (2 * half n d * d) (quotient-hi (2 * n + d) (2 * d) (go2 D)) (mul_left_comm (half n d) 2 d ∙ sym (mul_assoc 2 (half n d) d))
+  pub half_hi : 2 * n < 2 * half n d * d + d
+  half_hi = go (half n d * (2 * d)) (2 * half n d * d) (quotient_hi (2 * n + d) (2 * d) (go2 D)) (mul_left_comm (half n d) 2 d ∙ sym (mul_assoc 2 (half n d) d))
     where
       go2 : 0 < d → 0 < 2 * d
       go2 h = omega arith
@@ -68,13 +68,13 @@ module _ (n d : ℕ) (D : 0 < d) where
       go p r h e = omega arith
 
   pub half_le : half n d ≤ n
-  half_le = le_of_suc-le-suc (lt_of_not-le (λ (g : suc n ≤ half n d). go (n * d) (half n d * d) as_many half-lo2 (le_trans (le_of_eq (sym next2)) (mul-le-mul_right d g)) D))
+  half_le = le_of_suc-le-suc (lt_of_not-le (λ (g : suc n ≤ half n d). go (n * d) (half n d * d) as_many half_lo2 (le_trans (le_of_eq (sym next2)) (mul-le-mul_right d g)) D))
     where
       next2 : suc n * d ≡ n * d + d
       next2 = omega arith
 
-      half-lo2 : 2 * (half n d * d) ≤ 2 * n + d
-      half-lo2 = le_trans (le_of_eq (sym (mul_assoc 2 (half n d) d))) half-lo
+      half_lo2 : 2 * (half n d * d) ≤ 2 * n + d
+      half_lo2 = le_trans (le_of_eq (sym (mul_assoc 2 (half n d) d))) half_lo
 
       go : (p r : ℕ) → n ≤ p → 2 * r ≤ 2 * n + d → p + d ≤ r → 0 < d → ⊥
       go p r a b c e = omega arith
@@ -96,14 +96,14 @@ module _ (n d : ℕ) (D : 0 < d) where
       go3 p r h g = omega arith
 
 -- ---- the rule's number is a value of the format
-pub value : (f : Format) (g : Bool → ℕ → ℕ → ℕ) (s : Bool) (m : ℕ) (e : ℤ) → ((n : ℕ) → g s n 1 ≡ n) → ((n d : ℕ) → 0 < d → g s n d ≤ n) → T (fits f (fin s m e)) → HasValue (wholeBy f g (fin s m e)) s (g s (m * up e) (down e)) 1
-unfolding wholeBy
+pub value : (f : Format) (g : Bool → ℕ → ℕ → ℕ) (s : Bool) (m : ℕ) (e : ℤ) → ((n : ℕ) → g s n 1 ≡ n) → ((n d : ℕ) → 0 < d → g s n d ≤ n) → T (fits f (fin s m e)) → HasValue (whole_by f g (fin s m e)) s (g s (m * up e) (down e)) 1
+unfolding whole_by
 value f g s m (pos k) id le F =
     let n = m * 2 ^ k in
     subst (λ (z : ℕ). HasValue (round f s z 1) s z 1) (sym (id n)) (subst (λ (x : Float). HasValue x s n 1) (whole_is f s m k F) (refl, refl))
 value f g s m (negsuc k) id le F = round_whole f s (g s (m * 1) (2 ^ suc k)) (le_trans (le (m * 1) (2 ^ suc k) (down_pos (negsuc k))) (le_trans (le_of_eq (mul-one m)) (le_of_lt (digits f s m (negsuc k) F))))
 
-pub round-value : (f : Format) (s : Bool) (m : ℕ) (e : ℤ) → T (fits f (fin s m e)) → HasValue (wholeBy f away (fin s m e)) s (half (m * up e) (down e)) 1
-round-value f s m e F = value f away s m e (round-id s) half_le F
+pub round_value : (f : Format) (s : Bool) (m : ℕ) (e : ℤ) → T (fits f (fin s m e)) → HasValue (whole_by f away (fin s m e)) s (half (m * up e) (down e)) 1
+round_value f s m e F = value f away s m e (round_id s) half_le F
 
 -- Assumes nothing.

@@ -14,10 +14,10 @@ abbrev pub half : ℕ → ℕ → ℕ
 half n d = (2 * n + d) / (2 * d)
 
 -- the value with its magnitude n / d replaced by the whole number that the rule gives
-unfoldable pub wholeBy : Format → (Bool → ℕ → ℕ → ℕ) → Float → Float
-wholeBy f g nan = nan
-wholeBy f g (inf s) = inf s
-wholeBy f g (fin s m e) = round f s (g s (m * up e) (down e)) 1
+unfoldable pub whole_by : Format → (Bool → ℕ → ℕ → ℕ) → Float → Float
+whole_by f g nan = nan
+whole_by f g (inf s) = inf s
+whole_by f g (fin s m e) = round f s (g s (m * up e) (down e)) 1
 
 -- the rule of each, by the sign
 abbrev pub downward : Bool → ℕ → ℕ → ℕ
@@ -29,11 +29,11 @@ upward s n d = cond s (cut n d) (raised n d)
 abbrev pub away : Bool → ℕ → ℕ → ℕ
 away s n d = half n d
 
-abbrev pub floorOf : Format → Float → Float
-floorOf f x = wholeBy f downward x
+abbrev pub floor_of : Format → Float → Float
+floor_of f x = whole_by f downward x
 
-abbrev pub ceilOf : Format → Float → Float
-ceilOf f x = wholeBy f upward x
+abbrev pub ceil_of : Format → Float → Float
+ceil_of f x = whole_by f upward x
 
-abbrev pub roundOf : Format → Float → Float
-roundOf f x = wholeBy f away x
+abbrev pub round_of : Format → Float → Float
+round_of f x = whole_by f away x

@@ -8,7 +8,7 @@ ghost use Rattle.std.specs.Float.Ieee as Ieee;
 ghost use Rattle.std.specs.Float.{binary32};
 ghost use Rattle.std.specs.Float.Ieee.Nearest.{closest};
 ghost use Rattle.std.specs.Float.Ieee.Positive.{num, den};
-ghost use Rattle.wholes.specs.Whole.{cut, raised, half, floorOf, ceilOf, roundOf};
+ghost use Rattle.wholes.specs.Whole.{cut, raised, half, floor_of, ceil_of, round_of};
 ghost use Rattle.wholes.specs.Small.{Small, Made};
 
 // The whole number nearest to a, a tie to the even one: 2^23 and more leaves a float no fraction.
@@ -56,7 +56,7 @@ fn up_from(a: f32) -> f32
 
 // The largest whole number that is at most x. From 2^23 on every f32 is whole.
 pub fn floor(x: f32) -> f32
-    ensures { result ≡ floorOf binary32 x }
+    ensures { result ≡ floor_of binary32 x }
 {
     if x > 0.0 {
         if x < 8388608.0 { down_from(x) } else { x }
@@ -70,7 +70,7 @@ pub fn floor(x: f32) -> f32
 
 // The least whole number that is at least x.
 pub fn ceil(x: f32) -> f32
-    ensures { result ≡ ceilOf binary32 x }
+    ensures { result ≡ ceil_of binary32 x }
 {
     if x > 0.0 {
         if x < 8388608.0 { up_from(x) } else { x }
@@ -84,7 +84,7 @@ pub fn ceil(x: f32) -> f32
 
 // The whole number nearest to x, a half away from zero.
 pub fn round(x: f32) -> f32
-    ensures { result ≡ roundOf binary32 x }
+    ensures { result ≡ round_of binary32 x }
 {
     if x > 0.0 {
         if x < 8388608.0 { half_of(x) as f32 } else { x }

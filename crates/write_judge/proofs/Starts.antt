@@ -8,7 +8,7 @@ use lib.Ieee.Bits.{of_bits-to_bits}
 use lib.Ieee.Fits.{down_pos, of_int-fits}
 use borrow.Author.Tests.{lt-leb, not-false}
 use Rattle.write_judge.proofs.Checks.{neither}
-use Rattle.write_judge.specs.Judge.{unfit, unfitAs}
+use Rattle.write_judge.specs.Judge.{unfit, unfit_as}
 
 -- a finite number that is fit: in range, whole, and not minus zero
 pub record Fit (s : Bool) (m : ℕ) (e : ℤ) : Type 0 where
@@ -31,27 +31,27 @@ fit_of s m e h =
       small = (div-lt_iff_lt-mul k).1 n;
     }
 
-pub unfit-nan : unfit nan ≡ true
+pub unfit_nan : unfit nan ≡ true
 unfolding unfit
-unfit-nan = refl
+unfit_nan = refl
 
-pub unfit-inf : (s : Bool) → unfit (inf s) ≡ true
+pub unfit_inf : (s : Bool) → unfit (inf s) ≡ true
 unfolding unfit
-unfit-inf s = refl
+unfit_inf s = refl
 
 pub clash : {X : Type 0} {b : Bool} → b ≡ true → b ≡ false → X
 clash p q = absurd (subst T (sym p ∙ q) tt)
 
 -- a number that is fit may be cast to an integer of any width that holds 2^23
-pub fit-signed : (h : ℕ) → 2 ^ 23 ≤ 2 ^ h → (x : Float) → unfit x ≡ false → T (in_signed binary32 h x)
+pub fit_signed : (h : ℕ) → 2 ^ 23 ≤ 2 ^ h → (x : Float) → unfit x ≡ false → T (in_signed binary32 h x)
 unfolding in_signed whole
-fit-signed h wide nan u = clash unfit-nan u
-fit-signed h wide (inf s) u = clash (unfit-inf s) u
-fit-signed h wide (fin true m e) u =
+fit_signed h wide nan u = clash unfit_nan u
+fit_signed h wide (inf s) u = clash (unfit_inf s) u
+fit_signed h wide (fin true m e) u =
     let f = fit_of true m e u in
     let q = m * up e / down e in
     rw (eq-eqb (m * up e % down e) 0 f.even, le-leb q (2 ^ 24) (omega (arith, f.small)), f.signed, le-leb q (2 ^ h) (omega (arith, f.small))) tt
-fit-signed h wide (fin false m e) u =
+fit_signed h wide (fin false m e) u =
     let f = fit_of false m e u in
     let q = m * up e / down e in
     rw (eq-eqb (m * up e % down e) 0 f.even, le-leb q (2 ^ 24) (omega (arith, f.small)), lt-ltb q (2 ^ h) (omega (arith, f.small))) tt
@@ -61,11 +61,11 @@ abs_neg zero = refl
 abs_neg (suc n) = refl
 
 -- a float of a whole number's value is fit
-value-fit : (x : Float) (s : Bool) (n : ℕ) → n < 2 ^ 23 → (s ≡ true → 0 < n) → HasValue x s n 1 → unfit x ≡ false
+value_fit : (x : Float) (s : Bool) (n : ℕ) → n < 2 ^ 23 → (s ≡ true → 0 < n) → HasValue x s n 1 → unfit x ≡ false
 unfolding unfit
-value-fit nan s n h g v = absurd v
-value-fit (inf t) s n h g v = absurd v
-value-fit (fin t m e) s n h g v =
+value_fit nan s n h g v = absurd v
+value_fit (inf t) s n h g v = absurd v
+value_fit (fin t m e) s n h g v =
     let k = down_pos e in
     let is : m * up e ≡ n * down e = sym (mul-one (m * up e)) ∙ v.1 in
     let b : n * down e < 2 ^ 23 * down e = mul-lt-mul_of_pos_right h k in
@@ -77,27 +77,27 @@ value-fit (fin t m e) s n h g v =
     plain true zero is g = let b : 0 * down e < n * down e = mul-lt-mul_of_pos_right (g refl) (down_pos e) in absurd (omega arith)
     plain true (suc m) is g = ne_eqb (suc m) 0 (λ z. omega arith)
 
-pub whole-fit : (z : ℤ) → nat_abs z < 2 ^ 23 → unfit (of_int binary32 z) ≡ false
+pub whole_fit : (z : ℤ) → nat_abs z < 2 ^ 23 → unfit (of_int binary32 z) ≡ false
 unfolding of_int
-whole-fit (pos n) h = value-fit (round binary32 false n 1) false n h (λ p. absurd (subst T (sym p) tt)) (round_whole binary32 false n (omega arith))
-whole-fit (negsuc n) h = value-fit (round binary32 true (suc n) 1) true (suc n) h (λ p. omega arith) (round_whole binary32 true (suc n) (omega arith))
+whole_fit (pos n) h = value_fit (round binary32 false n 1) false n h (λ p. absurd (subst T (sym p) tt)) (round_whole binary32 false n (omega arith))
+whole_fit (negsuc n) h = value_fit (round binary32 true (suc n) 1) true (suc n) h (λ p. omega arith) (round_whole binary32 true (suc n) (omega arith))
 
 -- a float that is not between -2^23 and 2^23 is unfit
-pub far-below : (x : Float) → lt (fin true 1 (pos 23)) x ≡ false → true ≡ unfit x
+pub far_below : (x : Float) → lt (fin true 1 (pos 23)) x ≡ false → true ≡ unfit x
 unfolding lt unfit
-far-below nan h = refl
-far-below (inf s) h = refl
-far-below (fin true m e) h = rw (le-leb (2 ^ 23 * down e) (m * up e) (omega (arith, ltb-false (m * up e * 1) (8388608 * down e) h)))
-far-below (fin false m e) h =
+far_below nan h = refl
+far_below (inf s) h = refl
+far_below (fin true m e) h = rw (le-leb (2 ^ 23 * down e) (m * up e) (omega (arith, ltb-false (m * up e * 1) (8388608 * down e) h)))
+far_below (fin false m e) h =
     let k = down_pos e in
     absurd (omega (arith, ltb-false 0 (8388608 * down e + m * up e * 1) h))
 
-pub far-above : (x : Float) → lt x (fin false 1 (pos 23)) ≡ false → true ≡ unfit x
+pub far_above : (x : Float) → lt x (fin false 1 (pos 23)) ≡ false → true ≡ unfit x
 unfolding lt unfit
-far-above nan h = refl
-far-above (inf s) h = refl
-far-above (fin false m e) h = rw (le-leb (2 ^ 23 * down e) (m * up e) (omega (arith, ltb-false (m * up e * 1) (8388608 * down e) h)))
-far-above (fin true m e) h =
+far_above nan h = refl
+far_above (inf s) h = refl
+far_above (fin false m e) h = rw (le-leb (2 ^ 23 * down e) (m * up e) (omega (arith, ltb-false (m * up e * 1) (8388608 * down e) h)))
+far_above (fin true m e) h =
     let k = down_pos e in
     absurd (omega (arith, ltb-false 0 (m * up e * 1 + 8388608 * down e) h))
 
@@ -141,46 +141,46 @@ small_float (pos n) h = le→leb n (2 ^ 24) (omega arith)
 small_float (negsuc n) h = lt→ltb n (2 ^ 24) (omega arith)
 
 -- it is no NaN
-pub fit-number : (x : Float) → unfit x ≡ false → T (not (is_nan x))
+pub fit_number : (x : Float) → unfit x ≡ false → T (not (is_nan x))
 unfolding is_nan
-fit-number nan h = clash unfit-nan h
-fit-number (inf s) h = tt
-fit-number (fin s m e) h = tt
+fit_number nan h = clash unfit_nan h
+fit_number (inf s) h = tt
+fit_number (fin s m e) h = tt
 
 -- the bits of a number and of its integer part tell whether it is fit
-pub bits-same : (x : Float) → T (fits binary32 x) → nat_abs (to_signed 63 x) < 2 ^ 23 → to_bits binary32 x ≡ to_bits binary32 (of_int binary32 (to_signed 63 x)) → false ≡ unfit x
-bits-same x f h e =
+pub bits_same : (x : Float) → T (fits binary32 x) → nat_abs (to_signed 63 x) < 2 ^ 23 → to_bits binary32 x ≡ to_bits binary32 (of_int binary32 (to_signed 63 x)) → false ≡ unfit x
+bits_same x f h e =
     let z = to_signed 63 x in
     let is : x ≡ of_int binary32 z
     = sym (of_bits-to_bits binary32 x f) ∙ ap (of_bits binary32) e ∙ of_bits-to_bits binary32 (of_int binary32 z) (of_int-fits binary32 z) in
-    sym (ap unfit is ∙ whole-fit z h)
+    sym (ap unfit is ∙ whole_fit z h)
 
-pub bits-other : (x : Float) → T (fits binary32 x) → (to_bits binary32 x ≡ to_bits binary32 (of_int binary32 (to_signed 63 x)) → ⊥) → true ≡ unfit x
-bits-other x f e = go (unfit x) refl
+pub bits_other : (x : Float) → T (fits binary32 x) → (to_bits binary32 x ≡ to_bits binary32 (of_int binary32 (to_signed 63 x)) → ⊥) → true ≡ unfit x
+bits_other x f e = go (unfit x) refl
   where
     go : (b : Bool) → unfit x ≡ b → true ≡ b
     go true h = refl
-    go false h = absurd (e (ap (to_bits binary32) (sym (Float-back_signed binary32 63 x f (fit-signed 63 (omega arith) x h)).1)))
+    go false h = absurd (e (ap (to_bits binary32) (sym (Float-back_signed binary32 63 x f (fit_signed 63 (omega arith) x h)).1)))
 
 -- a start as the first, and as a later one
-pub unfit-any : (first : Bool) (x : Float) → unfit x ≡ true → true ≡ unfitAs first x
-unfolding unfitAs
-unfit-any true x u = rw u
-unfit-any false x u = sym u
+pub unfit_any : (first : Bool) (x : Float) → unfit x ≡ true → true ≡ unfit_as first x
+unfolding unfit_as
+unfit_any true x u = rw u
+unfit_any false x u = sym u
 
-pub fit-first : (first : Bool) (x : Float) → first ≡ true → unfit x ≡ false → lt x (of_bits binary32 0) ≡ unfitAs first x
-unfolding unfitAs
-fit-first true x f u = rw u
-fit-first false x f u = clash f refl
+pub fit_first : (first : Bool) (x : Float) → first ≡ true → unfit x ≡ false → lt x (of_bits binary32 0) ≡ unfit_as first x
+unfolding unfit_as
+fit_first true x f u = rw u
+fit_first false x f u = clash f refl
 
-pub fit-later : (first : Bool) (x : Float) → first ≡ false → unfit x ≡ false → false ≡ unfitAs first x
-unfolding unfitAs
-fit-later true x f u = clash refl f
-fit-later false x f u = sym u
+pub fit_later : (first : Bool) (x : Float) → first ≡ false → unfit x ≡ false → false ≡ unfit_as first x
+unfolding unfit_as
+fit_later true x f u = clash refl f
+fit_later false x f u = sym u
 
-pub fit-any : (first : Bool) (x : Float) → unfitAs first x ≡ false → unfit x ≡ false
-unfolding unfitAs
-fit-any true x u = (neither (unfit x) (lt x (of_bits binary32 0)) u).0
-fit-any false x u = u
+pub fit_any : (first : Bool) (x : Float) → unfit_as first x ≡ false → unfit x ≡ false
+unfolding unfit_as
+fit_any true x u = (neither (unfit x) (lt x (of_bits binary32 0)) u).0
+fit_any false x u = u
 
 -- Assumes nothing.

@@ -6,7 +6,7 @@ use Rattle.std.specs.Float.Ieee.{up, down, lt}
 use Rattle.codes.specs.declared.Code.{Code}
 use Rattle.codes.specs.declared.Code.TheVariants.{Splines, Coord, Points, Delta, Shape}
 use Rattle.shape.specs.Shape.{shaped}
-use Rattle.list.specs.List.{posLimit, deltaLimit, beyond}
+use Rattle.list.specs.List.{pos_limit, delta_limit, beyond}
 use Rattle.write_judge.specs.declared.Verdict.{Verdict}
 use Rattle.write_judge.specs.declared.Verdict.TheVariants.{Fine, Fault}
 
@@ -15,10 +15,10 @@ pub data Check : Type 0 where
   check : Bool → Code → ℕ → Check
 
 -- the first check that fails
-unfoldable pub firstFault : List Check → Verdict
-firstFault [] = Fine
-firstFault (check true c p ∷ rest) = Fault c p
-firstFault (check false c p ∷ rest) = firstFault rest
+unfoldable pub first_fault : List Check → Verdict
+first_fault [] = Fine
+first_fault (check true c p ∷ rest) = Fault c p
+first_fault (check false c p ∷ rest) = first_fault rest
 
 -- lengths disagree
 unfoldable pub misshapen : List ℕ → List Float → List ℤ → List ℤ → Bool
@@ -32,36 +32,36 @@ miscounted limit splines = splines == 0 || nat_lt limit splines
 unfoldable pub unfit : Float → Bool
 unfit nan = true
 unfit (inf s) = true
-unfit (fin s m e) = nat_le (posLimit * down e) (m * up e) || (not (m * up e % down e == 0) || (s && m == 0))
+unfit (fin s m e) = nat_le (pos_limit * down e) (m * up e) || (not (m * up e % down e == 0) || (s && m == 0))
 
 -- the first start is not negative either
-unfoldable pub unfitAs : Bool → Float → Bool
-unfitAs true x = unfit x || lt x (from_bits binary32 0)
-unfitAs false x = unfit x
+unfoldable pub unfit_as : Bool → Float → Bool
+unfit_as true x = unfit x || lt x (from_bits binary32 0)
+unfit_as false x = unfit x
 
 -- the pairs of starts, with the place of the first of them: a pair is checked as one, at its x
-unfoldable pub startChecks : Bool → ℕ → List Float → List Check
-startChecks first place [] = []
-startChecks first place (x ∷ []) = []
-startChecks first place (x ∷ y ∷ starts) =
-    check (unfitAs first x || unfitAs first y) Coord place ∷ startChecks false (place + 2) starts
+unfoldable pub start_checks : Bool → ℕ → List Float → List Check
+start_checks first place [] = []
+start_checks first place (x ∷ []) = []
+start_checks first place (x ∷ y ∷ starts) =
+    check (unfit_as first x || unfit_as first y) Coord place ∷ start_checks false (place + 2) starts
 
 -- pairs of double deltas, with the place of the first of them: none of magnitude 2^30 or more
-unfoldable pub deltaChecks : ℕ → List ℤ → List Check
-deltaChecks place [] = []
-deltaChecks place (x ∷ []) = []
-deltaChecks place (x ∷ y ∷ deltas) = check (beyond deltaLimit x y) Delta place ∷ deltaChecks (place + 2) deltas
+unfoldable pub delta_checks : ℕ → List ℤ → List Check
+delta_checks place [] = []
+delta_checks place (x ∷ []) = []
+delta_checks place (x ∷ y ∷ deltas) = check (beyond delta_limit x y) Delta place ∷ delta_checks (place + 2) deltas
 
 -- the splines, with the points before them and the place of the first point count: a count, its double deltas, 128 coefficients
-unfoldable pub splineChecks : ℕ → ℕ → ℕ → List ℕ → List ℤ → List Check
-splineChecks limit total place [] deltas = []
-splineChecks limit total place (n ∷ counts) deltas =
+unfoldable pub spline_checks : ℕ → ℕ → ℕ → List ℕ → List ℤ → List Check
+spline_checks limit total place [] deltas = []
+spline_checks limit total place (n ∷ counts) deltas =
     check (nat_lt limit (total + n)) Points place
-    ∷ deltaChecks (place + 1) (take (2 * n) deltas) ++ splineChecks limit (total + n) (place + (2 * n + 129)) counts (drop (2 * n) deltas)
+    ∷ delta_checks (place + 1) (take (2 * n) deltas) ++ spline_checks limit (total + n) (place + (2 * n + 129)) counts (drop (2 * n) deltas)
 
 -- all but the room: the count is at 0, the starts from 1 on, then the adjustment, then the splines
-unfoldable pub contentChecks : List ℕ → List Float → List ℤ → List ℤ → ℕ → List Check
-contentChecks counts starts deltas coefficients limit =
+unfoldable pub content_checks : List ℕ → List Float → List ℤ → List ℤ → ℕ → List Check
+content_checks counts starts deltas coefficients limit =
     check (misshapen counts starts deltas coefficients) Shape 0
     ∷ check (miscounted limit (length counts)) Splines 0
-    ∷ startChecks true 1 starts ++ splineChecks limit 0 (2 * length counts + 2) counts deltas
+    ∷ start_checks true 1 starts ++ spline_checks limit 0 (2 * length counts + 2) counts deltas

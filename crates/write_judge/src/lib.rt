@@ -3,8 +3,8 @@
 
 ghost use Rattle.std.specs.Prelude.{◌≡◌, ◌+◌, ◌*◌, ◌%◌, ◌^◌, ◌<◌, Bool, length, pos, nat_le, slice_index_or, unsigned_abs};
 ghost use Rattle.shape.specs.Shape.{points_of};
-ghost use Rattle.list.specs.List.{deltaLimit};
-ghost use Rattle.write_judge.specs.Judge.{firstFault, misshapen, unfit, unfitAs, startChecks, deltaChecks, splineChecks, contentChecks};
+ghost use Rattle.list.specs.List.{delta_limit};
+ghost use Rattle.write_judge.specs.Judge.{first_fault, misshapen, unfit, unfit_as, start_checks, delta_checks, spline_checks, content_checks};
 
 use codes::Code;
 use shape::shape_good;
@@ -26,7 +26,7 @@ fn disagree(counts: &[u32], starts: &[f32], deltas: &[i32], coefficients: &[i32]
 // Whether a double delta has magnitude 2^30 or more.
 pub fn wild_at(deltas: &[i32], i: usize) -> bool
     requires { i < length deltas.now }
-    ensures { result ≡ nat_le deltaLimit (unsigned_abs (slice_index_or deltas.now i (pos 0))) }
+    ensures { result ≡ nat_le delta_limit (unsigned_abs (slice_index_or deltas.now i (pos 0))) }
 {
     let d = deltas[i];
     if -1073741824 < d {
@@ -39,7 +39,7 @@ pub fn wild_at(deltas: &[i32], i: usize) -> bool
 // The first fault of pairs of double deltas, of which the first stands at a place.
 fn judge_deltas(deltas: &[i32], place: usize) -> Verdict
     requires { (length deltas.now % 2 ≡ 0) × (place + length deltas.now < 2 ^ 63) }
-    ensures { result ≡ firstFault (deltaChecks place deltas.now) }
+    ensures { result ≡ first_fault (delta_checks place deltas.now) }
 {
     let mut i = 0;
     while i < deltas.len() {
@@ -57,7 +57,7 @@ fn judge_deltas(deltas: &[i32], place: usize) -> Verdict
 // The first fault of the splines, whose first point count stands behind the starts and the adjustment.
 fn judge_splines(counts: &[u32], deltas: &[i32], limit: u32) -> Verdict
     requires { (length counts.now < 2 ^ 32) × (length deltas.now ≡ 2 * points_of counts.now) }
-    ensures { result ≡ firstFault (splineChecks limit 0 (2 * length counts.now + 2) counts.now deltas.now) }
+    ensures { result ≡ first_fault (spline_checks limit 0 (2 * length counts.now + 2) counts.now deltas.now) }
 {
     let mut left = limit;
     let mut place = 2 * counts.len() + 2;
@@ -101,7 +101,7 @@ pub fn unfit_start(x: f32) -> bool
 
 // The first start is not negative either.
 fn unfit_as(first: bool, x: f32) -> bool
-    ensures { result ≡ unfitAs first x }
+    ensures { result ≡ unfit_as first x }
 {
     if unfit_start(x) {
         return true;
@@ -112,7 +112,7 @@ fn unfit_as(first: bool, x: f32) -> bool
 // The first fault of the starts, of which the first stands at 1.
 fn judge_starts(starts: &[f32]) -> Verdict
     requires { length starts.now % 2 ≡ 0 }
-    ensures { result ≡ firstFault (startChecks Bool.true 1 starts.now) }
+    ensures { result ≡ first_fault (start_checks Bool.true 1 starts.now) }
 {
     let mut i = 0;
     while i < starts.len() {
@@ -135,7 +135,7 @@ pub fn judge(
     coefficients: &[i32],
     limit: u32,
 ) -> Verdict
-    ensures { result ≡ firstFault (contentChecks counts.now starts.now deltas.now coefficients.now limit) }
+    ensures { result ≡ first_fault (content_checks counts.now starts.now deltas.now coefficients.now limit) }
 {
     if disagree(counts, starts, deltas, coefficients) {
         return Verdict::Fault(Code::Shape, 0);

@@ -9,45 +9,45 @@ use lib.Ieee.{Float}
 use Rattle.codes.specs.declared.Code.{Code}
 use Rattle.codes.specs.declared.Code.TheVariants.{Splines, Coord, Points, Delta, Room, Shape}
 use Rattle.shape.specs.Shape.{points_of}
-use Rattle.list.specs.List.{deltaLimit, beyond, Tame}
-use Rattle.writer.specs.Write.{misshapen, miscounted, unfitAs}
-use Rattle.write_laws.specs.Refusals.{pointsBefore}
+use Rattle.list.specs.List.{delta_limit, beyond, Tame}
+use Rattle.writer.specs.Write.{misshapen, miscounted, unfit_as}
+use Rattle.write_laws.specs.Refusals.{points_before}
 
 -- pair k of the starts holds a number that can't be written
-abbrev pub unfitPair : Bool → List Float → ℕ → Bool
-unfitPair first [] k = false
-unfitPair first (x ∷ []) k = false
-unfitPair first (x ∷ y ∷ ss) zero = unfitAs first x || unfitAs first y
-unfitPair first (x ∷ y ∷ ss) (suc k) = unfitPair false ss k
+abbrev pub unfit_pair : Bool → List Float → ℕ → Bool
+unfit_pair first [] k = false
+unfit_pair first (x ∷ []) k = false
+unfit_pair first (x ∷ y ∷ ss) zero = unfit_as first x || unfit_as first y
+unfit_pair first (x ∷ y ∷ ss) (suc k) = unfit_pair false ss k
 
 -- the first k pairs of the starts can be written
 abbrev pub FitPairs : Bool → ℕ → List Float → Type 0
 FitPairs first zero ss = Unit {0}
 FitPairs first (suc k) [] = Unit {0}
 FitPairs first (suc k) (x ∷ []) = Unit {0}
-FitPairs first (suc k) (x ∷ y ∷ ss) = ((unfitAs first x || unfitAs first y) ≡ false) × FitPairs false k ss
+FitPairs first (suc k) (x ∷ y ∷ ss) = ((unfit_as first x || unfit_as first y) ≡ false) × FitPairs false k ss
 
 -- pair k of the double deltas holds one of magnitude 2^30 or more
-abbrev pub wildPair : List ℤ → ℕ → Bool
-wildPair [] k = false
-wildPair (x ∷ []) k = false
-wildPair (x ∷ y ∷ ds) zero = beyond deltaLimit x y
-wildPair (x ∷ y ∷ ds) (suc k) = wildPair ds k
+abbrev pub wild_pair : List ℤ → ℕ → Bool
+wild_pair [] k = false
+wild_pair (x ∷ []) k = false
+wild_pair (x ∷ y ∷ ds) zero = beyond delta_limit x y
+wild_pair (x ∷ y ∷ ds) (suc k) = wild_pair ds k
 
 -- from the first point count to that of spline k: double deltas, 128 coefficients and a count for each spline before it
-abbrev pub valuesBefore : ℕ → List ℕ → ℕ
-valuesBefore k ns = 2 * pointsBefore k ns + 129 * k
+abbrev pub values_before : ℕ → List ℕ → ℕ
+values_before k ns = 2 * points_before k ns + 129 * k
 
 -- a code and a place that the splines give, under a limit, with the points before them and the place of the first point count
 pub data SplineRefusal (limit total place : ℕ) (ns : List ℕ) (ds : List ℤ) : Code → ℕ → Type 0 where
   -- 4: the running total passes the limit at spline k's count, and no double delta before it is wild
-  points : (k : ℕ) → k < length ns → total + pointsBefore k ns ≤ limit → limit < total + pointsBefore (suc k) ns
-      → Tame (take (2 * pointsBefore k ns) ds)
-      → SplineRefusal limit total place ns ds Points (place + valuesBefore k ns)
+  points : (k : ℕ) → k < length ns → total + points_before k ns ≤ limit → limit < total + points_before (suc k) ns
+      → Tame (take (2 * points_before k ns) ds)
+      → SplineRefusal limit total place ns ds Points (place + values_before k ns)
   -- 5: pair j of spline k is wild, the running total is within the limit there, and no double delta before it is wild
-  delta : (k j : ℕ) → k < length ns → j < get_or ns k 0 → total + pointsBefore (suc k) ns ≤ limit
-      → Tame (take (2 * (pointsBefore k ns + j)) ds) → wildPair ds (pointsBefore k ns + j) ≡ true
-      → SplineRefusal limit total place ns ds Delta (place + valuesBefore k ns + (1 + 2 * j))
+  delta : (k j : ℕ) → k < length ns → j < get_or ns k 0 → total + points_before (suc k) ns ≤ limit
+      → Tame (take (2 * (points_before k ns + j)) ds) → wild_pair ds (points_before k ns + j) ≡ true
+      → SplineRefusal limit total place ns ds Delta (place + values_before k ns + (1 + 2 * j))
 
 -- a code and a place that a description gives, under a limit, where its list has so many values and so many cells are lent
 pub data Refusing (ns : List ℕ) (ss : List Float) (ds cs : List ℤ) (limit size room : ℕ) : Code → ℕ → Type 0 where
@@ -57,7 +57,7 @@ pub data Refusing (ns : List ℕ) (ss : List Float) (ds cs : List ℤ) (limit si
   splines : misshapen ns ss ds cs ≡ false → miscounted limit (length ns) ≡ true → Refusing ns ss ds cs limit size room Splines 0
   -- 3: pair k of the starts is the first that can't be written
   coord : misshapen ns ss ds cs ≡ false → miscounted limit (length ns) ≡ false
-      → (k : ℕ) → FitPairs true k ss → unfitPair true ss k ≡ true
+      → (k : ℕ) → FitPairs true k ss → unfit_pair true ss k ≡ true
       → Refusing ns ss ds cs limit size room Coord (1 + 2 * k)
   -- 4 and 5: all starts can be written, and the splines give the code
   spline : misshapen ns ss ds cs ≡ false → miscounted limit (length ns) ≡ false → FitPairs true (length ns) ss

@@ -3,8 +3,8 @@ use Rattle.std.specs.Prelude.{◌≡◌, true, false, List, map, ℕ, ◌+◌, �
 use Rattle.std.specs.Float.{nan}
 use Rattle.std.specs.Float.Ieee.{to_signed}
 use Rattle.shape.specs.Shape.{points_of}
-use Rattle.list.specs.List.{described, list_of, startsList}
-use Rattle.write_judge.specs.Judge.{firstFault, startChecks}
+use Rattle.list.specs.List.{described, list_of, starts_list}
+use Rattle.write_judge.specs.Judge.{first_fault, start_checks}
 use Rattle.write_judge.specs.declared.Verdict.TheVariants.{Fine}
 
 -- the whole number of a start
@@ -16,8 +16,8 @@ unfoldable pub values_of : List ℕ → List Float → List ℤ → List ℤ →
 values_of counts starts deltas coefficients adjustment = list_of (described adjustment (map whole_of starts) counts deltas coefficients)
 
 -- the values of the starts from i on, each a difference to the one before it
-unfoldable pub laterList : List Float → ℕ → List ℕ
-laterList starts i = startsList false (whole_of (get_or starts (i - 2) nan)) (whole_of (get_or starts (i - 1) nan)) (map whole_of (drop i starts))
+unfoldable pub later_list : List Float → ℕ → List ℕ
+later_list starts i = starts_list false (whole_of (get_or starts (i - 2) nan)) (whole_of (get_or starts (i - 1) nan)) (map whole_of (drop i starts))
 
 -- a description that was judged, and a list with room for it
 pub record Writable (counts : List ℕ) (starts : List Float) (deltas coefficients : List ℤ) (room : ℕ) : Type 0 where
@@ -26,5 +26,5 @@ pub record Writable (counts : List ℕ) (starts : List Float) (deltas coefficien
   pub pairs : length starts ≡ 2 * length counts
   pub points : length deltas ≡ 2 * points_of counts
   pub rows : length coefficients ≡ 128 * length counts
-  pub fit : firstFault (startChecks true 1 starts) ≡ Fine
+  pub fit : first_fault (start_checks true 1 starts) ≡ Fine
   pub fits : 131 * length counts + length deltas + 2 ≤ room

@@ -4,16 +4,16 @@
 ghost use Rattle.std.specs.Prelude.{◌≡◌, Bool, ◌∷◌, ◌++◌, map, ◌+◌, ◌-◌, ◌*◌, ◌≤◌, ◌<◌, ◌%◌, length, pos, nat_abs, ◌-ℤ◌};
 ghost use Rattle.std.proofs.lemmas.List.Edits.{sets};
 ghost use Rattle.shape.specs.Shape.{points_of};
-ghost use Rattle.list.specs.List.{packSigned, startsList, splinesList};
-ghost use Rattle.write_judge.specs.Judge.{firstFault, unfit, unfitAs, startChecks};
+ghost use Rattle.list.specs.List.{pack_signed, starts_list, splines_list};
+ghost use Rattle.write_judge.specs.Judge.{first_fault, unfit, unfit_as, start_checks};
 ghost use Rattle.write_judge.specs.declared.Verdict.{Verdict};
-ghost use Rattle.write_steps.specs.Steps.{whole_of, laterList, values_of, Writable};
+ghost use Rattle.write_steps.specs.Steps.{whole_of, later_list, values_of, Writable};
 
 use list::pack_signed;
 
 // The value of a coordinate of the first start.
 fn first_value(x: f32) -> u32
-    requires { unfitAs Bool.true x ≡ Bool.false }
+    requires { unfit_as Bool.true x ≡ Bool.false }
     ensures { result ≡ nat_abs (whole_of x) }
 {
     x as u32
@@ -22,7 +22,7 @@ fn first_value(x: f32) -> u32
 // The value of a coordinate of a later start.
 fn later_value(last: f32, x: f32) -> u32
     requires { (unfit last ≡ Bool.false) × (unfit x ≡ Bool.false) }
-    ensures { result ≡ packSigned (whole_of x -ℤ whole_of last) }
+    ensures { result ≡ pack_signed (whole_of x -ℤ whole_of last) }
 {
     pack_signed((x as i32) - (last as i32))
 }
@@ -30,7 +30,7 @@ fn later_value(last: f32, x: f32) -> u32
 // Signed numbers, from a place of the list on.
 fn put_numbers(numbers: &[i32], list: &mut [u32], at: usize)
     requires { at + length numbers.now ≤ length list.old }
-    ensures { list.new ≡ sets list.old at (map packSigned numbers.now) }
+    ensures { list.new ≡ sets list.old at (map pack_signed numbers.now) }
 {
     let mut i = 0;
     while i < numbers.len() {
@@ -41,8 +41,8 @@ fn put_numbers(numbers: &[i32], list: &mut [u32], at: usize)
 
 // The starts after the first: each is a difference to the one before it.
 fn put_later_starts(starts: &[f32], list: &mut [u32])
-    requires { (length starts.now % 2 ≡ 0) × (2 ≤ length starts.now) × (length starts.now < length list.old) × (firstFault (startChecks Bool.true 1 starts.now) ≡ Verdict.Fine) }
-    ensures { list.new ≡ sets list.old 3 (laterList starts.now 2) }
+    requires { (length starts.now % 2 ≡ 0) × (2 ≤ length starts.now) × (length starts.now < length list.old) × (first_fault (start_checks Bool.true 1 starts.now) ≡ Verdict.Fine) }
+    ensures { list.new ≡ sets list.old 3 (later_list starts.now 2) }
 {
     let mut i = 2;
     while i < starts.len() {
@@ -54,8 +54,8 @@ fn put_later_starts(starts: &[f32], list: &mut [u32])
 
 // All starts, from 1 on.
 fn put_starts(starts: &[f32], list: &mut [u32])
-    requires { (length starts.now % 2 ≡ 0) × (2 ≤ length starts.now) × (length starts.now < length list.old) × (firstFault (startChecks Bool.true 1 starts.now) ≡ Verdict.Fine) }
-    ensures { list.new ≡ sets list.old 1 (startsList Bool.true (pos 0) (pos 0) (map whole_of starts.now)) }
+    requires { (length starts.now % 2 ≡ 0) × (2 ≤ length starts.now) × (length starts.now < length list.old) × (first_fault (start_checks Bool.true 1 starts.now) ≡ Verdict.Fine) }
+    ensures { list.new ≡ sets list.old 1 (starts_list Bool.true (pos 0) (pos 0) (map whole_of starts.now)) }
 {
     list[1] = first_value(starts[0]);
     list[2] = first_value(starts[1]);
@@ -65,7 +65,7 @@ fn put_starts(starts: &[f32], list: &mut [u32])
 // A spline: its point count, its double deltas, its coefficients.
 fn put_spline(n: u32, deltas: &[i32], coefficients: &[i32], list: &mut [u32], at: usize)
     requires { at + (1 + length deltas.now + length coefficients.now) ≤ length list.old }
-    ensures { list.new ≡ sets list.old at (n ∷ (map packSigned deltas.now ++ map packSigned coefficients.now)) }
+    ensures { list.new ≡ sets list.old at (n ∷ (map pack_signed deltas.now ++ map pack_signed coefficients.now)) }
 {
     let first = at + 1;
     let after = first + deltas.len();
@@ -77,7 +77,7 @@ fn put_spline(n: u32, deltas: &[i32], coefficients: &[i32], list: &mut [u32], at
 // All splines, from a place on.
 fn put_splines(counts: &[u32], deltas: &[i32], coefficients: &[i32], list: &mut [u32], at: usize)
     requires { (length deltas.now ≡ 2 * points_of counts.now) × (length coefficients.now ≡ 128 * length counts.now) × (at + length deltas.now + 129 * length counts.now ≤ length list.old) }
-    ensures { list.new ≡ sets list.old at (splinesList counts.now deltas.now coefficients.now) }
+    ensures { list.new ≡ sets list.old at (splines_list counts.now deltas.now coefficients.now) }
 {
     let mut place = at;
     let mut from = 0;

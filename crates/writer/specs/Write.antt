@@ -2,11 +2,11 @@
 use Rattle.std.specs.Prelude.{List, [], ◌∷◌, ◌++◌, ℕ, ◌-◌, ltb, length, replicate, ℤ, Float}
 use Rattle.codes.specs.Codes.{number_of}
 use Rattle.codes.specs.declared.Code.TheVariants.{Room}
-use Rattle.list.specs.List.{limitOf}
+use Rattle.list.specs.List.{limit_of}
 use Rattle.write_judge.specs.declared.Verdict.{Verdict}
 use Rattle.write_judge.specs.declared.Verdict.TheVariants.{Fine, Fault}
 pub use Rattle.write_judge.specs.Judge.{Check, check}
-unfoldable pub use Rattle.write_judge.specs.Judge.{firstFault, misshapen, miscounted, unfit, unfitAs, startChecks, deltaChecks, splineChecks, contentChecks}
+unfoldable pub use Rattle.write_judge.specs.Judge.{first_fault, misshapen, miscounted, unfit, unfit_as, start_checks, delta_checks, spline_checks, content_checks}
 pub use Rattle.write_steps.specs.Steps.{whole_of}
 unfoldable pub use Rattle.write_steps.specs.Steps.{values_of}
 use Rattle.writer.specs.declared.WriteAnswer.{WriteAnswer}
@@ -19,9 +19,9 @@ pub record WriteTold : Type 0 where
   pub values : ℕ
 
 -- a success is number 0 at place 0; a refusal has a count of 0
-abbrev pub toldOf : WriteAnswer → WriteTold
-toldOf (Done n) = record { number = 0; place = 0; values = n }
-toldOf (Refused c p) = record { number = number_of c; place = p; values = 0 }
+abbrev pub told_of : WriteAnswer → WriteTold
+told_of (Done n) = record { number = 0; place = 0; values = n }
+told_of (Refused c p) = record { number = number_of c; place = p; values = 0 }
 
 -- the answer, what it tells, and every cell of the lent list
 pub record WriteOutcome : Type 0 where
@@ -30,7 +30,7 @@ pub record WriteOutcome : Type 0 where
   pub list : List ℕ
 
 abbrev pub leaves : WriteAnswer → List ℕ → WriteOutcome
-leaves r l = record { answer = r; told = toldOf r; list = l }
+leaves r l = record { answer = r; told = told_of r; list = l }
 
 -- the values and then zeros, or a refusal and zeros
 abbrev pub outcome : ℕ → List ℕ → Verdict → WriteOutcome
@@ -38,8 +38,8 @@ outcome room values Fine = leaves (Done (length values)) (values ++ replicate (r
 outcome room values (Fault c p) = leaves (Refused c p) (replicate room 0)
 
 -- what `write` answers and leaves in a list of so many cells
-unfoldable pub writeOf : List ℕ → List Float → List ℤ → List ℤ → ℤ → ℕ → ℕ → ℕ → WriteOutcome
-writeOf counts starts deltas coefficients adjustment configured pixels room =
+unfoldable pub write_of : List ℕ → List Float → List ℤ → List ℤ → ℤ → ℕ → ℕ → ℕ → WriteOutcome
+write_of counts starts deltas coefficients adjustment configured pixels room =
     let values = values_of counts starts deltas coefficients adjustment in
     outcome room values
-    (firstFault (contentChecks counts starts deltas coefficients (limitOf configured pixels) ++ check (ltb room (length values)) Room room ∷ []))
+    (first_fault (content_checks counts starts deltas coefficients (limit_of configured pixels) ++ check (ltb room (length values)) Room room ∷ []))

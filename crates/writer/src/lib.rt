@@ -2,7 +2,7 @@
 #![tactic(auto)]
 
 ghost use Rattle.std.specs.Prelude.{◌≡◌, length};
-ghost use Rattle.writer.specs.Write.{leaves, writeOf};
+ghost use Rattle.writer.specs.Write.{leaves, write_of};
 
 use buffers::clear_u32;
 use codes::Code;
@@ -28,7 +28,7 @@ pub fn write(
     list: &mut [u32],
 ) -> WriteAnswer
     ensures { leaves result list.new
-        ≡ writeOf counts.now starts.now deltas.now coefficients.now adjustment configured pixels (length list.old) }
+        ≡ write_of counts.now starts.now deltas.now coefficients.now adjustment configured pixels (length list.old) }
 {
     clear_u32(list);
     match judge(

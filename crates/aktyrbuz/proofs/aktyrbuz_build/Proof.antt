@@ -2,7 +2,7 @@
 use native.Mathlib.Omega.{arith}
 use mir.Syntax.{w32}
 use mir.Facts.{to_z-of_z}
-use Rattle.aktyrbuz.proofs.Numbers.{build-exported}
+use Rattle.aktyrbuz.proofs.Numbers.{build_exported}
 use borrow.Author.Rules.{rules}
 use Rattle.aktyrbuz.proofs.aktyrbuz_build.Statement.{statement}
 use Rattle.aktyrbuz.proofs.aktyrbuz_build.Tie as tie
@@ -38,7 +38,7 @@ returns : tie.Need-returns
 returns c =
     let s = c.before.before.before.before.before.before.before.before.before.before.before.before.before.before.before.before.before.before.before.before.before.before.before.before.before.before.before.before.before.before in
     let e = to_z-of_z {w = w32} {z = s.args.adjustment} (record { sfits = omega (arith, s.well-formed.1.1.1.1.0) }) in
-    build-exported _ _ _ _ _ _ _ _ _ (rw e at c.before.before.before.before.before.before.before.before.before.before.before.before.before.before.before.build.ensures) c.before.before.told-build.ensures c.tell.ensures
+    build_exported _ _ _ _ _ _ _ _ _ (rw e at c.before.before.before.before.before.before.before.before.before.before.before.before.before.before.before.build.ensures) c.before.before.told-build.ensures c.tell.ensures
 
 pub aktyrbuz-build-spec : {M : Type 1} → statement M
 aktyrbuz-build-spec =

@@ -1,5 +1,5 @@
 -- `aktyrbuz_draw` meets its contract: what `draw` leaves, and its answer told in five numbers.
-use Rattle.aktyrbuz.proofs.Numbers.{draw-exported}
+use Rattle.aktyrbuz.proofs.Numbers.{draw_exported}
 use borrow.Author.Rules.{rules}
 use Rattle.aktyrbuz.proofs.aktyrbuz_draw.Statement.{statement}
 use Rattle.aktyrbuz.proofs.aktyrbuz_draw.Tie as tie
@@ -26,7 +26,7 @@ returns : tie.Need-returns
 returns c =
     let b = c.before.before in
     let d = b.before.before.before.before.before.before.before.draw in
-    draw-exported _ _ _ _ d.ensures b.told-draw.ensures c.tell.ensures
+    draw_exported _ _ _ _ d.ensures b.told-draw.ensures c.tell.ensures
 
 pub aktyrbuz-draw-spec : {M : Type 1} → statement M
 aktyrbuz-draw-spec =

@@ -1,5 +1,5 @@
 -- `aktyrbuz_read` meets its contract: what `read` leaves, and its answer told in five numbers.
-use Rattle.aktyrbuz.proofs.Numbers.{read-exported}
+use Rattle.aktyrbuz.proofs.Numbers.{read_exported}
 use borrow.Author.Rules.{rules}
 use Rattle.aktyrbuz.proofs.aktyrbuz_read.Statement.{statement}
 use Rattle.aktyrbuz.proofs.aktyrbuz_read.Tie as tie
@@ -29,7 +29,7 @@ returns : tie.Need-returns
 returns c =
     let b = c.before.before in
     let r = b.before.before.before.before.before.before.before.read in
-    read-exported _ _ _ _ _ _ _ r.ensures b.told-read.ensures c.tell.ensures
+    read_exported _ _ _ _ _ _ _ r.ensures b.told-read.ensures c.tell.ensures
 
 pub aktyrbuz-read-spec : {M : Type 1} → statement M
 aktyrbuz-read-spec =

@@ -2,7 +2,7 @@
 use native.Mathlib.Omega.{arith}
 use mir.Syntax.{w32}
 use mir.Facts.{to_z-of_z}
-use Rattle.aktyrbuz.proofs.Numbers.{write-exported}
+use Rattle.aktyrbuz.proofs.Numbers.{write_exported}
 use borrow.Author.Rules.{rules}
 use Rattle.aktyrbuz.proofs.aktyrbuz_write.Statement.{statement}
 use Rattle.aktyrbuz.proofs.aktyrbuz_write.Tie as tie
@@ -24,7 +24,7 @@ returns c =
     let b = c.before.before in
     let a = b.before.before.before.before.before.before.before.before.args in
     let e = to_z-of_z {w = w32} {z = a.adjustment} (record { sfits = omega (arith, b.before.before.before.before.before.before.before.before.well-formed.1.1.1.1.0) }) in
-    write-exported _ _ _ _ (rw e at b.before.before.before.write.ensures) b.told-write.ensures c.tell.ensures
+    write_exported _ _ _ _ (rw e at b.before.before.before.write.ensures) b.told-write.ensures c.tell.ensures
 
 pub aktyrbuz-write-spec : {M : Type 1} → statement M
 aktyrbuz-write-spec =

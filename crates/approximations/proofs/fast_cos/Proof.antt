@@ -4,7 +4,7 @@ use mathlib.Core.Bool.{true, false}
 use borrow.Author.Rules.{rules}
 use lib.Ieee.{Float, of_bits, mul, div, le, neg}
 use Rattle.numbers.specs.Arith.{f, ◌⊗◌, ◌⊘◌, ◌⊖◌}
-use Rattle.approximations.specs.Cos.{fastCos, cosCore, folded}
+use Rattle.approximations.specs.Cos.{fast_cos, cos_core, folded}
 use Rattle.approximations.proofs.fast_cos.Statement.{statement}
 use Rattle.approximations.proofs.fast_cos.Tie as tie
 
@@ -37,12 +37,12 @@ angle : (c : tie.After-min) → c.min.result ≡ folded c.before.before.args.x
 unfolding folded
 angle c = c.min.ensures ∙ rw (two-pi, c.before.floor.ensures, part)
 
-yes : (x a r : Float) → a ≡ folded x → le (f 0x40490fdb ⊘ f 0x40000000) a ≡ true → r ≡ cosCore (f 0x40490fdb ⊖ a) → neg r ≡ fastCos x
-unfolding fastCos
+yes : (x a r : Float) → a ≡ folded x → le (f 0x40490fdb ⊘ f 0x40000000) a ≡ true → r ≡ cos_core (f 0x40490fdb ⊖ a) → neg r ≡ fast_cos x
+unfolding fast_cos
 yes x a r p q e = rw e (rw (← p) (rw (← half-pi) (rw q)))
 
-no : (x a r : Float) → a ≡ folded x → le (f 0x40490fdb ⊘ f 0x40000000) a ≡ false → r ≡ cosCore a → r ≡ fastCos x
-unfolding fastCos
+no : (x a r : Float) → a ≡ folded x → le (f 0x40490fdb ⊘ f 0x40000000) a ≡ false → r ≡ cos_core a → r ≡ fast_cos x
+unfolding fast_cos
 no x a r p q e = rw e (rw (← p) (rw (← half-pi) (rw q)))
 
 returns : tie.Need-returns

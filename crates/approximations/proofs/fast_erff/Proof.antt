@@ -1,6 +1,6 @@
 -- The calls' promises joined are the definition.
 use borrow.Author.Rules.{rules}
-use Rattle.approximations.specs.Erf.{fastErff}
+use Rattle.approximations.specs.Erf.{fast_erff}
 use Rattle.approximations.proofs.fast_erff.Statement.{statement}
 use Rattle.approximations.proofs.fast_erff.Tie as tie
 
@@ -17,7 +17,7 @@ with-sign-requires : tie.Need-with-sign-requires
 with-sign-requires c κs = search rules
 
 returns : tie.Need-returns
-unfolding fastErff
+unfolding fast_erff
 returns c = cc
 
 pub fast-erff-spec : {M : Type 1} → statement M

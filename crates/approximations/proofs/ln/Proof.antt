@@ -5,27 +5,27 @@ use Prim.Native.Nat.{zero, suc}
 use borrow.Author.Rules.{rules}
 use lib.Dec.{T, T_not}
 use lib.Ieee.{Float, nan, inf, fin, of_bits, div, neg, lt, eq}
-use Rattle.numbers.proofs.Zero.{yes, no, null, over, zero_is, not-zero, above}
-use Rattle.approximations.specs.Ln.{lnOf}
+use Rattle.numbers.proofs.Zero.{yes, no, null, over, zero_is, not_zero, above}
+use Rattle.approximations.specs.Ln.{ln_of}
 use Rattle.approximations.proofs.ln.Statement.{statement}
 use Rattle.approximations.proofs.ln.Tie as tie
 
-endless : (x : Float) → T (lt null x) → T (not (lt x (inf false))) → x ≡ lnOf x
-unfolding lt lnOf
+endless : (x : Float) → T (lt null x) → T (not (lt x (inf false))) → x ≡ ln_of x
+unfolding lt ln_of
 endless nan a b = absurd a
 endless (inf true) a b = absurd a
 endless (inf false) a b = refl
 endless (fin s m e) a b = absurd b
 
-at_zero : (x : Float) → T (eq x null) → inf true ≡ lnOf x
-unfolding eq lnOf
+at_zero : (x : Float) → T (eq x null) → inf true ≡ ln_of x
+unfolding eq ln_of
 at_zero nan a = absurd a
 at_zero (inf s) a = absurd a
 at_zero (fin s zero e) a = refl
-at_zero (fin s (suc m) e) a = absurd (not-zero s m e a)
+at_zero (fin s (suc m) e) a = absurd (not_zero s m e a)
 
-rest : (x : Float) → T (not (lt null x)) → T (not (eq x null)) → nan ≡ lnOf x
-unfolding lt eq lnOf
+rest : (x : Float) → T (not (lt null x)) → T (not (eq x null)) → nan ≡ ln_of x
+unfolding lt eq ln_of
 rest nan a b = refl
 rest (inf true) a b = refl
 rest (inf false) a b = absurd a

@@ -11,8 +11,8 @@ use lib.Ieee.Fits.{and_i, fits_widens}
 use mir.Syntax.{w64}
 use mir.Val.{Fits}
 use Rattle.to_f32.specs.Narrow.{narrow}
-use Rattle.approximations.proofs.Above.{of_positive, high, low, pattern, castable-place}
-use Rattle.numbers.proofs.Zero.{yes, positive-is}
+use Rattle.approximations.proofs.Above.{of_positive, high, low, pattern, castable_place}
+use Rattle.numbers.proofs.Zero.{yes, positive_is}
 use Rattle.approximations.proofs.ln_above.Statement.{statement}
 use Rattle.approximations.proofs.ln_above.Tie as tie
 
@@ -20,10 +20,10 @@ held : (c : tie.Start) → T (fits binary32 c.args.x)
 held c = yes c.well-formed.0.1
 
 float-to-float-b : tie.Need-float-to-float-b
-float-to-float-b c = and_i (fits binary64 c.before.args.x) (not (is_nan c.before.args.x)) (fits_widens c.before.args.x (held c.before)) (positive-is c.before.args.x c.before.requires)
+float-to-float-b c = and_i (fits binary64 c.before.args.x) (not (is_nan c.before.args.x)) (fits_widens c.before.args.x (held c.before)) (positive_is c.before.args.x c.before.requires)
 
 float-to-bits-b : tie.Need-float-to-bits-b
-float-to-bits-b c = positive-is c.before.args.x c.before.requires
+float-to-bits-b c = positive_is c.before.args.x c.before.requires
 
 add-z : tie.Need-overflow-add-z
 add-z c = go (bit_and (to_bits binary64 c.before.args.x) 4503599627370495) (mask_lt (to_bits binary64 c.before.args.x) 52)
@@ -35,7 +35,7 @@ float-from-bits-z : tie.Need-float-from-bits-z
 float-from-bits-z c = pattern (bit_and (to_bits binary64 c.before.args.x) 4503599627370495) (mask_lt (to_bits binary64 c.before.args.x) 52)
 
 int-to-float-k : tie.Need-int-to-float-k
-int-to-float-k c = castable-place c.before.before.args.x (fits_widens c.before.before.args.x (held c.before.before))
+int-to-float-k c = castable_place c.before.before.args.x (fits_widens c.before.before.args.x (held c.before.before))
 
 ln-at-requires : tie.Need-ln-at-requires
 ln-at-requires c κs = search rules

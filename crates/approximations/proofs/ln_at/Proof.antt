@@ -1,11 +1,11 @@
 -- The body is the definition, operation for operation.
 use mathlib.Core.Path.{refl}
-use Rattle.approximations.specs.Ln.{lnAt}
+use Rattle.approximations.specs.Ln.{ln_at}
 use Rattle.approximations.proofs.ln_at.Statement.{statement}
 use Rattle.approximations.proofs.ln_at.Tie as tie
 
 returns : tie.Need-returns
-unfolding lnAt
+unfolding ln_at
 returns c = refl
 
 pub ln-at-spec : {M : Type 1} → statement M

@@ -6,7 +6,7 @@ use native.Mathlib.Omega.{arith}
 use borrow.Author.Rules.{rules}
 use Rattle.desks.specs.Desks.{sight_of}
 use Rattle.checks.specs.Tables.{table_of}
-use Rattle.band_sums.proofs.Sums.{band-begins, band-sum}
+use Rattle.band_sums.proofs.Sums.{band_begins, band_sum}
 use Rattle.band_sums.proofs.sum_band.Statement.{statement}
 use Rattle.band_sums.proofs.sum_band.Tie as tie
 
@@ -23,7 +23,7 @@ sum-rows-requires : tie.Need-sum-rows-requires
 sum-rows-requires c κs =
     let P = c.before.before.before.before.before.before in
     let A = P.args in
-    let h = band-begins A.height A.b P.requires.1.0 in
+    let h = band_begins A.height A.b P.requires.1.0 in
     let e : c.if1.end ≡ min (64 * A.b + 64) A.height = ⊎_elim (λ w. omega arith) (λ w. omega arith) c.if1.branch in
     (P.requires.0, (omega (arith, h, e), omega (arith, e), P.requires.1.1))
 
@@ -32,7 +32,7 @@ returns c =
     let P = c.before.before.before.before.before.before.before in
     let A = P.args in
     let e : c.before.if1.end ≡ min (64 * A.b + 64) A.height = ⊎_elim (λ w. omega arith) (λ w. omega arith) c.before.if1.branch in
-    band-sum (table_of A.segments.now A.segment-count A.entries.now A.entry-count A.row-starts.now A.height) (sight_of A.owners.now A.splines A.bits.now A.desk) A.width A.b (64 * A.b) c.before.if1.end refl e c.sum_rows.ensures
+    band_sum (table_of A.segments.now A.segment_count_lem A.entries.now A.entry_count_lem A.row-starts.now A.height) (sight_of A.owners.now A.splines A.bits.now A.desk) A.width A.b (64 * A.b) c.before.if1.end refl e c.sum_rows.ensures
 
 pub sum-band-spec : {M : Type 1} → statement M
 sum-band-spec = tie.close (tie.spec mul-first add-if1 add-end sum-rows-requires returns)

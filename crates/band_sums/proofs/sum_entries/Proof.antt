@@ -6,19 +6,19 @@ use lib.ListN.{length, get_or}
 use lib.Seq.{slice}
 use borrow.Author.Tests.{lt-ltb, le-ltb}
 use Rattle.desks.specs.Desks.{sight_of}
-use Rattle.band_sums.specs.Steps.{sumOver}
-use Rattle.band_sums.proofs.Sums.{over-not-below, over-not-owned, over-next, over_none, with-most}
+use Rattle.band_sums.specs.Steps.{sum_over}
+use Rattle.band_sums.proofs.Sums.{over_not_below, over_not_owned, over_next, over_none, with_most}
 use Rattle.band_sums.proofs.sum_entries.Statement.{statement}
 use Rattle.band_sums.proofs.sum_entries.Tie as tie
 
 abbrev invariant-loop : tie.invariant-loop
-invariant-loop segments owners segment-count entries b e splines bits desk width total₀ j₀ total j =
-    (j ≤ e) × (e ≤ 2 ^ 30) × (e ≤ length entries) × (8 * segment-count ≤ length segments) × (segment-count ≤ length owners) × (splines ≤ length bits) × (desk < 2)
+invariant-loop segments owners segment_count_lem entries b e splines bits desk width total₀ j₀ total j =
+    (j ≤ e) × (e ≤ 2 ^ 30) × (e ≤ length entries) × (8 * segment_count_lem ≤ length segments) × (segment_count_lem ≤ length owners) × (splines ≤ length bits) × (desk < 2)
     × (total.entries ≤ j)
-    × (sumOver segments segment-count (sight_of owners splines bits desk) width total₀ (slice b e entries) ≡ sumOver segments segment-count (sight_of owners splines bits desk) width total (slice j e entries))
+    × (sum_over segments segment_count_lem (sight_of owners splines bits desk) width total₀ (slice b e entries) ≡ sum_over segments segment_count_lem (sight_of owners splines bits desk) width total (slice j e entries))
 
 abbrev decreases-loop : tie.decreases-loop
-decreases-loop segments owners segment-count entries b e splines bits desk width total₀ j₀ total j = e - j
+decreases-loop segments owners segment_count_lem entries b e splines bits desk width total₀ j₀ total j = e - j
 
 loop-holds : tie.Need-loop-init invariant-loop decreases-loop
 loop-holds c = (omega arith, omega arith, omega arith, omega arith, omega arith, omega arith, omega arith, omega arith, refl)
@@ -34,7 +34,7 @@ returns c =
     let A = c.before.before.before.before.before.before.before.before.args in
     let l = c.before.before.before.loop in
     let t = c.before.before.loop-test.true in
-    sym (l.invariant.8 ∙ over-not-below A.segments.now A.segment-count (sight_of A.owners.now A.splines A.bits.now A.desk) A.width A.e A.entries.now l.invariant.2 l.total l.j t (le-ltb _ _ c.if1.true))
+    sym (l.invariant.8 ∙ over_not_below A.segments.now A.segment_count_lem (sight_of A.owners.now A.splines A.bits.now A.desk) A.width A.e A.entries.now l.invariant.2 l.total l.j t (le-ltb _ _ c.if1.true))
 
 cast-if2 : tie.Need-overflow-cast-if2 invariant-loop decreases-loop
 cast-if2 c = omega arith
@@ -50,7 +50,7 @@ returns-2 c =
     let A = c.before.before.before.before.before.before.before.before.before.before.args in
     let l = c.before.before.before.before.before.loop in
     let t = c.before.before.before.before.loop-test.true in
-    sym (l.invariant.8 ∙ over-not-owned A.segments.now A.segment-count (sight_of A.owners.now A.splines A.bits.now A.desk) A.width A.e A.entries.now l.invariant.2 l.total l.j t (le-ltb (get_or A.owners.now (get_or A.entries.now l.j 0) 0) A.splines (omega arith)))
+    sym (l.invariant.8 ∙ over_not_owned A.segments.now A.segment_count_lem (sight_of A.owners.now A.splines A.bits.now A.desk) A.width A.e A.entries.now l.invariant.2 l.total l.j t (le-ltb (get_or A.owners.now (get_or A.entries.now l.j 0) 0) A.splines (omega arith)))
 
 with-entry-requires : tie.Need-with-entry-requires invariant-loop decreases-loop
 with-entry-requires c κs = omega arith
@@ -68,7 +68,7 @@ loop-again c =
     let t = c.before.before.before.before.before.loop-test.true in
     let s = sight_of A.owners.now A.splines A.bits.now A.desk in
     let q = c.with-entry.ensures in
-    let m = with-most A.segments.now s A.width l.total (get_or A.entries.now l.j 0) q in (
+    let m = with_most A.segments.now s A.width l.total (get_or A.entries.now l.j 0) q in (
       omega arith,
       l.invariant.1,
       l.invariant.2,
@@ -78,14 +78,14 @@ loop-again c =
       l.invariant.6,
       omega (arith, m, l.invariant.7),
       l.invariant.8
-          ∙ over-next A.segments.now A.segment-count s A.width A.e A.entries.now l.invariant.2 l.total _ l.j t (lt-ltb _ _ c.before.before.before.if1.false) (lt-ltb (get_or A.owners.now (get_or A.entries.now l.j 0) 0) A.splines (omega arith)) q,
+          ∙ over_next A.segments.now A.segment_count_lem s A.width A.e A.entries.now l.invariant.2 l.total _ l.j t (lt-ltb _ _ c.before.before.before.if1.false) (lt-ltb (get_or A.owners.now (get_or A.entries.now l.j 0) 0) A.splines (omega arith)) q,
     )
 
 returns-3 : tie.Need-returns-3 invariant-loop decreases-loop
 returns-3 c =
     let A = c.before.before.before.before.before.before.args in
     let l = c.before.loop in
-    sym (l.invariant.8 ∙ over_none A.segments.now A.segment-count (sight_of A.owners.now A.splines A.bits.now A.desk) A.width A.e A.entries.now l.invariant.2 l.total l.j l.invariant.0 c.loop-test.false)
+    sym (l.invariant.8 ∙ over_none A.segments.now A.segment_count_lem (sight_of A.owners.now A.splines A.bits.now A.desk) A.width A.e A.entries.now l.invariant.2 l.total l.j l.invariant.0 c.loop-test.false)
 
 pub sum-entries-spec : {M : Type 1} → statement M
 sum-entries-spec =

@@ -3,7 +3,7 @@ use Prim.Native.Nat.{◌+◌}
 use native.Mathlib.Omega.{arith}
 use borrow.Author.Rules.{rules}
 use borrow.Author.Tests.{lt-leb, le-leb}
-use Rattle.checks.specs.Checks.{entriesGood, rowGoodFor}
+use Rattle.checks.specs.Checks.{entries_good, row_good_for}
 use Rattle.band_sums.proofs.sum_row.Statement.{statement}
 use Rattle.band_sums.proofs.sum_row.Tie as tie
 
@@ -29,18 +29,18 @@ cast-e : tie.Need-overflow-cast-e
 cast-e c = omega (arith, c.shared-slice-known7.given (c.before.before.before.before.before.before.before.args.y + 1))
 
 returns : tie.Need-returns
-unfolding entriesGood rowGoodFor
+unfolding entries_good row_good_for
 returns c = rw (lt-leb _ _ c.if1.true)
 
 returns-2 : tie.Need-returns-2
-unfolding entriesGood rowGoodFor
+unfolding entries_good row_good_for
 returns-2 c = rw (le-leb _ _ c.before.if1.false, lt-leb _ _ c.if2.true)
 
 sum-entries-requires : tie.Need-sum-entries-requires
 sum-entries-requires c κs = omega arith
 
 returns-3 : tie.Need-returns-3
-unfolding entriesGood rowGoodFor
+unfolding entries_good row_good_for
 returns-3 c = rw (le-leb _ _ c.before.before.if1.false, le-leb _ _ c.before.if2.false) c.sum-entries.ensures
 
 pub sum-row-spec : {M : Type 1} → statement M

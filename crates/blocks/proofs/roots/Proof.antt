@@ -4,21 +4,21 @@ use Prim.Native.Nat.{◌-◌, ◌≤◌}
 use native.Mathlib.Omega.{arith}
 use lib.ListN.{length, length-set}
 use lib.Ieee.{binary32}
-use Rattle.roots.specs.Root.{sqrtOf}
-use Rattle.shade.specs.Edit.{edit, firstCells}
-use Rattle.shade.proofs.Edits.{edit-none, edit-until, stored}
+use Rattle.roots.specs.Root.{sqrt_of}
+use Rattle.shade.specs.Edit.{edit, first_cells}
+use Rattle.shade.proofs.Edits.{edit_none, edit_until, stored}
 use Rattle.blocks.proofs.roots.Statement.{statement}
 use Rattle.blocks.proofs.roots.Tie as tie
 
 abbrev invariant-loop : tie.invariant-loop
 invariant-loop v₀ m table k₀ v k =
-    (k ≤ m) × (length v ≡ 32) × (length v₀ ≡ 32) × (v ≡ edit (firstCells k (λ j w. sqrtOf binary32 w)) v₀)
+    (k ≤ m) × (length v ≡ 32) × (length v₀ ≡ 32) × (v ≡ edit (first_cells k (λ j w. sqrt_of binary32 w)) v₀)
 
 abbrev decreases-loop : tie.decreases-loop
 decreases-loop v₀ m table k₀ v k = m - k
 
 loop-holds : tie.Need-loop-init invariant-loop decreases-loop
-loop-holds c = (omega arith, omega arith, omega arith, edit-none _ _)
+loop-holds c = (omega arith, omega arith, omega arith, edit_none _ _)
 
 mul-root-by : tie.Need-overflow-mul-root-by invariant-loop decreases-loop
 mul-root-by c = omega arith
@@ -50,7 +50,7 @@ loop-again c =
 returns : tie.Need-returns invariant-loop decreases-loop
 returns c =
     let l = c.before.loop in
-    edit-until _ _ _ l.invariant.0 c.loop-test.false l.invariant.3
+    edit_until _ _ _ l.invariant.0 c.loop-test.false l.invariant.3
 
 pub roots-spec : {M : Type 1} → statement M
 roots-spec =

@@ -3,21 +3,21 @@ use mathlib.Core.Path.{◌≡◌}
 use Prim.Native.Nat.{◌+◌, ◌-◌, ◌≤◌}
 use native.Mathlib.Omega.{arith}
 use lib.ListN.{length, length-set}
-use Rattle.shade.specs.Edit.{edit, firstCells}
+use Rattle.shade.specs.Edit.{edit, first_cells}
 use Rattle.shade.specs.Shade.{sqd}
-use Rattle.shade.proofs.Edits.{edit-none, edit-until, stored}
+use Rattle.shade.proofs.Edits.{edit_none, edit_until, stored}
 use Rattle.blocks.proofs.squares.Statement.{statement}
 use Rattle.blocks.proofs.squares.Tie as tie
 
 abbrev invariant-loop : tie.invariant-loop
 invariant-loop v₀ m x center-x dy2 k₀ v k =
-    (k ≤ m) × (length v ≡ 32) × (length v₀ ≡ 32) × (v ≡ edit (firstCells k (λ j w. sqd center-x dy2 (x + j))) v₀)
+    (k ≤ m) × (length v ≡ 32) × (length v₀ ≡ 32) × (v ≡ edit (first_cells k (λ j w. sqd center-x dy2 (x + j))) v₀)
 
 abbrev decreases-loop : tie.decreases-loop
 decreases-loop v₀ m x center-x dy2 k₀ v k = m - k
 
 loop-holds : tie.Need-loop-init invariant-loop decreases-loop
-loop-holds c = (omega arith, omega arith, omega arith, edit-none _ _)
+loop-holds c = (omega arith, omega arith, omega arith, edit_none _ _)
 
 cast-float-of : tie.Need-overflow-cast-float-of invariant-loop decreases-loop
 cast-float-of c = omega arith
@@ -49,7 +49,7 @@ loop-again c =
 returns : tie.Need-returns invariant-loop decreases-loop
 returns c =
     let l = c.before.loop in
-    edit-until _ _ _ l.invariant.0 c.loop-test.false l.invariant.3
+    edit_until _ _ _ l.invariant.0 c.loop-test.false l.invariant.3
 
 pub squares-spec : {M : Type 1} → statement M
 squares-spec =

@@ -5,7 +5,7 @@ use Prim.Native.Nat.{◌≤◌, ◌<◌, ◌-◌}
 use native.Mathlib.Omega.{arith}
 use lib.IntN.{pos}
 use lib.ListN.{length, replicate, drop, length-set}
-use Rattle.buffers.proofs.Blanks.{blank-more, blank-all}
+use Rattle.buffers.proofs.Blanks.{blank_more, blank_all}
 use Rattle.buffers.proofs.clear_i32.Statement.{statement}
 use Rattle.buffers.proofs.clear_i32.Tie as tie
 
@@ -33,13 +33,13 @@ loop-less c = simp length-set (omega arith)
 loop-again : tie.Need-loop-preserved invariant-loop decreases-loop
 loop-again c =
     let h : c.before.loop.i < length c.before.before.args.cells.now = omega arith in
-    (omega arith, simp length-set (omega arith), rw (c.before.loop.invariant.2, blank-more _ (pos 0) c.before.before.args.cells.now))
+    (omega arith, simp length-set (omega arith), rw (c.before.loop.invariant.2, blank_more _ (pos 0) c.before.before.args.cells.now))
 
 same_length : tie.Need-same-length invariant-loop decreases-loop
 same_length c = omega arith
 
 returns : tie.Need-returns invariant-loop decreases-loop
-returns c = c.before.loop.invariant.2 ∙ blank-all c.before.loop.i (pos 0) c.before.before.args.cells.now (omega arith) (omega arith)
+returns c = c.before.loop.invariant.2 ∙ blank_all c.before.loop.i (pos 0) c.before.before.args.cells.now (omega arith) (omega arith)
 
 pub clear-i32-spec : {M : Type 1} → statement M
 clear-i32-spec =

@@ -4,7 +4,7 @@ use mathlib.Core.List.{◌++◌}
 use Prim.Native.Nat.{◌≤◌, ◌<◌, ◌-◌}
 use native.Mathlib.Omega.{arith}
 use lib.ListN.{length, replicate, drop, length-set}
-use Rattle.buffers.proofs.Blanks.{blank-more, blank-all}
+use Rattle.buffers.proofs.Blanks.{blank_more, blank_all}
 use Rattle.buffers.proofs.clear_u8.Statement.{statement}
 use Rattle.buffers.proofs.clear_u8.Tie as tie
 
@@ -29,13 +29,13 @@ loop-less c = simp length-set (omega arith)
 loop-again : tie.Need-loop-preserved invariant-loop decreases-loop
 loop-again c =
     let h : c.before.loop.i < length c.before.before.args.cells.now = omega arith in
-    (omega arith, simp length-set (omega arith), rw (c.before.loop.invariant.2, blank-more _ 0 c.before.before.args.cells.now))
+    (omega arith, simp length-set (omega arith), rw (c.before.loop.invariant.2, blank_more _ 0 c.before.before.args.cells.now))
 
 same_length : tie.Need-same-length invariant-loop decreases-loop
 same_length c = omega arith
 
 returns : tie.Need-returns invariant-loop decreases-loop
-returns c = c.before.loop.invariant.2 ∙ blank-all c.before.loop.i 0 c.before.before.args.cells.now (omega arith) (omega arith)
+returns c = c.before.loop.invariant.2 ∙ blank_all c.before.loop.i 0 c.before.before.args.cells.now (omega arith) (omega arith)
 
 pub clear-u8-spec : {M : Type 1} → statement M
 clear-u8-spec =

@@ -4,10 +4,10 @@ use mathlib.Core.List.{List}
 use Prim.Native.Nat.{ℕ, ◌*◌}
 use lib.ListN.{length, take}
 use lib.Ieee.{Float, binary32, of_bits}
-use Rattle.rows.specs.Rows.{RowsOutcome, in_row, listedRows}
+use Rattle.rows.specs.Rows.{RowsOutcome, in_row, listed_rows}
 use Rattle.build_answer.specs.Answer.{BuildRooms, rooms_of}
-use Rattle.faint.proofs.Counts.{faint-take}
-use Rattle.build_answer.proofs.Ends.{kept, rows-room, rows-done}
+use Rattle.faint.proofs.Counts.{faint_take}
+use Rattle.build_answer.proofs.Ends.{kept, rows_room, rows_done}
 use borrow.Author.Rules.{rules}
 use Rattle.build_answer.proofs.list_segments.Statement.{statement}
 use Rattle.build_answer.proofs.list_segments.Tie as tie
@@ -23,7 +23,7 @@ abbrev owned : tie.Start → List ℕ
 owned s = take s.args.count s.args.owners.now
 
 abbrev listing : tie.Start → RowsOutcome
-listing s = listedRows (in_row s.args.segments.now) s.args.count s.args.height (length s.args.row-starts.now) (length s.args.entries.now)
+listing s = listed_rows (in_row s.args.segments.now) s.args.count s.args.height (length s.args.row-starts.now) (length s.args.entries.now)
 
 list-rows-requires : tie.Need-list-rows-requires
 list-rows-requires c κs = search rules
@@ -69,7 +69,7 @@ returns c =
     let s = c.before.before.before.before.before.before.before.before.before.before.before.before.before.before.before.before.before.before.before.before.before.before.before.before.before.before.before.before.before.before.before.before.before.before.before in
     let l = c.before.before.before.before.before.before.before.before.before.before.before.before.before.before.before.before.before.before.before.before.before.before.before.before.before.list-rows in
     (rw (l.auto.1.1.1.0, l.auto.1.1.1.1.0) at c.before.before.before.before.before.before.before.before.before.before.before.before.refuse.ensures)
-    ∙ rows-room (rooms s) s.args.estimate s.args.count (numbers s) (owned s) (listing s) l.ensures c.before.before.before.before.before.before.before.before.before.before.before.before.before.before.before.before.before.before.before.enum_told.given.1
+    ∙ rows_room (rooms s) s.args.estimate s.args.count (numbers s) (owned s) (listing s) l.ensures c.before.before.before.before.before.before.before.before.before.before.before.before.before.before.before.before.before.before.before.enum_told.given.1
 
 same-length-7 : tie.Need-same-length-7
 same-length-7 c = c.before.before.before.before.before.before.before.before.wipe-unused.auto.1.0
@@ -94,8 +94,8 @@ returns-2 c =
     let s = c.before.before.before.before.before.before.before.before.before.before.before.before.before.before.before.before.before.before.before.before.before.before.before.before.before.before.before.before.before.before.before.before in
     let l = c.before.before.before.before.before.before.before.before.before.before.before.before.before.before.before.before.before.before.before.before.before.before.list-rows in
     let w = c.before.before.before.before.before.before.before.before.wipe-unused.ensures in
-    let f = c.before.before.before.before.before.before.before.before.before.before.before.before.before.faint-in.ensures ∙ faint-take s.args.segments.now s.args.count s.requires.0 in
-    rows-done (rooms s) s.args.estimate s.args.count (numbers s) (owned s) (listing s) l.ensures c.before.before.before.before.before.before.before.before.before.before.before.before.before.before.before.before.n.given.0.0 f c.before.before.before.before.before.before.before.before.before.before.before.before.before.before.before.before.n.given.1
+    let f = c.before.before.before.before.before.before.before.before.before.before.before.before.before.faint-in.ensures ∙ faint_take s.args.segments.now s.args.count s.requires.0 in
+    rows_done (rooms s) s.args.estimate s.args.count (numbers s) (owned s) (listing s) l.ensures c.before.before.before.before.before.before.before.before.before.before.before.before.before.before.before.before.n.given.0.0 f c.before.before.before.before.before.before.before.before.before.before.before.before.before.before.before.before.n.given.1
     w.0 w.1.0 (kept (of_bits binary32 0) s.args.segments.now (8 * s.args.count) s.requires.0 w.1.1.0) (kept 0 s.args.owners.now s.args.count s.requires.1 w.1.1.1)
 
 pub list-segments-spec : {M : Type 1} → statement M

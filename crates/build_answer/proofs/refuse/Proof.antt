@@ -1,5 +1,5 @@
 -- `refuse`: all six buffers are wiped.
-use Rattle.build_answer.specs.Answer.{refusedWith}
+use Rattle.build_answer.specs.Answer.{refused_with}
 use borrow.Author.Rules.{rules}
 use Rattle.build_answer.proofs.refuse.Statement.{statement}
 use Rattle.build_answer.proofs.refuse.Tie as tie
@@ -26,7 +26,7 @@ same-length-6 : tie.Need-same-length-6
 same-length-6 c = c.before.before.before.before.before.before.before.before.before.before.before.before.wipe.auto.1.1.1.1.1.0
 
 returns : tie.Need-returns
-unfolding refusedWith
+unfolding refused_with
 returns c =
     let w = c.before.before.before.before.before.before.before.before.before.before.before.before.wipe.ensures in
     rw (w.0, w.1.0, w.1.1.0, w.1.1.1.0, w.1.1.1.1.0, w.1.1.1.1.1)

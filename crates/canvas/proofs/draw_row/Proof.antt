@@ -5,10 +5,10 @@ use Rattle.canvas.proofs.draw_row.Statement.{statement}
 use Rattle.canvas.proofs.draw_row.Tie as tie
 
 abbrev invariant-loop : tie.invariant-loop
-invariant-loop segments owners segment-count entries entry-count row-starts bits task y width sum₀ x0₀ sum x0 = x0 ≤ width
+invariant-loop segments owners segment_count_lem entries entry_count_lem row-starts bits task y width sum₀ x0₀ sum x0 = x0 ≤ width
 
 abbrev decreases-loop : tie.decreases-loop
-decreases-loop segments owners segment-count entries entry-count row-starts bits task y width sum₀ x0₀ sum x0 = width - x0
+decreases-loop segments owners segment_count_lem entries entry_count_lem row-starts bits task y width sum₀ x0₀ sum x0 = width - x0
 
 loop-holds : tie.Need-loop-init invariant-loop decreases-loop
 loop-holds c = search rules

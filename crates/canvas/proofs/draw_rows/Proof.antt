@@ -5,10 +5,10 @@ use Rattle.canvas.proofs.draw_rows.Statement.{statement}
 use Rattle.canvas.proofs.draw_rows.Tie as tie
 
 abbrev invariant-loop : tie.invariant-loop
-invariant-loop segments owners segment-count entries entry-count row-starts bits task height sum₀ k₀ sum k = k ≤ height
+invariant-loop segments owners segment_count_lem entries entry_count_lem row-starts bits task height sum₀ k₀ sum k = k ≤ height
 
 abbrev decreases-loop : tie.decreases-loop
-decreases-loop segments owners segment-count entries entry-count row-starts bits task height sum₀ k₀ sum k = height - k
+decreases-loop segments owners segment_count_lem entries entry_count_lem row-starts bits task height sum₀ k₀ sum k = height - k
 
 loop-holds : tie.Need-loop-init invariant-loop decreases-loop
 loop-holds c = search rules

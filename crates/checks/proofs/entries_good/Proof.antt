@@ -3,7 +3,7 @@ use Prim.Native.Nat.{◌+◌}
 use native.Mathlib.Omega.{arith}
 use borrow.Author.Rules.{rules}
 use borrow.Author.Tests.{lt-leb, le-leb}
-use Rattle.checks.specs.Checks.{entriesGood}
+use Rattle.checks.specs.Checks.{entries_good}
 use Rattle.checks.proofs.entries_good.Statement.{statement}
 use Rattle.checks.proofs.entries_good.Tie as tie
 
@@ -29,18 +29,18 @@ cast-e : tie.Need-overflow-cast-e
 cast-e c = omega (arith, c.shared-slice-known5.given (c.before.before.before.before.before.args.y + 1))
 
 returns : tie.Need-returns
-unfolding entriesGood
+unfolding entries_good
 returns c = rw (lt-leb _ _ c.if1.true)
 
 returns-2 : tie.Need-returns-2
-unfolding entriesGood
+unfolding entries_good
 returns-2 c = rw (le-leb _ _ c.before.if1.false, lt-leb _ _ c.if2.true)
 
 all-owned-requires : tie.Need-all-owned-requires
 all-owned-requires c κs = search rules
 
 returns-3 : tie.Need-returns-3
-unfolding entriesGood
+unfolding entries_good
 returns-3 c = rw (le-leb _ _ c.before.before.if1.false, le-leb _ _ c.before.if2.false) c.all-owned.ensures
 
 pub entries-good-spec : {M : Type 1} → statement M

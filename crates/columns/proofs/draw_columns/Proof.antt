@@ -3,7 +3,7 @@ use Prim.Native.Nat.{◌<◌}
 use native.Mathlib.Omega.{arith}
 use borrow.Author.Rules.{rules}
 use Rattle.shade.specs.Shade.{shaded}
-use Rattle.columns.proofs.Columns.{count-between, ranged-none, ranged-part}
+use Rattle.columns.proofs.Columns.{count_between, ranged_none, ranged_part}
 use Rattle.columns.proofs.draw_columns.Statement.{statement}
 use Rattle.columns.proofs.draw_columns.Tie as tie
 
@@ -22,12 +22,12 @@ returns c =
     let l = c.before.least.ensures in
     let t = c.if1.true in
     let A = c.before.before.before.before.before.before.args in (
-      omega (arith, count-between A.first A.past A.x0 A.n),
+      omega (arith, count_between A.first A.past A.x0 A.n),
       (
-        ranged-none (λ x v. shaded A.segment A.y x 0 v) _ A.first A.past A.x0 A.n (omega arith),
+        ranged_none (λ x v. shaded A.segment A.y x 0 v) _ A.first A.past A.x0 A.n (omega arith),
         (
-          ranged-none (λ x v. shaded A.segment A.y x 1 v) _ A.first A.past A.x0 A.n (omega arith),
-          ranged-none (λ x v. shaded A.segment A.y x 2 v) _ A.first A.past A.x0 A.n (omega arith),
+          ranged_none (λ x v. shaded A.segment A.y x 1 v) _ A.first A.past A.x0 A.n (omega arith),
+          ranged_none (λ x v. shaded A.segment A.y x 2 v) _ A.first A.past A.x0 A.n (omega arith),
         ),
       ),
     )
@@ -105,12 +105,12 @@ returns-2 c =
     let e = c.before.before.before.before.before.before.add-segment.ensures in
     let A = c.before.before.before.before.before.before.before.before.before.before.before.before.before.before.before.before.args in
     let h = c.before.before.before.before.before.before.before.before.before.before.before.before.before.before.before.before.requires in (
-      omega (arith, count-between A.first A.past A.x0 A.n),
+      omega (arith, count_between A.first A.past A.x0 A.n),
       (
-        ranged-part (λ x v. shaded A.segment A.y x 0 v) A.r0.now _ A.first A.past A.x0 A.n from to p q lt h.1.0 e.0,
+        ranged_part (λ x v. shaded A.segment A.y x 0 v) A.r0.now _ A.first A.past A.x0 A.n from to p q lt h.1.0 e.0,
         (
-          ranged-part (λ x v. shaded A.segment A.y x 1 v) A.r1.now _ A.first A.past A.x0 A.n from to p q lt h.1.1 e.1.0,
-          ranged-part (λ x v. shaded A.segment A.y x 2 v) A.r2.now _ A.first A.past A.x0 A.n from to p q lt h.1.2 e.1.1,
+          ranged_part (λ x v. shaded A.segment A.y x 1 v) A.r1.now _ A.first A.past A.x0 A.n from to p q lt h.1.1 e.1.0,
+          ranged_part (λ x v. shaded A.segment A.y x 2 v) A.r2.now _ A.first A.past A.x0 A.n from to p q lt h.1.2 e.1.1,
         ),
       ),
     )

@@ -1,6 +1,6 @@
 -- The columns of the segment are those that it has.
 use borrow.Author.Rules.{rules}
-use Rattle.columns.proofs.Columns.{count-columns, draw-columns}
+use Rattle.columns.proofs.Columns.{count_columns, draw_columns}
 use Rattle.columns.proofs.draw_segment.Statement.{statement}
 use Rattle.columns.proofs.draw_segment.Tie as tie
 
@@ -30,12 +30,12 @@ returns c =
     let q = c.before.before.before.before.before.before.before.before.before.before.columns.ensures in
     let e = c.before.before.before.before.before.before.draw-columns.ensures in
     let h = S.requires.1.0.0 in (
-      count-columns A.segments.now A.i A.x0 A.n _ _ _ p q h e.0,
+      count_columns A.segments.now A.i A.x0 A.n _ _ _ p q h e.0,
       (
-        draw-columns 0 A.segments.now A.i A.y A.x0 A.n _ _ _ _ p q h e.1.0,
+        draw_columns 0 A.segments.now A.i A.y A.x0 A.n _ _ _ _ p q h e.1.0,
         (
-          draw-columns 1 A.segments.now A.i A.y A.x0 A.n _ _ _ _ p q h e.1.1.0,
-          draw-columns 2 A.segments.now A.i A.y A.x0 A.n _ _ _ _ p q h e.1.1.1,
+          draw_columns 1 A.segments.now A.i A.y A.x0 A.n _ _ _ _ p q h e.1.1.0,
+          draw_columns 2 A.segments.now A.i A.y A.x0 A.n _ _ _ _ p q h e.1.1.1,
         ),
       ),
     )

@@ -4,7 +4,7 @@ use native.Mathlib.Omega.{arith}
 use borrow.Author.Rules.{rules}
 use mir.Syntax.{w32}
 use mir.Facts.{to_z-of_z}
-use Rattle.control_points.specs.ControlPoints.{startingPoint}
+use Rattle.control_points.specs.ControlPoints.{starting_point}
 use Rattle.control_points.proofs.starting_point.Statement.{statement}
 use Rattle.control_points.proofs.starting_point.Tie as tie
 
@@ -27,11 +27,11 @@ enum-known-b : tie.Need-enum-known-b
 enum-known-b c = search rules
 
 returns : tie.Need-returns
-unfolding startingPoint
+unfolding starting_point
 returns c = rw (sym c.before.before.rounded.ensures ∙ c.enum_told.given.1)
 
 returns-2 : tie.Need-returns-2
-unfolding startingPoint
+unfolding starting_point
 returns-2 c =
     rw (
       sym c.before.before.before.before.before.before.rounded.ensures ∙ c.before.before.before.before.a.given.1,
@@ -39,7 +39,7 @@ returns-2 c =
     )
 
 returns-3 : tie.Need-returns-3
-unfolding startingPoint
+unfolding starting_point
 returns-3 c =
     let a = c.before.before.before.before.before.a.given in
     let b = c.before.b.given in

@@ -4,14 +4,14 @@ use Prim.Native.Nat.{◌-◌, ◌*◌, ◌/◌, ◌≤◌}
 use native.Mathlib.Omega.{arith}
 use borrow.Author.Rules.{rules}
 use lib.ListN.{length, drop, length-drop}
-use Rattle.control_points.specs.ControlPoints.{traceFrom, traceOf, run_at}
+use Rattle.control_points.specs.ControlPoints.{trace_from, trace_of, run_at}
 use Rattle.control_points.specs.Asked.{Held}
-use Rattle.control_points.proofs.Steps.{step-held, turn-stop, turn_on, trace-done}
+use Rattle.control_points.proofs.Steps.{step_held, turn_stop, turn_on, trace_done}
 use Rattle.control_points.proofs.trace.Statement.{statement}
 use Rattle.control_points.proofs.trace.Tie as tie
 
 abbrev invariant-loop : tie.invariant-loop
-invariant-loop deltas limit run₀ n k₀ run k = (k ≤ n) × (n ≡ length deltas / 2) × Held run limit × (traceFrom limit run₀ deltas ≡ traceFrom limit run (drop (2 * k) deltas))
+invariant-loop deltas limit run₀ n k₀ run k = (k ≤ n) × (n ≡ length deltas / 2) × Held run limit × (trace_from limit run₀ deltas ≡ trace_from limit run (drop (2 * k) deltas))
 
 abbrev decreases-loop : tie.decreases-loop
 decreases-loop deltas limit run₀ n k₀ run k = n - k
@@ -29,10 +29,10 @@ enum-known-code : tie.Need-enum-known-code invariant-loop decreases-loop
 enum-known-code c = search rules
 
 returns : tie.Need-returns invariant-loop decreases-loop
-unfolding traceOf run_at
+unfolding trace_of run_at
 returns c =
     let l = c.before.before.before.before.before.before.loop in
-    sym (l.invariant.3 ∙ turn-stop _ l.run _ l.k (omega arith) c.before.before.before.before.of.ensures c.before.before.before.step.ensures c.before.code.given.1)
+    sym (l.invariant.3 ∙ turn_stop _ l.run _ l.k (omega arith) c.before.before.before.before.of.ensures c.before.before.before.step.ensures c.before.code.given.1)
 
 enum-known-next : tie.Need-enum-known-next invariant-loop decreases-loop
 enum-known-next c = search rules
@@ -48,15 +48,15 @@ loop-again c =
     let l = c.before.before.before.before.before.before.loop in (
       omega arith,
       omega arith,
-      step-held _ l.run _ _ (sym c.before.before.before.step.ensures ∙ c.before.next.given.1),
+      step_held _ l.run _ _ (sym c.before.before.before.step.ensures ∙ c.before.next.given.1),
       l.invariant.3 ∙ turn_on _ l.run _ l.k (omega arith) c.before.before.before.before.of.ensures c.before.before.before.step.ensures c.before.next.given.1,
     )
 
 returns-2 : tie.Need-returns-2 invariant-loop decreases-loop
-unfolding traceOf run_at
+unfolding trace_of run_at
 returns-2 c =
     let l = c.before.loop in
-    sym (l.invariant.3 ∙ trace-done _ l.run _ (simp length-drop (omega arith)))
+    sym (l.invariant.3 ∙ trace_done _ l.run _ (simp length-drop (omega arith)))
 
 pub trace-spec : {M : Type 1} → statement M
 trace-spec =

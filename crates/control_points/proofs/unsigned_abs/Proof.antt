@@ -5,7 +5,7 @@ use lib.IntN.{pos, nat_abs}
 use mir.Syntax.{w32, w64}
 use mir.Val.{SFits, to_z, of_z}
 use mir.Facts.{to_z-of_z, sfits_widen}
-use Rattle.control_points.proofs.Pairs.{not_negative, minus-mag, abs_mag}
+use Rattle.control_points.proofs.Pairs.{not_negative, minus_mag, abs_mag}
 use Rattle.control_points.proofs.unsigned_abs.Statement.{statement}
 use Rattle.control_points.proofs.unsigned_abs.Tie as tie
 
@@ -25,11 +25,11 @@ cast-result c =
     (not_negative c.before.args.v (rw (wide c.before) at c.if1.true), record { fits = omega (arith, abs_mag c.before.args.v, c.before.ranges.v.sfits) })
 
 sub-result : tie.Need-overflow-sub-result
-sub-result c = rw (wide c.before, minus-mag c.before.args.v (rw (wide c.before) at c.if1.false)) (magnitude-fits c.before)
+sub-result c = rw (wide c.before, minus_mag c.before.args.v (rw (wide c.before) at c.if1.false)) (magnitude-fits c.before)
 
 cast-result-2 : tie.Need-overflow-cast-result-2
 cast-result-2 c =
-    rw (wide c.before, minus-mag c.before.args.v (rw (wide c.before) at c.if1.false), to_z-of_z {w = w64} (magnitude-fits c.before))
+    rw (wide c.before, minus_mag c.before.args.v (rw (wide c.before) at c.if1.false), to_z-of_z {w = w64} (magnitude-fits c.before))
     (tt, record { fits = omega (arith, abs_mag c.before.args.v, c.before.ranges.v.sfits) })
 
 returns : tie.Need-returns
@@ -37,7 +37,7 @@ returns c = rw (wide c.before)
 
 returns-2 : tie.Need-returns-2
 returns-2 c =
-    rw (wide c.before, minus-mag c.before.args.v (rw (wide c.before) at c.if1.false), to_z-of_z {w = w64} (magnitude-fits c.before))
+    rw (wide c.before, minus_mag c.before.args.v (rw (wide c.before) at c.if1.false), to_z-of_z {w = w64} (magnitude-fits c.before))
 
 pub unsigned-abs-spec : {M : Type 1} → statement M
 unsigned-abs-spec = tie.close (tie.spec cast-w cast-result sub-result cast-result-2 returns returns-2)

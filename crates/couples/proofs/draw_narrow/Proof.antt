@@ -2,8 +2,8 @@
 use mathlib.Core.Path.{refl, ap, ◌∙◌}
 use native.Mathlib.Omega.{arith}
 use lib.ListN.{length}
-use Rattle.shade.proofs.Edits.{length-edit}
-use Rattle.couples.proofs.Couples.{held, added-two, still-within}
+use Rattle.shade.proofs.Edits.{length_edit}
+use Rattle.couples.proofs.Couples.{held, added_two, still_within}
 use Rattle.couples.proofs.draw_narrow.Statement.{statement}
 use Rattle.couples.proofs.draw_narrow.Tie as tie
 
@@ -36,10 +36,10 @@ roots-requires-2 : tie.Need-roots-requires-2
 roots-requires-2 c κs = (omega arith, c.before.before.before.squares-at2.ensures.0)
 
 intensities-at-requires : tie.Need-intensities-at-requires
-intensities-at-requires c κs = (omega arith, ap length c.before.before.before.roots.ensures ∙ length-edit _ _ ∙ c.before.before.before.before.before.before.before.squares-at.ensures.0)
+intensities-at-requires c κs = (omega arith, ap length c.before.before.before.roots.ensures ∙ length_edit _ _ ∙ c.before.before.before.before.before.before.before.squares-at.ensures.0)
 
 intensities-at-requires-2 : tie.Need-intensities-at-requires-2
-intensities-at-requires-2 c κs = (omega arith, ap length c.before.before.before.roots2.ensures ∙ length-edit _ _ ∙ c.before.before.before.before.before.before.before.squares-at2.ensures.0)
+intensities-at-requires-2 c κs = (omega arith, ap length c.before.before.before.roots2.ensures ∙ length_edit _ _ ∙ c.before.before.before.before.before.before.before.squares-at2.ensures.0)
 
 add-in-requires : tie.Need-add-in-requires
 add-in-requires c κs =
@@ -50,7 +50,7 @@ add-in-requires-2 : tie.Need-add-in-requires-2
 add-in-requires-2 c κs =
     let h = c.before.before.before.before.before.before.before.before.before.before.before.before.before.before.before.before.before.before.before.before.before.before.before.before.before.before.before.before.before.before.before.before.requires in
     let e = c.before.before.before.before.before.before.before.before.before.before.add-in.ensures in
-    ((h.0.4, h.0.5, h.0.6), (still-within _ _ _ _ _ e.0 h.1.1.0, still-within _ _ _ _ _ e.1.0 h.1.1.1, still-within _ _ _ _ _ e.1.1 h.1.1.2))
+    ((h.0.4, h.0.5, h.0.6), (still_within _ _ _ _ _ e.0 h.1.1.0, still_within _ _ _ _ _ e.1.0 h.1.1.1, still_within _ _ _ _ _ e.1.1 h.1.1.2))
 
 same_length : tie.Need-same-length
 same_length c = omega arith
@@ -69,10 +69,10 @@ returns c =
     let w = held A.two A.y A.q.first _ _ _ _ c.before.before.before.before.before.before.before.before.before.before.before.before.before.before.before.before.before.before.before.before.before.before.before.before.before.before.before.before.before.before.squares-at2.ensures.0 (omega arith) c.before.before.before.before.before.before.before.before.before.before.before.before.before.before.before.before.before.before.before.before.before.before.before.before.before.before.before.before.before.before.squares-at2.ensures.1 c.before.before.before.before.before.before.before.before.before.before.before.before.before.before.before.before.before.before.before.before.before.before.before.before.before.before.roots2.ensures c.before.before.before.before.before.before.before.before.before.before.before.before.before.before.before.before.before.before.before.before.before.before.intensities-at2.ensures in
     let e = c.before.before.before.before.before.before.before.before.before.before.before.before.before.before.before.before.before.add-in.ensures in
     let f = c.before.before.before.before.before.before.add-in2.ensures in (
-      added-two A.one A.two A.p A.q _ _ A.y A.x0 0 A.r0.now _ _ v w e.0 f.0,
+      added_two A.one A.two A.p A.q _ _ A.y A.x0 0 A.r0.now _ _ v w e.0 f.0,
       (
-        added-two A.one A.two A.p A.q _ _ A.y A.x0 1 A.r1.now _ _ v w e.1.0 f.1.0,
-        added-two A.one A.two A.p A.q _ _ A.y A.x0 2 A.r2.now _ _ v w e.1.1 f.1.1,
+        added_two A.one A.two A.p A.q _ _ A.y A.x0 1 A.r1.now _ _ v w e.1.0 f.1.0,
+        added_two A.one A.two A.p A.q _ _ A.y A.x0 2 A.r2.now _ _ v w e.1.1 f.1.1,
       ),
     )
 

@@ -2,7 +2,7 @@
 use native.Mathlib.Omega.{arith}
 use Prim.Native.Nat.{◌+◌, ◌≤◌}
 use Rattle.desks.specs.Desks.{sight_of}
-use Rattle.couples.proofs.Couples.{two-count, two-small, two-ranged, two-narrow, still-long}
+use Rattle.couples.proofs.Couples.{two_count, two_small, two_ranged, two_narrow, still_long}
 use Rattle.couples.proofs.draw_two.Statement.{statement}
 use Rattle.couples.proofs.draw_two.Tie as tie
 
@@ -46,7 +46,7 @@ draw-columns-requires-2 : tie.Need-draw-columns-requires-2
 draw-columns-requires-2 c κs =
     let h = c.before.before.before.before.before.before.before.before.before.before.before.before.before.before.before.before.before.before.before.before.before.before.before.before.before.before.before.before.before.requires in
     let e = c.before.before.before.before.before.before.before.before.before.draw-columns.ensures in
-    (h.1.1.0, (still-long _ _ _ _ e.1.0 h.1.1.1.0, still-long _ _ _ _ e.1.1.0 h.1.1.1.1, still-long _ _ _ _ e.1.1.1 h.1.1.1.2))
+    (h.1.1.0, (still_long _ _ _ _ e.1.0 h.1.1.1.0, still_long _ _ _ _ e.1.1.0 h.1.1.1.1, still_long _ _ _ _ e.1.1.1 h.1.1.1.2))
 
 add-result : tie.Need-overflow-add-result
 add-result c =
@@ -58,7 +58,7 @@ add-result c =
     let hj = c.before.before.before.before.before.before.before.before.before.before.before.before.before.before.before.before.before.before.before.before.before.before.before.before.before.hidden2.ensures in
     let gj = c.before.before.before.before.before.before.before.before.before.before.before.before.before.before.before.before.before.before.before.before.before.before.before.before.before.before.at2.ensures in
     let cj = c.before.before.before.before.before.before.before.before.before.before.before.before.before.before.before.before.before.before.before.before.before.before.before.before.part-of2.ensures in
-    omega (arith, two-small s A.segments.now A.y A.x0 A.n A.i _ _ _ hi gi ci A.j _ _ _ hj gj cj, c.before.before.before.before.before.before.before.before.before.before.before.before.before.before.before.before.before.before.before.before.before.before.before.before.before.before.before.before.before.before.before.before.before.before.before.before.requires.1.1.0.0)
+    omega (arith, two_small s A.segments.now A.y A.x0 A.n A.i _ _ _ hi gi ci A.j _ _ _ hj gj cj, c.before.before.before.before.before.before.before.before.before.before.before.before.before.before.before.before.before.before.before.before.before.before.before.before.before.before.before.before.before.before.before.before.before.before.before.before.requires.1.1.0.0)
 
 same_length : tie.Need-same-length
 same_length c = omega arith
@@ -81,10 +81,10 @@ returns c =
     let cj = c.before.before.before.before.before.before.before.before.before.before.before.before.before.before.before.before.before.before.before.before.before.before.before.before.part-of2.ensures in
     let e = c.before.before.before.before.before.before.before.before.before.before.before.before.before.before.before.before.draw-columns.ensures in
     let f = c.before.before.before.before.before.before.draw-columns2.ensures in (
-      two-count s A.segments.now A.y A.x0 A.n A.i _ _ _ hi gi ci A.j _ _ _ hj gj cj,
+      two_count s A.segments.now A.y A.x0 A.n A.i _ _ _ hi gi ci A.j _ _ _ hj gj cj,
       (
-        two-ranged s A.segments.now A.y A.x0 A.n A.i _ _ _ hi gi ci A.j _ _ _ hj gj cj 0 A.r0.now _ _ e.1.0 f.1.0,
-        (two-ranged s A.segments.now A.y A.x0 A.n A.i _ _ _ hi gi ci A.j _ _ _ hj gj cj 1 A.r1.now _ _ e.1.1.0 f.1.1.0, two-ranged s A.segments.now A.y A.x0 A.n A.i _ _ _ hi gi ci A.j _ _ _ hj gj cj 2 A.r2.now _ _ e.1.1.1 f.1.1.1),
+        two_ranged s A.segments.now A.y A.x0 A.n A.i _ _ _ hi gi ci A.j _ _ _ hj gj cj 0 A.r0.now _ _ e.1.0 f.1.0,
+        (two_ranged s A.segments.now A.y A.x0 A.n A.i _ _ _ hi gi ci A.j _ _ _ hj gj cj 1 A.r1.now _ _ e.1.1.0 f.1.1.0, two_ranged s A.segments.now A.y A.x0 A.n A.i _ _ _ hi gi ci A.j _ _ _ hj gj cj 2 A.r2.now _ _ e.1.1.1 f.1.1.1),
       ),
     )
 
@@ -111,7 +111,7 @@ add-result-2 c =
     let hj = c.before.before.before.before.before.before.before.before.before.before.before.before.before.before.before.hidden2.ensures in
     let gj = c.before.before.before.before.before.before.before.before.before.before.before.before.before.before.before.before.at2.ensures in
     let cj = c.before.before.before.before.before.before.before.before.before.before.before.before.before.before.part-of2.ensures in
-    omega (arith, two-small s A.segments.now A.y A.x0 A.n A.i _ _ _ hi gi ci A.j _ _ _ hj gj cj, c.before.before.before.before.before.before.before.before.before.before.before.before.before.before.before.before.before.before.before.before.before.before.before.before.before.before.requires.1.1.0.0)
+    omega (arith, two_small s A.segments.now A.y A.x0 A.n A.i _ _ _ hi gi ci A.j _ _ _ hj gj cj, c.before.before.before.before.before.before.before.before.before.before.before.before.before.before.before.before.before.before.before.before.before.before.before.before.before.before.requires.1.1.0.0)
 
 same-length-4 : tie.Need-same-length-4
 same-length-4 c = omega arith
@@ -133,10 +133,10 @@ returns-2 c =
     let gj = c.before.before.before.before.before.before.before.before.before.before.before.before.before.before.before.before.at2.ensures in
     let cj = c.before.before.before.before.before.before.before.before.before.before.before.before.before.before.part-of2.ensures in
     let e = c.before.before.before.before.before.before.draw-narrow.ensures in (
-      two-count s A.segments.now A.y A.x0 A.n A.i _ _ _ hi gi ci A.j _ _ _ hj gj cj,
+      two_count s A.segments.now A.y A.x0 A.n A.i _ _ _ hi gi ci A.j _ _ _ hj gj cj,
       (
-        two-narrow s A.segments.now A.y A.x0 A.n A.i _ _ _ hi gi ci A.j _ _ _ hj gj cj 0 A.r0.now _ e.0,
-        (two-narrow s A.segments.now A.y A.x0 A.n A.i _ _ _ hi gi ci A.j _ _ _ hj gj cj 1 A.r1.now _ e.1.0, two-narrow s A.segments.now A.y A.x0 A.n A.i _ _ _ hi gi ci A.j _ _ _ hj gj cj 2 A.r2.now _ e.1.1),
+        two_narrow s A.segments.now A.y A.x0 A.n A.i _ _ _ hi gi ci A.j _ _ _ hj gj cj 0 A.r0.now _ e.0,
+        (two_narrow s A.segments.now A.y A.x0 A.n A.i _ _ _ hi gi ci A.j _ _ _ hj gj cj 1 A.r1.now _ e.1.0, two_narrow s A.segments.now A.y A.x0 A.n A.i _ _ _ hi gi ci A.j _ _ _ hj gj cj 2 A.r2.now _ e.1.1),
       ),
     )
 

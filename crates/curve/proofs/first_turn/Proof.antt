@@ -1,6 +1,6 @@
 -- `curve::first_turn`: the start may be moved by the first double delta, and the stand that it leads to is in the range.
 use borrow.Author.Rules.{rules}
-use Rattle.control_points.specs.ControlPoints.{standAt}
+use Rattle.control_points.specs.ControlPoints.{stand_at}
 use Rattle.control_points.proofs.Walks.{walk_more}
 use Rattle.curve.proofs.first_turn.Statement.{statement}
 use Rattle.curve.proofs.first_turn.Tie as tie
@@ -12,7 +12,7 @@ next-stand-requires : tie.Need-next-stand-requires
 next-stand-requires c κs = (rw c.at.ensures c.before.requires.0, c.before.requires.1)
 
 first-requires : tie.Need-first-requires
-unfolding standAt
+unfolding stand_at
 first-requires c κs =
     let s = c.before.before in
     (s.requires.0.point, rw (c.next-stand.ensures, c.before.at.ensures) (walk_more _ _ 0 s.requires.1 s.requires.0).point)

@@ -5,9 +5,9 @@ use native.Mathlib.Omega.{arith}
 use lib.ListN.{length}
 use lib.Seq.{sets}
 use Rattle.buffers.proofs.Fronts.{sets_more}
-use Rattle.curve.specs.Windows.{windowPoint}
+use Rattle.curve.specs.Windows.{window_point}
 use Rattle.curve.specs.Curve.{interpolated, flat}
-use Rattle.curve.proofs.Paths.{two, interpolated-more, length-flat-interpolated}
+use Rattle.curve.proofs.Paths.{two, interpolated_more, length_flat_interpolated}
 use Rattle.curve.proofs.put_interpolated.Statement.{statement}
 use Rattle.curve.proofs.put_interpolated.Tie as tie
 
@@ -49,8 +49,8 @@ loop-again c =
     let a = s.before.before.args in (
       omega arith,
       omega (arith, c.before.before.put2.auto.0),
-      rw (c.before.before.put2.ensures, l.invariant.2, c.before.before.before.before.point.ensures, interpolated-more)
-          (sets_more (flat (interpolated a.w l.i)) (two (windowPoint a.w (l.i + 1))) _ a.k _ (omega (arith, length-flat-interpolated a.w l.i))),
+      rw (c.before.before.put2.ensures, l.invariant.2, c.before.before.before.before.point.ensures, interpolated_more)
+          (sets_more (flat (interpolated a.w l.i)) (two (window_point a.w (l.i + 1))) _ a.k _ (omega (arith, length_flat_interpolated a.w l.i))),
     )
 
 same_length : tie.Need-same-length invariant-loop decreases-loop

@@ -6,14 +6,14 @@ use borrow.Author.Rules.{rules}
 use lib.ListN.{length}
 use Rattle.buffers.proofs.Filling.{Filled, filled_none}
 use Rattle.control_points.proofs.Walks.{walk_more}
-use Rattle.curve.proofs.Turning.{Under, first_under, next_under, turnPath, path-begin, filled-turn, filled-last}
+use Rattle.curve.proofs.Turning.{Under, first_under, next_under, turn_path, path_begin, filled_turn, filled_last}
 use Rattle.curve.proofs.put_path.Statement.{statement}
 use Rattle.curve.proofs.put_path.Tie as tie
 
 abbrev invariant-loop : tie.invariant-loop
 invariant-loop deltas out₀ m t₀ k₀ out t k =
     (k < m) × (m ≡ length deltas / 2) × (32 * m + 2 ≤ length out₀) × (length out₀ < 2 ^ 62) × (length out ≡ length out₀)
-    × Under t deltas (k + 1) × Filled (turnPath t₀ deltas 1) out₀ out (turnPath t deltas (k + 1)) (32 * k)
+    × Under t deltas (k + 1) × Filled (turn_path t₀ deltas 1) out₀ out (turn_path t deltas (k + 1)) (32 * k)
 
 abbrev decreases-loop : tie.decreases-loop
 decreases-loop deltas out₀ m t₀ k₀ out t k = m - k
@@ -69,7 +69,7 @@ loop-again c =
       omega (arith, c.before.before.put-window.auto.0),
       rw (s.next.ensures, s.before.next-stand.ensures) (next_under l.t _ k l.invariant.5 (omega arith)),
       rw (c.before.before.put-window.ensures, c.before.before.before.window.ensures, s.next.ensures, s.before.next-stand.ensures, m)
-          (filled-turn l.t _ k l.invariant.5 l.out l.invariant.6 (omega arith) (omega arith)),
+          (filled_turn l.t _ k l.invariant.5 l.out l.invariant.6 (omega arith) (omega arith)),
     )
 
 mul-put-window-2 : tie.Need-overflow-mul-put-window-2 invariant-loop decreases-loop
@@ -100,13 +100,13 @@ returns c =
     let l = s.loop in
     let a = s.before.before.before.args in
     rw (
-      path-begin a.start a.deltas.now (omega arith),
+      path_begin a.start a.deltas.now (omega arith),
       ← s.before.first-turn.ensures,
       c.before.before.put2.ensures,
       w.put-window2.ensures,
       w.before.last.ensures,
     )
-    (filled-last l.t _ (l.k + 1) l.invariant.5 l.out l.invariant.6 (omega arith) (omega arith))
+    (filled_last l.t _ (l.k + 1) l.invariant.5 l.out l.invariant.6 (omega arith) (omega arith))
 
 pub put-path-spec : {M : Type 1} → statement M
 put-path-spec =

@@ -4,7 +4,7 @@ use Prim.Native.Nat.{◌+◌}
 use borrow.Author.Rules.{rules}
 use Rattle.buffers.proofs.Fronts.{sets_more}
 use Rattle.curve.specs.Curve.{interpolated, flat}
-use Rattle.curve.proofs.Paths.{two, window-flat}
+use Rattle.curve.proofs.Paths.{two, window_flat}
 use Rattle.curve.proofs.put_window.Statement.{statement}
 use Rattle.curve.proofs.put_window.Tie as tie
 
@@ -24,7 +24,7 @@ returns : tie.Need-returns
 returns c =
     let s = c.before.before.before.before.before.before in
     let a = s.before.before.before.args in
-    rw (c.before.before.put-interpolated.ensures, s.put2.ensures, window-flat)
+    rw (c.before.before.put-interpolated.ensures, s.put2.ensures, window_flat)
     (sets_more (two a.w.p1) (flat (interpolated a.w 15)) a.out.now a.k (a.k + 2) refl)
 
 pub put-window-spec : {M : Type 1} → statement M

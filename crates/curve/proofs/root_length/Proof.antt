@@ -5,8 +5,8 @@ use borrow.Author.Rules.{rules}
 use mir.Syntax.{w32}
 use mir.Facts.{to_z-of_z}
 use lib.Ieee.{binary32}
-use Rattle.roots.specs.Root.{sqrtOf}
-use Rattle.curve.specs.Turns.{rootLength}
+use Rattle.roots.specs.Root.{sqrt_of}
+use Rattle.curve.specs.Turns.{root_length}
 use Rattle.curve.proofs.root_length.Statement.{statement}
 use Rattle.curve.proofs.root_length.Tie as tie
 
@@ -17,12 +17,12 @@ root-requires : tie.Need-root-requires
 root-requires c κs = search rules
 
 returns : tie.Need-returns
-unfolding rootLength
+unfolding root_length
 returns c =
     let s = c.before.before.before.before in
     let p = to_z-of_z {w = w32} {z = s.args.delta.x} (record { sfits = omega arith }) in
     let q = to_z-of_z {w = w32} {z = s.args.delta.y} (record { sfits = omega arith }) in
-    c.root.ensures ∙ ap (sqrtOf binary32) (rw (p, q) at c.before.length.ensures)
+    c.root.ensures ∙ ap (sqrt_of binary32) (rw (p, q) at c.before.length.ensures)
 
 pub root-length-spec : {M : Type 1} → statement M
 root-length-spec = tie.close (tie.spec length-requires root-requires returns)

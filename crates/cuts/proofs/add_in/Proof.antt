@@ -1,7 +1,7 @@
 -- The part of each channel that holds the range comes back with the segment added.
 use native.Mathlib.Omega.{arith}
 use borrow.Author.Rules.{rules}
-use Rattle.cuts.proofs.Cuts.{added-part}
+use Rattle.cuts.proofs.Cuts.{added_part}
 use Rattle.cuts.proofs.add_in.Statement.{statement}
 use Rattle.cuts.proofs.add_in.Tie as tie
 
@@ -71,10 +71,10 @@ returns c =
     let A = S.args in
     let h = S.requires in
     let e = c.before.before.before.before.before.before.add.ensures in (
-      added-part A.segment A.range A.locals.now A.x0 0 A.r0.now _ h.0.0 h.0.1 h.1.0 e.0,
+      added_part A.segment A.range A.locals.now A.x0 0 A.r0.now _ h.0.0 h.0.1 h.1.0 e.0,
       (
-        added-part A.segment A.range A.locals.now A.x0 1 A.r1.now _ h.0.0 h.0.1 h.1.1 e.1.0,
-        added-part A.segment A.range A.locals.now A.x0 2 A.r2.now _ h.0.0 h.0.1 h.1.2 e.1.1,
+        added_part A.segment A.range A.locals.now A.x0 1 A.r1.now _ h.0.0 h.0.1 h.1.1 e.1.0,
+        added_part A.segment A.range A.locals.now A.x0 2 A.r2.now _ h.0.0 h.0.1 h.1.2 e.1.1,
       ),
     )
 

@@ -1,7 +1,7 @@
 -- `decimal::put_back` meets its contract: the digits of what is left stand before those that are stored.
 use mathlib.Core.Path.{◌≡◌}
 use native.Mathlib.Omega.{arith}
-use Rattle.decimal.proofs.Backs.{Back, back-begin, back_some, back_more, back_end}
+use Rattle.decimal.proofs.Backs.{Back, back_begin, back_some, back_more, back_end}
 use lib.ListN.{length}
 use Rattle.decimal.proofs.put_back.Statement.{statement}
 use Rattle.decimal.proofs.put_back.Tie as tie
@@ -13,7 +13,7 @@ abbrev decreases-loop : tie.decreases-loop
 decreases-loop text₀ end n left₀ i₀ text left i = left
 
 loop-holds : tie.Need-loop-init invariant-loop decreases-loop
-loop-holds c = back-begin _ _ _ c.before.requires
+loop-holds c = back_begin _ _ _ c.before.requires
 
 sub-i : tie.Need-overflow-sub-i invariant-loop decreases-loop
 sub-i c = back_some c.before.loop.invariant

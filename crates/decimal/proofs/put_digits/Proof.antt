@@ -4,7 +4,7 @@ use Prim.Native.Nat.{ℕ, ◌+◌, ◌-◌}
 use native.Mathlib.Omega.{arith}
 use lib.ListN.{length}
 use lib.Seq.{sets}
-use Rattle.polyline.specs.Write.{digitsOf}
+use Rattle.polyline.specs.Write.{digits_of}
 use Rattle.polyline.proofs.Digits.{length_most}
 use borrow.Author.Rules.{rules}
 use Rattle.decimal.proofs.put_digits.Statement.{statement}
@@ -26,8 +26,8 @@ returns : tie.Need-returns
 returns c =
     let s = c.before.before.before.before.before.before in
     let w = c.before.before.before.before.width.ensures in
-    let j : s.args.at + c.before.before.before.before.width.result - length (digitsOf s.args.n) ≡ s.args.at = omega (arith, w) in
-    (c.before.before.put_back.ensures ∙ ap (λ (k : ℕ). sets s.args.text.now k (digitsOf s.args.n)) j, omega (arith, w))
+    let j : s.args.at + c.before.before.before.before.width.result - length (digits_of s.args.n) ≡ s.args.at = omega (arith, w) in
+    (c.before.before.put_back.ensures ∙ ap (λ (k : ℕ). sets s.args.text.now k (digits_of s.args.n)) j, omega (arith, w))
 
 pub put-digits-spec : {M : Type 1} → statement M
 put-digits-spec = tie.close (tie.spec width-requires add-end put-back-requires same_length returns)

@@ -3,13 +3,13 @@ use mathlib.Core.Path.{◌≡◌}
 use Prim.Native.Nat.{◌+◌, ◌≤◌, ◌<◌, ◌^◌}
 use native.Mathlib.Omega.{arith}
 use lib.ListN.{length}
-use Rattle.polyline.specs.Write.{digitsOf}
-use Rattle.polyline.proofs.Digits.{length-small, length-large, length_most}
+use Rattle.polyline.specs.Write.{digits_of}
+use Rattle.polyline.proofs.Digits.{length_small, length_large, length_most}
 use Rattle.decimal.proofs.width.Statement.{statement}
 use Rattle.decimal.proofs.width.Tie as tie
 
 abbrev invariant-loop : tie.invariant-loop
-invariant-loop n left₀ w₀ left w = (w + length (digitsOf left) ≡ length (digitsOf n) + 1) × (left ≤ n) × (n < 2 ^ 32)
+invariant-loop n left₀ w₀ left w = (w + length (digits_of left) ≡ length (digits_of n) + 1) × (left ≤ n) × (n < 2 ^ 32)
 
 abbrev decreases-loop : tie.decreases-loop
 decreases-loop n left₀ w₀ left w = left
@@ -24,10 +24,10 @@ loop-less : tie.Need-loop-smaller invariant-loop decreases-loop
 loop-less c = omega arith
 
 loop-again : tie.Need-loop-preserved invariant-loop decreases-loop
-loop-again c = (omega (arith, c.before.loop.invariant.0, length-large c.before.loop.left c.loop-test.true), omega arith, omega arith)
+loop-again c = (omega (arith, c.before.loop.invariant.0, length_large c.before.loop.left c.loop-test.true), omega arith, omega arith)
 
 returns : tie.Need-returns invariant-loop decreases-loop
-returns c = omega (arith, c.before.loop.invariant.0, length-small c.before.loop.left c.loop-test.false)
+returns c = omega (arith, c.before.loop.invariant.0, length_small c.before.loop.left c.loop-test.false)
 
 pub width_spec : {M : Type 1} → statement M
 width_spec = tie.close (tie.spec invariant-loop decreases-loop loop-holds add-w loop-less loop-again returns)

@@ -1,7 +1,7 @@
 -- Each answer of the code is a case of the definition, by what the start and the trace gave.
 use Rattle.std.proofs.Common.{sym, ◌∙◌, rules}
-use Rattle.dequantize.specs.Dequantize.{dequantizeOf}
-use Rattle.control_points.proofs.Starts.{start-valid}
+use Rattle.dequantize.specs.Dequantize.{dequantize_of}
+use Rattle.control_points.proofs.Starts.{start_valid}
 use Rattle.dequantize.proofs.dequantize.Statement.{statement}
 use Rattle.dequantize.proofs.dequantize.Tie as tie
 
@@ -18,7 +18,7 @@ enum-known-start : tie.Need-enum-known-start
 enum-known-start c = search rules
 
 trace-requires : tie.Need-trace-requires
-trace-requires c κs = start-valid _ _ _ (sym c.before.before.before.starting-point.ensures ∙ c.before.start.given.1)
+trace-requires c κs = start_valid _ _ _ (sym c.before.before.before.starting-point.ensures ∙ c.before.start.given.1)
 
 enum-known-code : tie.Need-enum-known-code
 enum-known-code c = search rules
@@ -33,11 +33,11 @@ finished-requires : tie.Need-finished-requires
 finished-requires c κs = search rules
 
 returns : tie.Need-returns
-unfolding dequantizeOf
+unfolding dequantize_of
 returns c = rw (c.refused.ensures, sym c.before.before.before.starting-point.ensures ∙ c.before.enum_told.given.1)
 
 returns-2 : tie.Need-returns-2
-unfolding dequantizeOf
+unfolding dequantize_of
 returns-2 c =
     let t = c.before.before.before.before in
     rw (
@@ -47,7 +47,7 @@ returns-2 c =
     )
 
 returns-3 : tie.Need-returns-3
-unfolding dequantizeOf
+unfolding dequantize_of
 returns-3 c =
     let t = c.before.before.before.before in
     rw (

@@ -1,6 +1,6 @@
 -- The rows and the estimate are the calls' answers, over the inverse quant of the adjustment.
 use Rattle.std.proofs.Common.{arith, to_z-of_z, w32, rules}
-use Rattle.dequantize.specs.Dequantize.{finishedOf}
+use Rattle.dequantize.specs.Dequantize.{finished_of}
 use Rattle.dequantize.proofs.finished.Statement.{statement}
 use Rattle.dequantize.proofs.finished.Tie as tie
 
@@ -14,7 +14,7 @@ gained-rows-requires : tie.Need-gained-rows-requires
 gained-rows-requires c κs = search rules
 
 returns : tie.Need-returns
-unfolding finishedOf
+unfolding finished_of
 returns c =
     let q = c.before.before.before.before.before.before in
     let e = to_z-of_z {w = w32} {z = q.before.before.args.given.adjustment} (record { sfits = omega arith }) in

@@ -5,16 +5,16 @@ use native.Mathlib.Omega.{arith}
 use lib.ListN.{length}
 use borrow.Author.Rules.{rules}
 use borrow.Author.Tests.{lt-ltb, le-ltb}
-use Rattle.desks.specs.Hide.{hideOf}
+use Rattle.desks.specs.Hide.{hide_of}
 use Rattle.desks.proofs.hide.Statement.{statement}
 use Rattle.desks.proofs.hide.Tie as tie
 
 returns : tie.Need-returns
-unfolding hideOf
+unfolding hide_of
 returns c = rw (le-ltb c.before.before.args.desk 2 (omega arith))
 
 returns-2 : tie.Need-returns-2
-unfolding hideOf
+unfolding hide_of
 returns-2 c =
     let A = c.before.before.before.args in
     rw (lt-ltb A.desk 2 (omega arith), le-ltb A.spline (length A.bits.now) (omega arith))
@@ -32,7 +32,7 @@ same_length : tie.Need-same-length
 same_length c = search rules
 
 returns-3 : tie.Need-returns-3
-unfolding hideOf
+unfolding hide_of
 returns-3 c =
     let A = c.before.before.before.before.before.args in
     rw (lt-ltb A.desk 2 (omega arith), lt-ltb A.spline (length A.bits.now) (omega arith), c.with-bit.ensures)

@@ -1,7 +1,7 @@
 -- Either desk's bit taken away, and added where it is asked for.
 use native.Mathlib.Omega.{arith}
 use borrow.Author.Rules.{rules}
-use Rattle.desks.proofs.Bits.{made-first, made-second}
+use Rattle.desks.proofs.Bits.{made_first, made_second}
 use Rattle.desks.proofs.with_bit.Statement.{statement}
 use Rattle.desks.proofs.with_bit.Tie as tie
 
@@ -23,22 +23,22 @@ add-result-2 c = search rules
 returns : tie.Need-returns
 returns c =
     let A = c.before.before.args in
-    made-first A.desk A.byte A.hidden {w = 1} (omega arith) (rw c.if2.true) (omega arith)
+    made_first A.desk A.byte A.hidden {w = 1} (omega arith) (rw c.if2.true) (omega arith)
 
 returns-2 : tie.Need-returns-2
 returns-2 c =
     let A = c.before.before.args in
-    made-first A.desk A.byte A.hidden {w = 0} (omega arith) (rw c.if2.false) (omega arith)
+    made_first A.desk A.byte A.hidden {w = 0} (omega arith) (rw c.if2.false) (omega arith)
 
 returns-3 : tie.Need-returns-3
 returns-3 c =
     let A = c.before.before.args in
-    made-second A.desk A.byte A.hidden {w = 2} (omega arith) (rw c.if3.true) (omega arith)
+    made_second A.desk A.byte A.hidden {w = 2} (omega arith) (rw c.if3.true) (omega arith)
 
 returns-4 : tie.Need-returns-4
 returns-4 c =
     let A = c.before.before.args in
-    made-second A.desk A.byte A.hidden {w = 0} (omega arith) (rw c.if3.false) (omega arith)
+    made_second A.desk A.byte A.hidden {w = 0} (omega arith) (rw c.if3.false) (omega arith)
 
 pub with-bit-spec : {M : Type 1} → statement M
 with-bit-spec =

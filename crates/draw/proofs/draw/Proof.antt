@@ -3,9 +3,9 @@ use mathlib.Core.Path.{sym, ◌∙◌}
 use Prim.Native.Nat.{◌+◌}
 use native.Mathlib.Omega.{arith}
 use borrow.Author.Rules.{rules}
-use Rattle.checks.proofs.Checks.{judged-fine}
+use Rattle.checks.proofs.Checks.{judged_fine}
 use Rattle.draw.specs.Draw.{table_of, sight_of, three}
-use Rattle.draw.proofs.Checks.{answer-fault, answer-done}
+use Rattle.draw.proofs.Checks.{answer_fault, answer_done}
 use Rattle.draw.proofs.draw.Statement.{statement}
 use Rattle.draw.proofs.draw.Tie as tie
 
@@ -20,12 +20,12 @@ enum_told c = search rules
 
 mul-b : tie.Need-overflow-mul-b
 mul-b c =
-    let f = judged-fine _ _ _ _ _ _ _ _ (sym c.before.before.judge.ensures ∙ c.enum_told.given.1) in
+    let f = judged_fine _ _ _ _ _ _ _ _ (sym c.before.before.judge.ensures ∙ c.enum_told.given.1) in
     omega arith
 
 shared-slice-read-b : tie.Need-shared-slice-read-b
 shared-slice-read-b c =
-    let f = judged-fine _ _ _ _ _ _ _ _ (sym c.before.before.before.judge.ensures ∙ c.before.enum_told.given.1) in
+    let f = judged_fine _ _ _ _ _ _ _ _ (sym c.before.before.before.judge.ensures ∙ c.before.enum_told.given.1) in
     omega arith
 
 cast-b : tie.Need-overflow-cast-b
@@ -33,17 +33,17 @@ cast-b c = omega (arith, c.shared-slice-known6.given c.before.before.before.befo
 
 add-e : tie.Need-overflow-add-e
 add-e c =
-    let f = judged-fine _ _ _ _ _ _ _ _ (sym c.before.before.before.judge.ensures ∙ c.before.enum_told.given.1) in
+    let f = judged_fine _ _ _ _ _ _ _ _ (sym c.before.before.before.judge.ensures ∙ c.before.enum_told.given.1) in
     omega arith
 
 mul-e : tie.Need-overflow-mul-e
 mul-e c =
-    let f = judged-fine _ _ _ _ _ _ _ _ (sym c.before.before.before.judge.ensures ∙ c.before.enum_told.given.1) in
+    let f = judged_fine _ _ _ _ _ _ _ _ (sym c.before.before.before.judge.ensures ∙ c.before.enum_told.given.1) in
     omega arith
 
 shared-slice-read-e : tie.Need-shared-slice-read-e
 shared-slice-read-e c =
-    let f = judged-fine _ _ _ _ _ _ _ _ (sym c.before.before.before.before.judge.ensures ∙ c.before.before.enum_told.given.1) in
+    let f = judged_fine _ _ _ _ _ _ _ _ (sym c.before.before.before.before.judge.ensures ∙ c.before.before.enum_told.given.1) in
     omega arith
 
 cast-e : tie.Need-overflow-cast-e
@@ -51,13 +51,13 @@ cast-e c = omega (arith, c.shared-slice-known7.given (c.before.before.before.bef
 
 draw-entries-requires : tie.Need-draw-entries-requires
 draw-entries-requires c κs =
-    let f = judged-fine _ _ _ _ _ _ _ _ (sym c.before.before.before.before.before.before.before.before.judge.ensures ∙ c.before.before.before.before.before.before.enum_told.given.1) in
-    (omega arith, ((f.row.table.all_named, f.row.all-owned), (omega arith, omega arith)))
+    let f = judged_fine _ _ _ _ _ _ _ _ (sym c.before.before.before.before.before.before.before.before.judge.ensures ∙ c.before.before.before.before.before.before.enum_told.given.1) in
+    (omega arith, ((f.row.table.all_named, f.row.all_owned_lem), (omega arith, omega arith)))
 
 returns : tie.Need-returns
 returns c =
     let A = c.before.before.before.before.before.before.before.before.before.before.before.before.args in
-    answer-fault (table_of A.segments.now A.segment-count A.entries.now A.entry-count A.row-starts.now A.height) (sight_of A.owners.now A.splines A.bits.now A.desk) A.y A.x0 A.n (three A.r0.now A.r1.now A.r2.now) (sym c.before.before.before.judge.ensures ∙ c.before.code.given.1)
+    answer_fault (table_of A.segments.now A.segment_count_lem A.entries.now A.entry_count_lem A.row-starts.now A.height) (sight_of A.owners.now A.splines A.bits.now A.desk) A.y A.x0 A.n (three A.r0.now A.r1.now A.r2.now) (sym c.before.before.before.judge.ensures ∙ c.before.code.given.1)
 
 same_length : tie.Need-same-length
 same_length c = search rules
@@ -72,7 +72,7 @@ returns-2 : tie.Need-returns-2
 returns-2 c =
     let A = c.before.before.before.before.before.before.before.before.before.before.before.before.before.before.before.before.before.before.before.before.before.before.before.before.args in
     let d = c.before.before.before.before.before.before.draw-entries.ensures in
-    answer-done (table_of A.segments.now A.segment-count A.entries.now A.entry-count A.row-starts.now A.height) (sight_of A.owners.now A.splines A.bits.now A.desk) A.y A.x0 A.n (three A.r0.now A.r1.now A.r2.now) (sym c.before.before.before.before.before.before.before.before.before.before.before.before.before.before.before.judge.ensures ∙ c.before.before.before.before.before.before.before.before.before.before.before.before.before.enum_told.given.1) d.0 d.1.0 d.1.1.0 d.1.1.1
+    answer_done (table_of A.segments.now A.segment_count_lem A.entries.now A.entry_count_lem A.row-starts.now A.height) (sight_of A.owners.now A.splines A.bits.now A.desk) A.y A.x0 A.n (three A.r0.now A.r1.now A.r2.now) (sym c.before.before.before.before.before.before.before.before.before.before.before.before.before.before.before.judge.ensures ∙ c.before.before.before.before.before.before.before.before.before.before.before.before.before.enum_told.given.1) d.0 d.1.0 d.1.1.0 d.1.1.1
 
 pub draw-spec : {M : Type 1} → statement M
 draw-spec =

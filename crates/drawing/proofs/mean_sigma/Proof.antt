@@ -1,5 +1,5 @@
 -- `drawing::mean_sigma` meets its contract: the operations are the definition's.
-use Rattle.drawing.specs.Thickness.{meanSigma}
+use Rattle.drawing.specs.Thickness.{mean_sigma}
 use Rattle.std.proofs.Common.{to_z-of_z, w32, rules}
 use Rattle.drawing.proofs.mean_sigma.Statement.{statement}
 use Rattle.drawing.proofs.mean_sigma.Tie as tie
@@ -11,7 +11,7 @@ nearest-i32-to-f32-requires : tie.Need-nearest-i32-to-f32-requires
 nearest-i32-to-f32-requires c κs = search rules
 
 returns : tie.Need-returns
-unfolding meanSigma
+unfolding mean_sigma
 returns c =
     let s = c.before.before in
     let e = to_z-of_z {w = w32} {z = s.args.adjustment} s.ranges.adjustment in

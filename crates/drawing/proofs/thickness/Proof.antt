@@ -1,5 +1,5 @@
 -- `drawing::thickness` meets its contract: the operations are the definition's.
-use Rattle.drawing.specs.Thickness.{hundredthsOf}
+use Rattle.drawing.specs.Thickness.{hundredths_of}
 use Rattle.std.proofs.Common.{rules}
 use Rattle.drawing.proofs.thickness.Statement.{statement}
 use Rattle.drawing.proofs.thickness.Tie as tie
@@ -14,7 +14,7 @@ saturating-f32-to-u64-requires : tie.Need-saturating-f32-to-u64-requires
 saturating-f32-to-u64-requires c κs = search rules
 
 returns : tie.Need-returns
-unfolding hundredthsOf
+unfolding hundredths_of
 returns c = rw (c.saturating-f32-to-u64.ensures, c.before.round.ensures, c.before.before.abs.ensures)
 
 pub thickness-spec : {M : Type 1} → statement M

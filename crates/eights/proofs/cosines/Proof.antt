@@ -6,15 +6,15 @@ use borrow.Author.Rules.{rules}
 use lib.ListN.{length}
 use Rattle.numbers.specs.Arith.{f, ◌⊕◌}
 use Rattle.dequantize.specs.Coefficients.{table}
-use Rattle.dequantize.proofs.Tables.{Filling, filling-none, filling-more, filling-all}
-use Rattle.eights.specs.Eights.{dctMultiplier, cosineAt}
-use Rattle.eights.proofs.Feeding.{cosine-is}
+use Rattle.dequantize.proofs.Tables.{Filling, filling_none, filling_more, filling_all}
+use Rattle.eights.specs.Eights.{dct_multiplier, cosine_at}
+use Rattle.eights.proofs.Feeding.{cosine_is}
 use Rattle.eights.proofs.cosines.Statement.{statement}
 use Rattle.eights.proofs.cosines.Tie as tie
 
 abbrev invariant-loop : tie.invariant-loop
 invariant-loop from t multipliers tandhalf eight₀ j₀ eight j =
-    (multipliers ≡ table (λ j. dctMultiplier (from + j)) 8) × (tandhalf ≡ t ⊕ f 0x3f000000) × (length multipliers ≡ 8) × Filling (λ j. cosineAt t (from + j)) 8 eight j
+    (multipliers ≡ table (λ j. dct_multiplier (from + j)) 8) × (tandhalf ≡ t ⊕ f 0x3f000000) × (length multipliers ≡ 8) × Filling (λ j. cosine_at t (from + j)) 8 eight j
 
 abbrev decreases-loop : tie.decreases-loop
 decreases-loop from t multipliers tandhalf eight₀ j₀ eight j = 8 - j
@@ -23,7 +23,7 @@ dct-multipliers-requires : tie.Need-dct-multipliers-requires invariant-loop decr
 dct-multipliers-requires c κs = search rules
 
 loop-holds : tie.Need-loop-init invariant-loop decreases-loop
-loop-holds c = (c.dct-multipliers.ensures, refl, omega arith, filling-none _ 8 _ refl)
+loop-holds c = (c.dct-multipliers.ensures, refl, omega arith, filling_none _ 8 _ refl)
 
 mul-fast-cos : tie.Need-overflow-mul-fast-cos invariant-loop decreases-loop
 mul-fast-cos c = search rules
@@ -50,10 +50,10 @@ loop-again : tie.Need-loop-preserved invariant-loop decreases-loop
 loop-again c =
     let l = c.before.before.loop in
     let v = l.invariant in
-    (v.0, v.1, v.2, filling-more _ l.j v.3 c.before.loop-test.true (cosine-is _ _ _ _ l.j v.0 v.1 c.before.loop-test.true c.fast-cos.ensures))
+    (v.0, v.1, v.2, filling_more _ l.j v.3 c.before.loop-test.true (cosine_is _ _ _ _ l.j v.0 v.1 c.before.loop-test.true c.fast-cos.ensures))
 
 returns : tie.Need-returns invariant-loop decreases-loop
-returns c = let l = c.before.loop in filling-all _ l.j l.invariant.3 c.loop-test.false
+returns c = let l = c.before.loop in filling_all _ l.j l.invariant.3 c.loop-test.false
 
 pub cosines-spec : {M : Type 1} → statement M
 cosines-spec =

@@ -3,8 +3,8 @@ use mathlib.Core.Path.{refl}
 use borrow.Author.Rules.{rules}
 use lib.Ieee.{mul, div, of_int, of_bits}
 use Rattle.dequantize.specs.Coefficients.{table}
-use Rattle.eights.specs.Eights.{dctMultiplier}
-use Rattle.eights.proofs.Feeding.{eight_is, last-eighth}
+use Rattle.eights.specs.Eights.{dct_multiplier}
+use Rattle.eights.proofs.Feeding.{eight_is, last_eighth}
 use Rattle.eights.proofs.dct_multipliers.Statement.{statement}
 use Rattle.eights.proofs.dct_multipliers.Tie as tie
 
@@ -105,23 +105,23 @@ array-read-t100 : tie.Need-array-read-t100
 array-read-t100 c = search rules
 
 returns : tie.Need-returns
-unfolding table dctMultiplier mul div of_int of_bits
+unfolding table dct_multiplier mul div of_int of_bits
 returns c = eight_is _ 0 c.match.keys1 refl
 
 returns-2 : tie.Need-returns-2
-unfolding table dctMultiplier mul div of_int of_bits
+unfolding table dct_multiplier mul div of_int of_bits
 returns-2 c = eight_is _ 8 c.match.keys2 refl
 
 returns-3 : tie.Need-returns-3
-unfolding table dctMultiplier mul div of_int of_bits
+unfolding table dct_multiplier mul div of_int of_bits
 returns-3 c = eight_is _ 16 c.match.keys3 refl
 
 returns-4 : tie.Need-returns-4
-unfolding table dctMultiplier mul div of_int of_bits
+unfolding table dct_multiplier mul div of_int of_bits
 returns-4 c =
     let p = c.before.requires in
     let r = c.match.rest in
-    eight_is _ 24 (last-eighth _ p.0 p.1 r.0.0.1 r.0.1 r.1) refl
+    eight_is _ 24 (last_eighth _ p.0 p.1 r.0.0.1 r.0.1 r.1) refl
 
 pub dct-multipliers-spec : {M : Type 1} → statement M
 dct-multipliers-spec =

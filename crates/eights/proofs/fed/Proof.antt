@@ -3,7 +3,7 @@ use mathlib.Core.Logic.{⊎_elim}
 use Prim.Native.Nat.{◌-◌}
 use native.Mathlib.Omega.{arith}
 use borrow.Author.Rules.{rules}
-use Rattle.eights.proofs.Feeding.{Fed, fed-first, fed-next, fed-more, fed-all}
+use Rattle.eights.proofs.Feeding.{Fed, fed_first, fed_next, fed_more, fed_all}
 use Rattle.eights.proofs.fed.Statement.{statement}
 use Rattle.eights.proofs.fed.Tie as tie
 
@@ -26,8 +26,8 @@ loop-holds : tie.Need-loop-init invariant-loop decreases-loop
 loop-holds c =
     let p = c.before.before.requires in
     ⊎_elim
-    (λ h. fed-first _ _ _ _ p.0 p.1 h.0.taken h.1)
-    (λ h. fed-next _ _ _ _ p.0 p.1 h.0.left p.2 h.1)
+    (λ h. fed_first _ _ _ _ p.0 p.1 h.0.taken h.1)
+    (λ h. fed_next _ _ _ _ p.0 p.1 h.0.left p.2 h.1)
     c.if1.branch
 
 add-s : tie.Need-overflow-add-s invariant-loop decreases-loop
@@ -52,10 +52,10 @@ loop-less : tie.Need-loop-smaller invariant-loop decreases-loop
 loop-less c = omega arith
 
 loop-again : tie.Need-loop-preserved invariant-loop decreases-loop
-loop-again c = let l = c.before.before.loop in fed-more l.j l.invariant c.before.loop-test.true
+loop-again c = let l = c.before.before.loop in fed_more l.j l.invariant c.before.loop-test.true
 
 returns : tie.Need-returns invariant-loop decreases-loop
-returns c = let l = c.before.loop in fed-all l.j l.invariant c.loop-test.false
+returns c = let l = c.before.loop in fed_all l.j l.invariant c.loop-test.false
 
 pub fed-spec : {M : Type 1} → statement M
 fed-spec =

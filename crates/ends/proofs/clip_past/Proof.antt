@@ -9,7 +9,7 @@ use lib.Signed.{lt_z, non_neg}
 use mir.Facts.{to_z-of_z}
 use mir.Syntax.{w64}
 use mir.Val.{Fits, to_z, of_z}
-use Rattle.ends.proofs.Ends.{plus-fits, clip-minus, clip-plus}
+use Rattle.ends.proofs.Ends.{plus_fits, clip_minus, clip_plus}
 use Rattle.ends.proofs.clip_past.Statement.{statement}
 use Rattle.ends.proofs.clip_past.Tie as tie
 
@@ -23,7 +23,7 @@ test c b e = ap (λ (z : ℤ). lt_z z (pos 0)) (sym (same c)) ∙ e
 cast-cut : tie.Need-overflow-cast-cut
 cast-cut c =
     let s = c.before in
-    subst (λ (z : ℤ). T (non_neg z) × Fits w64 (nat_abs z)) (sym (same s)) (plus-fits s.args.z s.ranges.z (test s _ c.if1.false))
+    subst (λ (z : ℤ). T (non_neg z) × Fits w64 (nat_abs z)) (sym (same s)) (plus_fits s.args.z s.ranges.z (test s _ c.if1.false))
 
 cut-requires : tie.Need-cut-requires
 cut-requires c κs = search rules
@@ -32,13 +32,13 @@ add-result : tie.Need-overflow-add-result
 add-result c = search rules
 
 returns : tie.Need-returns
-returns c = (clip-minus c.before.args.z (test c.before _ c.if1.true)).1
+returns c = (clip_minus c.before.args.z (test c.before _ c.if1.true)).1
 
 returns-2 : tie.Need-returns-2
 returns-2 c =
     let b = c.before in
     let s = b.before in
-    ap (λ (n : ℕ). n + 1) (c.cut.ensures ∙ ap (λ (z : ℤ). min (nat_abs z) (2 ^ 24)) (same s)) ∙ (clip-plus s.args.z (test s _ b.if1.false)).1
+    ap (λ (n : ℕ). n + 1) (c.cut.ensures ∙ ap (λ (z : ℤ). min (nat_abs z) (2 ^ 24)) (same s)) ∙ (clip_plus s.args.z (test s _ b.if1.false)).1
 
 pub clip-past-spec : {M : Type 1} → statement M
 clip-past-spec = tie.close (tie.spec cast-cut cut-requires add-result returns returns-2)

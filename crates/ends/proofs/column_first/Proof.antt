@@ -1,7 +1,7 @@
 -- `column_first` meets its contract: each arm is the definition's case of the kind.
 use mathlib.Core.Path.{ap, sym, ◌∙◌}
 use borrow.Author.Rules.{rules}
-use Rattle.ends.specs.Ends.{columnFirstBy, columnFirstOf}
+use Rattle.ends.specs.Ends.{column_first_by, column_first_of}
 use Rattle.ends.proofs.column_first.Statement.{statement}
 use Rattle.ends.proofs.column_first.Tie as tie
 
@@ -24,22 +24,22 @@ enum-told-3 : tie.Need-enum-told-3
 enum-told-3 c = search rules
 
 returns : tie.Need-returns
-unfolding columnFirstOf
+unfolding column_first_of
 returns c =
     let s = c.before.before in
-    c.cut.ensures ∙ ap columnFirstBy (sym s.n.given.1 ∙ s.before.before.rounded-to-u64.ensures)
+    c.cut.ensures ∙ ap column_first_by (sym s.n.given.1 ∙ s.before.before.rounded-to-u64.ensures)
 
 returns-2 : tie.Need-returns-2
-unfolding columnFirstOf
-returns-2 c = ap columnFirstBy (sym c.enum_told.given.1 ∙ c.before.before.rounded-to-u64.ensures)
+unfolding column_first_of
+returns-2 c = ap column_first_by (sym c.enum_told.given.1 ∙ c.before.before.rounded-to-u64.ensures)
 
 returns-3 : tie.Need-returns-3
-unfolding columnFirstOf
-returns-3 c = ap columnFirstBy (sym c.enum-told2.given.1 ∙ c.before.before.rounded-to-u64.ensures)
+unfolding column_first_of
+returns-3 c = ap column_first_by (sym c.enum-told2.given.1 ∙ c.before.before.rounded-to-u64.ensures)
 
 returns-4 : tie.Need-returns-4
-unfolding columnFirstOf
-returns-4 c = ap columnFirstBy (sym c.enum-told3.given.1 ∙ c.before.before.rounded-to-u64.ensures)
+unfolding column_first_of
+returns-4 c = ap column_first_by (sym c.enum-told3.given.1 ∙ c.before.before.rounded-to-u64.ensures)
 
 pub column-first-spec : {M : Type 1} → statement M
 column-first-spec =

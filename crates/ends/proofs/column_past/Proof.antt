@@ -3,7 +3,7 @@ use mathlib.Core.Path.{ap, sym, ◌∙◌}
 use Prim.Native.Nat.{ℕ, ◌+◌}
 use native.Mathlib.Numerals.{add-one}
 use borrow.Author.Rules.{rules}
-use Rattle.ends.specs.Ends.{columnPastBy, columnPastOf}
+use Rattle.ends.specs.Ends.{column_past_by, column_past_of}
 use Rattle.ends.proofs.column_past.Statement.{statement}
 use Rattle.ends.proofs.column_past.Tie as tie
 
@@ -29,22 +29,22 @@ enum-told-3 : tie.Need-enum-told-3
 enum-told-3 c = search rules
 
 returns : tie.Need-returns
-unfolding columnPastOf
+unfolding column_past_of
 returns c =
     let s = c.before.before in
-    ap (λ (m : ℕ). m + 1) c.cut.ensures ∙ add-one _ ∙ ap columnPastBy (sym s.n.given.1 ∙ s.before.before.rounded-to-u64.ensures)
+    ap (λ (m : ℕ). m + 1) c.cut.ensures ∙ add-one _ ∙ ap column_past_by (sym s.n.given.1 ∙ s.before.before.rounded-to-u64.ensures)
 
 returns-2 : tie.Need-returns-2
-unfolding columnPastOf
-returns-2 c = ap columnPastBy (sym c.enum_told.given.1 ∙ c.before.before.rounded-to-u64.ensures)
+unfolding column_past_of
+returns-2 c = ap column_past_by (sym c.enum_told.given.1 ∙ c.before.before.rounded-to-u64.ensures)
 
 returns-3 : tie.Need-returns-3
-unfolding columnPastOf
-returns-3 c = ap columnPastBy (sym c.enum-told2.given.1 ∙ c.before.before.rounded-to-u64.ensures)
+unfolding column_past_of
+returns-3 c = ap column_past_by (sym c.enum-told2.given.1 ∙ c.before.before.rounded-to-u64.ensures)
 
 returns-4 : tie.Need-returns-4
-unfolding columnPastOf
-returns-4 c = ap columnPastBy (sym c.enum-told3.given.1 ∙ c.before.before.rounded-to-u64.ensures)
+unfolding column_past_of
+returns-4 c = ap column_past_by (sym c.enum-told3.given.1 ∙ c.before.before.rounded-to-u64.ensures)
 
 pub column-past-spec : {M : Type 1} → statement M
 column-past-spec =

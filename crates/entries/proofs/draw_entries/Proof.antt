@@ -5,27 +5,27 @@ use Prim.Native.Nat.{ℕ, ◌+◌, ◌-◌, ◌<◌, ◌≤◌}
 use native.Mathlib.Omega.{arith}
 use lib.ListN.{length}
 use lib.Seq.{slice}
-use Rattle.desks.specs.Desks.{sight_of, shown, allOwned}
+use Rattle.desks.specs.Desks.{sight_of, shown, all_owned}
 use Rattle.checks.specs.Checks.{all_below}
 use Rattle.columns.specs.Columns.{updates}
-use Rattle.checks.proofs.Entries.{first_below, rest_below, first-owned, rest-owned}
+use Rattle.checks.proofs.Entries.{first_below, rest_below, first_owned, rest_owned}
 use Rattle.singles.proofs.Singles.{rest}
-use Rattle.entries.proofs.Entries.{updates-small, total-next-two, rest-next-two}
+use Rattle.entries.proofs.Entries.{updates_small, total_next_two, rest_next_two}
 use Rattle.entries.proofs.draw_entries.Statement.{statement}
 use Rattle.entries.proofs.draw_entries.Tie as tie
 
 abbrev invariant-loop : tie.invariant-loop
-invariant-loop segments owners segment-count entries b e splines bits desk y x0 n r0₀ r1₀ r2₀ table total₀ j₀ r0 r1 r2 total j =
+invariant-loop segments owners segment_count_lem entries b e splines bits desk y x0 n r0₀ r1₀ r2₀ table total₀ j₀ r0 r1 r2 total j =
     (j ≤ e) × (length r0 ≡ length r0₀) × (length r1 ≡ length r1₀) × (length r2 ≡ length r2₀)
-    × (all_below segment-count (slice j e entries) ≡ true)
+    × (all_below segment_count_lem (slice j e entries) ≡ true)
     × (total + updates segments x0 n (shown (sight_of owners splines bits desk) (slice j e entries)) ≡ updates segments x0 n (shown (sight_of owners splines bits desk) (slice b e entries)))
     × (rest 0 segments y x0 n (shown (sight_of owners splines bits desk) (slice j e entries)) r0 ≡ rest 0 segments y x0 n (shown (sight_of owners splines bits desk) (slice b e entries)) r0₀)
     × (rest 1 segments y x0 n (shown (sight_of owners splines bits desk) (slice j e entries)) r1 ≡ rest 1 segments y x0 n (shown (sight_of owners splines bits desk) (slice b e entries)) r1₀)
     × (rest 2 segments y x0 n (shown (sight_of owners splines bits desk) (slice j e entries)) r2 ≡ rest 2 segments y x0 n (shown (sight_of owners splines bits desk) (slice b e entries)) r2₀)
-    × (allOwned owners splines (slice j e entries) ≡ true)
+    × (all_owned owners splines (slice j e entries) ≡ true)
 
 abbrev decreases-loop : tie.decreases-loop
-decreases-loop segments owners segment-count entries b e splines bits desk y x0 n r0₀ r1₀ r2₀ table total₀ j₀ r0 r1 r2 total j = e - j
+decreases-loop segments owners segment_count_lem entries b e splines bits desk y x0 n r0₀ r1₀ r2₀ table total₀ j₀ r0 r1 r2 total j = e - j
 
 loop-holds : tie.Need-loop-init invariant-loop decreases-loop
 loop-holds c =
@@ -64,10 +64,10 @@ draw-two-requires c κs =
     let t = c.before.before.before.before.before.loop-test.true in
     let u : l.j < A.e = omega arith in
     let w : l.j + 1 < A.e = omega arith in
-    let f = first_below A.segment-count l.j A.e A.entries.now u P.requires.0.1 l.invariant.4 in
-    let g = first-owned A.owners.now A.splines l.j A.e A.entries.now u P.requires.0.1 l.invariant.9 in
-    let f2 = first_below A.segment-count (l.j + 1) A.e A.entries.now w P.requires.0.1 (rest_below A.segment-count l.j A.e A.entries.now u P.requires.0.1 l.invariant.4) in
-    let g2 = first-owned A.owners.now A.splines (l.j + 1) A.e A.entries.now w P.requires.0.1 (rest-owned A.owners.now A.splines l.j A.e A.entries.now u P.requires.0.1 l.invariant.9) in
+    let f = first_below A.segment_count_lem l.j A.e A.entries.now u P.requires.0.1 l.invariant.4 in
+    let g = first_owned A.owners.now A.splines l.j A.e A.entries.now u P.requires.0.1 l.invariant.9 in
+    let f2 = first_below A.segment_count_lem (l.j + 1) A.e A.entries.now w P.requires.0.1 (rest_below A.segment_count_lem l.j A.e A.entries.now u P.requires.0.1 l.invariant.4) in
+    let g2 = first_owned A.owners.now A.splines (l.j + 1) A.e A.entries.now w P.requires.0.1 (rest_owned A.owners.now A.splines l.j A.e A.entries.now u P.requires.0.1 l.invariant.9) in
     (omega (arith, f, g, P.requires.0), (omega (arith, f2, g2, P.requires.0), (P.requires.1.1.0, omega (arith, P.requires.1.1.1, l.invariant.1, l.invariant.2, l.invariant.3))))
 
 cast-total : tie.Need-overflow-cast-total invariant-loop decreases-loop
@@ -83,8 +83,8 @@ add_total c =
     let w : l.j + 1 < A.e = omega arith in
     omega (
       arith,
-      updates-small s A.segments.now A.x0 A.n A.b A.e A.entries.now (omega arith) P.requires.0.1 P.requires.0.2,
-      total-next-two s A.segments.now A.x0 A.n l.j A.e A.entries.now w P.requires.0.1 l.total _ _ l.invariant.5 c.before.before.before.before.before.before.draw-two.ensures.0,
+      updates_small s A.segments.now A.x0 A.n A.b A.e A.entries.now (omega arith) P.requires.0.1 P.requires.0.2,
+      total_next_two s A.segments.now A.x0 A.n l.j A.e A.entries.now w P.requires.0.1 l.total _ _ l.invariant.5 c.before.before.before.before.before.before.draw-two.ensures.0,
     )
 
 add-j : tie.Need-overflow-add-j invariant-loop decreases-loop
@@ -108,12 +108,12 @@ loop-again c =
       omega arith,
       omega arith,
       omega arith,
-      ap (λ (m : ℕ). all_below A.segment-count (slice m A.e A.entries.now)) two ∙ rest_below A.segment-count (l.j + 1) A.e A.entries.now w P.requires.0.1 (rest_below A.segment-count l.j A.e A.entries.now u P.requires.0.1 l.invariant.4),
-      total-next-two s A.segments.now A.x0 A.n l.j A.e A.entries.now w P.requires.0.1 l.total _ _ l.invariant.5 g.0,
-      rest-next-two s A.segments.now A.x0 A.n l.j A.e A.entries.now w P.requires.0.1 0 A.y l.r0 _ _ l.invariant.6 g.1.0,
-      rest-next-two s A.segments.now A.x0 A.n l.j A.e A.entries.now w P.requires.0.1 1 A.y l.r1 _ _ l.invariant.7 g.1.1.0,
-      rest-next-two s A.segments.now A.x0 A.n l.j A.e A.entries.now w P.requires.0.1 2 A.y l.r2 _ _ l.invariant.8 g.1.1.1,
-      ap (λ (m : ℕ). allOwned A.owners.now A.splines (slice m A.e A.entries.now)) two ∙ rest-owned A.owners.now A.splines (l.j + 1) A.e A.entries.now w P.requires.0.1 (rest-owned A.owners.now A.splines l.j A.e A.entries.now u P.requires.0.1 l.invariant.9),
+      ap (λ (m : ℕ). all_below A.segment_count_lem (slice m A.e A.entries.now)) two ∙ rest_below A.segment_count_lem (l.j + 1) A.e A.entries.now w P.requires.0.1 (rest_below A.segment_count_lem l.j A.e A.entries.now u P.requires.0.1 l.invariant.4),
+      total_next_two s A.segments.now A.x0 A.n l.j A.e A.entries.now w P.requires.0.1 l.total _ _ l.invariant.5 g.0,
+      rest_next_two s A.segments.now A.x0 A.n l.j A.e A.entries.now w P.requires.0.1 0 A.y l.r0 _ _ l.invariant.6 g.1.0,
+      rest_next_two s A.segments.now A.x0 A.n l.j A.e A.entries.now w P.requires.0.1 1 A.y l.r1 _ _ l.invariant.7 g.1.1.0,
+      rest_next_two s A.segments.now A.x0 A.n l.j A.e A.entries.now w P.requires.0.1 2 A.y l.r2 _ _ l.invariant.8 g.1.1.1,
+      ap (λ (m : ℕ). all_owned A.owners.now A.splines (slice m A.e A.entries.now)) two ∙ rest_owned A.owners.now A.splines (l.j + 1) A.e A.entries.now w P.requires.0.1 (rest_owned A.owners.now A.splines l.j A.e A.entries.now u P.requires.0.1 l.invariant.9),
     )
 
 draw-each-requires : tie.Need-draw-each-requires invariant-loop decreases-loop
@@ -128,7 +128,7 @@ add-result c =
     let A = P.args in
     let s = sight_of A.owners.now A.splines A.bits.now A.desk in
     let l = c.before.before.before.before.before.before.before.before.before.before.before.loop in
-    omega (arith, updates-small s A.segments.now A.x0 A.n A.b A.e A.entries.now (omega arith) P.requires.0.1 P.requires.0.2, l.invariant.5, c.before.before.before.before.before.before.draw-each.ensures.0)
+    omega (arith, updates_small s A.segments.now A.x0 A.n A.b A.e A.entries.now (omega arith) P.requires.0.1 P.requires.0.2, l.invariant.5, c.before.before.before.before.before.before.draw-each.ensures.0)
 
 same_length : tie.Need-same-length invariant-loop decreases-loop
 same_length c = omega arith

@@ -4,19 +4,19 @@ use Prim.Native.Nat.{◌+◌, ◌-◌, ◌≤◌}
 use native.Mathlib.Omega.{arith}
 use borrow.Author.Rules.{rules}
 use lib.ListN.{length}
-use Rattle.estimate.specs.Estimate.{toU64, colorAt, colorBy}
-use Rattle.estimate.proofs.Sums.{Summed, summed-none, summed-more, summed-all}
+use Rattle.estimate.specs.Estimate.{to_u64, color_at, color_by}
+use Rattle.estimate.proofs.Sums.{Summed, summed_none, summed_more, summed_all}
 use Rattle.estimate.proofs.color.Statement.{statement}
 use Rattle.estimate.proofs.color.Tie as tie
 
 abbrev invariant-loop : tie.invariant-loop
-invariant-loop c from quant sum₀ i₀ sum i = (from + 32 ≤ length c) × Summed (colorAt (λ x. toU64 x) c from quant) 32 sum i
+invariant-loop c from quant sum₀ i₀ sum i = (from + 32 ≤ length c) × Summed (color_at (λ x. to_u64 x) c from quant) 32 sum i
 
 abbrev decreases-loop : tie.decreases-loop
 decreases-loop c from quant sum₀ i₀ sum i = 32 - i
 
 loop-holds : tie.Need-loop-init invariant-loop decreases-loop
-loop-holds c = (c.requires, summed-none _ 32)
+loop-holds c = (c.requires, summed_none _ 32)
 
 add-share : tie.Need-overflow-add-share invariant-loop decreases-loop
 add-share c = omega arith
@@ -40,11 +40,11 @@ loop-again : tie.Need-loop-preserved invariant-loop decreases-loop
 loop-again c =
     let l = c.before.before.before.before.loop in
     let e : c.before.whole.result ≡ _ = rw c.before.before.share.ensures at c.before.whole.ensures in
-    (l.invariant.0, summed-more _ l.i l.invariant.1 (omega arith) e c.saturating-add.ensures)
+    (l.invariant.0, summed_more _ l.i l.invariant.1 (omega arith) e c.saturating-add.ensures)
 
 returns : tie.Need-returns invariant-loop decreases-loop
-unfolding colorBy
-returns c = let l = c.before.loop in summed-all _ l.i l.invariant.1 c.loop-test.false
+unfolding color_by
+returns c = let l = c.before.loop in summed_all _ l.i l.invariant.1 c.loop-test.false
 
 pub color-spec : {M : Type 1} → statement M
 color-spec =

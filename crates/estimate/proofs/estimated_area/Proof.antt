@@ -1,6 +1,6 @@
 -- The calls are the definition's operations, last call first.
 use borrow.Author.Rules.{rules}
-use Rattle.estimate.specs.Estimate.{estimateBy}
+use Rattle.estimate.specs.Estimate.{estimate_by}
 use Rattle.estimate.proofs.estimated_area.Statement.{statement}
 use Rattle.estimate.proofs.estimated_area.Tie as tie
 
@@ -26,7 +26,7 @@ saturating-mul-requires : tie.Need-saturating-mul-requires
 saturating-mul-requires c κs = search rules
 
 returns : tie.Need-returns
-unfolding estimateBy
+unfolding estimate_by
 returns c =
     rw (
       c.saturating-mul.ensures,

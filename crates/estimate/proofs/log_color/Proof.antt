@@ -1,6 +1,6 @@
 -- The calls are the definition's operations, last call first.
 use borrow.Author.Rules.{rules}
-use Rattle.estimate.specs.Estimate.{logColorBy}
+use Rattle.estimate.specs.Estimate.{log_color_by}
 use Rattle.estimate.proofs.log_color.Statement.{statement}
 use Rattle.estimate.proofs.log_color.Tie as tie
 
@@ -26,7 +26,7 @@ greater-requires-3 : tie.Need-greater-requires-3
 greater-requires-3 c κs = search rules
 
 returns : tie.Need-returns
-unfolding logColorBy
+unfolding log_color_by
 returns c = rw (c.greater3.ensures, c.before.ceil-log2.ensures, c.before.before.saturating-add.ensures, c.before.before.before.greater2.ensures, c.before.before.before.before.tinted2.ensures, c.before.before.before.before.before.greater.ensures, c.before.before.before.before.before.before.tinted.ensures)
 
 pub log-color-spec : {M : Type 1} → statement M

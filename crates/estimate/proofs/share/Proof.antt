@@ -4,7 +4,7 @@ use lib.IntN.{pos}
 use lib.ListN.{get_or}
 use mir.Syntax.{w32}
 use mir.Facts.{to_z-of_z}
-use Rattle.estimate.specs.Estimate.{shareAt}
+use Rattle.estimate.specs.Estimate.{share_at}
 use Rattle.estimate.proofs.share.Statement.{statement}
 use Rattle.estimate.proofs.share.Tie as tie
 
@@ -24,7 +24,7 @@ ceil-requires : tie.Need-ceil-requires
 ceil-requires c κs = search rules
 
 returns : tie.Need-returns
-unfolding shareAt
+unfolding share_at
 returns c =
     let a = c.before.before.before.before.args in
     let e = to_z-of_z {w = w32} {z = get_or a.c.now a.k (pos 0)} (record { sfits = c.before.before.before.unsigned-abs-arg.given }) in

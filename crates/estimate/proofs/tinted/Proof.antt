@@ -1,6 +1,6 @@
 -- The calls are the definition's operations, last call first.
 use borrow.Author.Rules.{rules}
-use Rattle.estimate.specs.Estimate.{tintedBy}
+use Rattle.estimate.specs.Estimate.{tinted_by}
 use Rattle.estimate.proofs.tinted.Statement.{statement}
 use Rattle.estimate.proofs.tinted.Tie as tie
 
@@ -20,7 +20,7 @@ saturating-add-requires : tie.Need-saturating-add-requires
 saturating-add-requires c κs = search rules
 
 returns : tie.Need-returns
-unfolding tintedBy
+unfolding tinted_by
 returns c = rw (c.saturating-add.ensures, c.before.saturating-mul.ensures, c.before.before.whole.ensures, c.before.before.before.ceil.ensures, c.before.before.before.before.abs.ensures)
 
 pub tinted-spec : {M : Type 1} → statement M

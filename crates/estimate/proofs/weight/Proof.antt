@@ -1,6 +1,6 @@
 -- The calls are the definition's operations, last call first.
 use borrow.Author.Rules.{rules}
-use Rattle.estimate.specs.Estimate.{weightBy}
+use Rattle.estimate.specs.Estimate.{weight_by}
 use Rattle.estimate.proofs.weight.Statement.{statement}
 use Rattle.estimate.proofs.weight.Tie as tie
 
@@ -17,7 +17,7 @@ whole-requires : tie.Need-whole-requires
 whole-requires c κs = search rules
 
 returns : tie.Need-returns
-unfolding weightBy
+unfolding weight_by
 returns c = rw (c.whole.ensures, c.before.min.ensures, c.before.before.max.ensures, c.before.before.before.share.ensures)
 
 pub weight-spec : {M : Type 1} → statement M

@@ -1,6 +1,6 @@
 -- The calls are the definition's operations, last call first.
 use borrow.Author.Rules.{rules}
-use Rattle.estimate.specs.Estimate.{weightLimit}
+use Rattle.estimate.specs.Estimate.{weight_limit}
 use Rattle.estimate.proofs.weight_limit.Statement.{statement}
 use Rattle.estimate.proofs.weight_limit.Tie as tie
 
@@ -23,7 +23,7 @@ ceil-requires : tie.Need-ceil-requires
 ceil-requires c κs = search rules
 
 returns : tie.Need-returns
-unfolding weightLimit
+unfolding weight_limit
 returns c = rw (c.ceil.ensures, c.before.root.ensures, c.before.before.nearest-u64-to-f323.ensures, c.before.before.before.greater.ensures, c.before.before.before.before.nearest-u64-to-f322.ensures, c.before.before.before.before.before.nearest-u64-to-f32.ensures)
 
 pub weight-limit-spec : {M : Type 1} → statement M

@@ -1,7 +1,7 @@
 -- Each arm is the definition's case of the kind.
 use mathlib.Core.Path.{ap, sym, ◌∙◌}
 use borrow.Author.Rules.{rules}
-use Rattle.kinds.specs.Kind.{saturatedU64}
+use Rattle.kinds.specs.Kind.{saturated_u64}
 use Rattle.estimate.proofs.whole.Statement.{statement}
 use Rattle.estimate.proofs.whole.Tie as tie
 
@@ -21,16 +21,16 @@ enum-told-3 : tie.Need-enum-told-3
 enum-told-3 c = search rules
 
 returns : tie.Need-returns
-returns c = ap saturatedU64 (sym c.before.n.given.1 ∙ c.before.before.before.cut-to-u64.ensures)
+returns c = ap saturated_u64 (sym c.before.n.given.1 ∙ c.before.before.before.cut-to-u64.ensures)
 
 returns-2 : tie.Need-returns-2
-returns-2 c = ap saturatedU64 (sym c.enum_told.given.1 ∙ c.before.before.cut-to-u64.ensures)
+returns-2 c = ap saturated_u64 (sym c.enum_told.given.1 ∙ c.before.before.cut-to-u64.ensures)
 
 returns-3 : tie.Need-returns-3
-returns-3 c = ap saturatedU64 (sym c.enum-told2.given.1 ∙ c.before.before.cut-to-u64.ensures)
+returns-3 c = ap saturated_u64 (sym c.enum-told2.given.1 ∙ c.before.before.cut-to-u64.ensures)
 
 returns-4 : tie.Need-returns-4
-returns-4 c = ap saturatedU64 (sym c.enum-told3.given.1 ∙ c.before.before.cut-to-u64.ensures)
+returns-4 c = ap saturated_u64 (sym c.enum-told3.given.1 ∙ c.before.before.cut-to-u64.ensures)
 
 pub whole-spec : {M : Type 1} → statement M
 whole-spec =

@@ -4,19 +4,19 @@ use Prim.Native.Nat.{◌-◌, ◌≤◌}
 use native.Mathlib.Omega.{arith}
 use borrow.Author.Rules.{rules}
 use lib.ListN.{length}
-use Rattle.estimate.specs.Estimate.{toU64, width_at, width_by}
-use Rattle.estimate.proofs.Sums.{Summed, summed-none, summed-more, summed-all}
+use Rattle.estimate.specs.Estimate.{to_u64, width_at, width_by}
+use Rattle.estimate.proofs.Sums.{Summed, summed_none, summed_more, summed_all}
 use Rattle.estimate.proofs.width_estimate.Statement.{statement}
 use Rattle.estimate.proofs.width_estimate.Tie as tie
 
 abbrev invariant-loop : tie.invariant-loop
-invariant-loop c quant most log sum₀ i₀ sum i = (128 ≤ length c) × Summed (width_at (λ x. toU64 x) c quant most log) 32 sum i
+invariant-loop c quant most log sum₀ i₀ sum i = (128 ≤ length c) × Summed (width_at (λ x. to_u64 x) c quant most log) 32 sum i
 
 abbrev decreases-loop : tie.decreases-loop
 decreases-loop c quant most log sum₀ i₀ sum i = 32 - i
 
 loop-holds : tie.Need-loop-init invariant-loop decreases-loop
-loop-holds c = (c.requires, summed-none _ 32)
+loop-holds c = (c.requires, summed_none _ 32)
 
 add-weight : tie.Need-overflow-add-weight invariant-loop decreases-loop
 add-weight c = omega arith
@@ -43,11 +43,11 @@ loop-again : tie.Need-loop-preserved invariant-loop decreases-loop
 loop-again c =
     let l = c.before.before.before.before.before.loop in
     let e : c.before.saturating-mul2.result ≡ _ = rw (c.before.before.saturating-mul.ensures, c.before.before.before.weight.ensures) at c.before.saturating-mul2.ensures in
-    (l.invariant.0, summed-more _ l.i l.invariant.1 (omega arith) e c.saturating-add.ensures)
+    (l.invariant.0, summed_more _ l.i l.invariant.1 (omega arith) e c.saturating-add.ensures)
 
 returns : tie.Need-returns invariant-loop decreases-loop
 unfolding width_by
-returns c = let l = c.before.loop in summed-all _ l.i l.invariant.1 c.loop-test.false
+returns c = let l = c.before.loop in summed_all _ l.i l.invariant.1 c.loop-test.false
 
 pub width-estimate-spec : {M : Type 1} → statement M
 width-estimate-spec =

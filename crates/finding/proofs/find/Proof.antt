@@ -2,7 +2,7 @@
 use Prim.Native.Nat.{◌-◌, ◌≤◌}
 use lib.ListN.{length}
 use borrow.Author.Rules.{rules}
-use Rattle.finding.proofs.Passed.{Missing, missing-none, missing-more, found, nowhere}
+use Rattle.finding.proofs.Passed.{Missing, missing_none, missing_more, found, nowhere}
 use Rattle.finding.proofs.find.Statement.{statement}
 use Rattle.finding.proofs.find.Tie as tie
 
@@ -13,7 +13,7 @@ abbrev decreases-loop : tie.decreases-loop
 decreases-loop bytes from word at₀ at = length bytes - at
 
 loop-holds : tie.Need-loop-init invariant-loop decreases-loop
-loop-holds c = (search rules, search rules, missing-none)
+loop-holds c = (search rules, search rules, missing_none)
 
 stands-requires : tie.Need-stands-requires invariant-loop decreases-loop
 stands-requires c κs = search rules
@@ -28,7 +28,7 @@ loop-less : tie.Need-loop-smaller invariant-loop decreases-loop
 loop-less c = search rules
 
 loop-again : tie.Need-loop-preserved invariant-loop decreases-loop
-loop-again c = (search rules, search rules, missing-more c.before.before.before.loop.invariant.2 c.before.stands.ensures c.if1.false)
+loop-again c = (search rules, search rules, missing_more c.before.before.before.loop.invariant.2 c.before.stands.ensures c.if1.false)
 
 returns-2 : tie.Need-returns-2 invariant-loop decreases-loop
 returns-2 c = (search rules, search rules, nowhere c.before.loop.invariant.2 c.loop-test.false)

@@ -1,7 +1,7 @@
 -- `finding::stands` meets its contract.
 use mathlib.Core.Path.{refl}
 use native.Mathlib.Omega.{arith}
-use Rattle.finding.proofs.Passed.{too_short, stands-part}
+use Rattle.finding.proofs.Passed.{too_short, stands_part}
 use borrow.Author.Rules.{rules}
 use Rattle.finding.proofs.stands.Statement.{statement}
 use Rattle.finding.proofs.stands.Tie as tie
@@ -28,7 +28,7 @@ same-requires : tie.Need-same-requires
 same-requires c κs = search rules
 
 returns-2 : tie.Need-returns-2
-returns-2 c = let A = c.before.before.before.before.before.args in stands-part A.bytes.now A.at _ A.word.now refl c.same.ensures
+returns-2 c = let A = c.before.before.before.before.before.args in stands_part A.bytes.now A.at _ A.word.now refl c.same.ensures
 
 pub stands-spec : {M : Type 1} → statement M
 stands-spec =

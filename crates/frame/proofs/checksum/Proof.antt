@@ -4,13 +4,13 @@ use mathlib.Core.Path.{◌≡◌}
 use Prim.Native.Nat.{◌≤◌, ◌<◌, ◌-◌}
 use native.Mathlib.Omega.{arith}
 use lib.ListN.{length, drop}
-use Rattle.frame.specs.Frame.{sumFrom, sum_of}
+use Rattle.frame.specs.Frame.{sum_from, sum_of}
 use Rattle.frame.proofs.Laws.{sum_more, sum_done}
 use Rattle.frame.proofs.checksum.Statement.{statement}
 use Rattle.frame.proofs.checksum.Tie as tie
 
 abbrev invariant-loop : tie.invariant-loop
-invariant-loop words sum₀ i₀ sum i = (i ≤ length words) × (sum < 4294967296) × (sumFrom sum (drop i words) ≡ sum_of words)
+invariant-loop words sum₀ i₀ sum i = (i ≤ length words) × (sum < 4294967296) × (sum_from sum (drop i words) ≡ sum_of words)
 
 abbrev decreases-loop : tie.decreases-loop
 decreases-loop words sum₀ i₀ sum i = length words - i

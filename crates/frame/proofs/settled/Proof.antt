@@ -1,7 +1,7 @@
 -- `frame::settled` meets its contract: each answer is that of the tests that led to it.
 use native.Mathlib.Omega.{arith}
 use lib.ListN.{length-take}
-use Rattle.frame.proofs.Laws.{settled-long, settled-whole, settled-damaged}
+use Rattle.frame.proofs.Laws.{settled_long, settled_whole, settled_damaged}
 use borrow.Author.Rules.{rules}
 use Rattle.frame.proofs.settled.Statement.{statement}
 use Rattle.frame.proofs.settled.Tie as tie
@@ -10,7 +10,7 @@ sub-last : tie.Need-overflow-sub-last
 sub-last c = search rules
 
 returns : tie.Need-returns
-returns c = settled-long _ _ c.if1.true
+returns c = settled_long _ _ c.if1.true
 
 slice-aggregate-checksum : tie.Need-slice-aggregate-checksum
 slice-aggregate-checksum c = simp length-take (omega arith)
@@ -25,10 +25,10 @@ shared-slice-read-if2 : tie.Need-shared-slice-read-if2
 shared-slice-read-if2 c = search rules
 
 returns-2 : tie.Need-returns-2
-returns-2 c = settled-whole _ _ c.before.before.before.before.if1.false c.before.before.checksum.ensures c.if2.true
+returns-2 c = settled_whole _ _ c.before.before.before.before.if1.false c.before.before.checksum.ensures c.if2.true
 
 returns-3 : tie.Need-returns-3
-returns-3 c = settled-damaged _ _ c.before.before.before.before.if1.false c.before.before.checksum.ensures c.if2.false
+returns-3 c = settled_damaged _ _ c.before.before.before.before.if1.false c.before.before.checksum.ensures c.if2.false
 
 pub settled-spec : {M : Type 1} → statement M
 settled-spec =

@@ -4,7 +4,7 @@ use mathlib.Core.Bool.{true, false}
 use native.Mathlib.Omega.{arith}
 use borrow.Author.Rules.{rules}
 use Rattle.desks.specs.Desks.{sight_of}
-use Rattle.hull.proofs.Reaches.{found_hidden, found-shown}
+use Rattle.hull.proofs.Reaches.{found_hidden, found_shown}
 use Rattle.hull.proofs.with_shown.Statement.{statement}
 use Rattle.hull.proofs.with_shown.Tie as tie
 
@@ -27,7 +27,7 @@ returns-2 : tie.Need-returns-2
 returns-2 c =
     let A = c.before.before.before.before.before.before.before.args in
     let t : c.before.before.before.hidden.result ≡ false = c.before.before.if1.false in
-    found-shown (sight_of A.owners.now A.splines A.bits.now A.desk) A.segments.now A.width A.found A.i _ _ (sym c.before.before.before.hidden.ensures ∙ t) c.before.at.ensures c.with-segment.ensures
+    found_shown (sight_of A.owners.now A.splines A.bits.now A.desk) A.segments.now A.width A.found A.i _ _ (sym c.before.before.before.hidden.ensures ∙ t) c.before.at.ensures c.with-segment.ensures
 
 pub with-shown-spec : {M : Type 1} → statement M
 with-shown-spec = tie.close (tie.spec hidden-requires at-requires with-segment-requires returns returns-2)

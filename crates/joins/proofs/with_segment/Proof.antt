@@ -3,7 +3,7 @@ use mathlib.Core.Path.{◌≡◌}
 use Prim.Native.Nat.{◌≤◌, min}
 use native.Mathlib.Omega.{arith}
 use borrow.Author.Rules.{rules}
-use Rattle.joins.proofs.Joins.{skip-segment, join-segment}
+use Rattle.joins.proofs.Joins.{skip_segment, join_segment}
 use Rattle.joins.proofs.with_segment.Statement.{statement}
 use Rattle.joins.proofs.with_segment.Tie as tie
 
@@ -24,7 +24,7 @@ returns c =
     let p = c.before.least.result in
     let q : p ≡ min A.width e = omega arith in
     let h : p ≤ a = omega arith in
-    skip-segment A.found A.segment A.width a e p c.before.before.before.before.column-first.ensures c.before.before.column-past.ensures q h
+    skip_segment A.found A.segment A.width a e p c.before.before.before.before.column-first.ensures c.before.before.column-past.ensures q h
 
 join-requires : tie.Need-join-requires
 join-requires c κs = omega arith
@@ -36,7 +36,7 @@ returns-2 c =
     let e = c.before.before.before.column-past.result in
     let p = c.before.before.least.result in
     let q : p ≡ min A.width e = omega arith in
-    join-segment A.found A.segment A.width a e p c.before.before.before.before.before.column-first.ensures c.before.before.before.column-past.ensures q c.join.ensures
+    join_segment A.found A.segment A.width a e p c.before.before.before.before.before.column-first.ensures c.before.before.before.column-past.ensures q c.join.ensures
 
 pub with-segment-spec : {M : Type 1} → statement M
 with-segment-spec = tie.close (tie.spec column-first-requires column-past-requires least-requires returns join-requires returns-2)

@@ -4,7 +4,7 @@ use lib.Ieee.{binary32, of_bits, neg, fits, to_signed}
 use lib.Ieee.Casts.{to_signed_in}
 use Rattle.kinds.specs.declared.KindI64.TheVariants as I64
 use Rattle.numbers.proofs.Zero.{yes, no}
-use Rattle.kinds.proofs.ByKind.{above-signed, below-signed, none-signed, exact_signed}
+use Rattle.kinds.proofs.ByKind.{above_signed, below_signed, none_signed, exact_signed}
 use Rattle.kinds.proofs.cut_to_i64.Statement.{statement}
 use Rattle.kinds.proofs.cut_to_i64.Tie as tie
 
@@ -24,15 +24,15 @@ returns c =
 
 returns-2 : tie.Need-returns-2
 unfolding of_bits neg
-returns-2 c = above-signed I64.Exact I64.NotNumber I64.Below I64.Above 63 c.before.before.args.x (yes c.before.if1.true) (no c.if2.false)
+returns-2 c = above_signed I64.Exact I64.NotNumber I64.Below I64.Above 63 c.before.before.args.x (yes c.before.if1.true) (no c.if2.false)
 
 returns-3 : tie.Need-returns-3
 unfolding of_bits neg
-returns-3 c = below-signed I64.Exact I64.NotNumber I64.Below I64.Above 63 c.before.before.args.x (omega arith) (held c.before.before) (no c.before.if1.false) (yes c.if3.true)
+returns-3 c = below_signed I64.Exact I64.NotNumber I64.Below I64.Above 63 c.before.before.args.x (omega arith) (held c.before.before) (no c.before.if1.false) (yes c.if3.true)
 
 returns-4 : tie.Need-returns-4
 unfolding of_bits neg
-returns-4 c = none-signed I64.Exact I64.NotNumber I64.Below I64.Above 63 c.before.before.args.x (no c.before.if1.false) (no c.if3.false)
+returns-4 c = none_signed I64.Exact I64.NotNumber I64.Below I64.Above 63 c.before.before.args.x (no c.before.if1.false) (no c.if3.false)
 
 pub cut-to-i64-spec : {M : Type 1} → statement M
 cut-to-i64-spec = tie.close (tie.spec truncating-f32-to-i64-requires returns returns-2 returns-3 returns-4)

@@ -2,8 +2,8 @@
 use Rattle.std.proofs.Common.{◌≡◌, sym, ap, ◌∙◌, to_z-of_z, w64, rules}
 use lib.Ieee.{to_signed}
 use lib.Ieee.Casts.{to_signed_in}
-use Rattle.kinds.specs.Kind.{saturatedI64}
-use Rattle.kinds.proofs.ByKind.{saturated-i64}
+use Rattle.kinds.specs.Kind.{saturated_i64}
+use Rattle.kinds.proofs.ByKind.{saturated_i64_lem}
 use Rattle.kinds.proofs.saturating_f32_to_i64.Statement.{statement}
 use Rattle.kinds.proofs.saturating_f32_to_i64.Tie as tie
 
@@ -25,8 +25,8 @@ enum-told-3 c = search rules
 -- the exact value is Rust's
 value : (c : tie.After-z) → c.z.given.0.0 ≡ to_signed 63 c.before.before.before.args.x
 value c =
-    ap saturatedI64 (sym c.z.given.1 ∙ c.before.before.cut-to-i64.ensures)
-    ∙ saturated-i64 c.before.before.before.args.x
+    ap saturated_i64 (sym c.z.given.1 ∙ c.before.before.cut-to-i64.ensures)
+    ∙ saturated_i64_lem c.before.before.before.args.x
 
 returns : tie.Need-returns
 returns c =
@@ -34,13 +34,13 @@ returns c =
     rw (value c.before) (to_z-of_z {w = w64} {z = to_signed 63 x} (record { sfits = to_signed_in 63 x }))
 
 returns-2 : tie.Need-returns-2
-returns-2 c = ap saturatedI64 (sym c.enum_told.given.1 ∙ c.before.before.cut-to-i64.ensures) ∙ saturated-i64 c.before.before.before.args.x
+returns-2 c = ap saturated_i64 (sym c.enum_told.given.1 ∙ c.before.before.cut-to-i64.ensures) ∙ saturated_i64_lem c.before.before.before.args.x
 
 returns-3 : tie.Need-returns-3
-returns-3 c = ap saturatedI64 (sym c.enum-told2.given.1 ∙ c.before.before.cut-to-i64.ensures) ∙ saturated-i64 c.before.before.before.args.x
+returns-3 c = ap saturated_i64 (sym c.enum-told2.given.1 ∙ c.before.before.cut-to-i64.ensures) ∙ saturated_i64_lem c.before.before.before.args.x
 
 returns-4 : tie.Need-returns-4
-returns-4 c = ap saturatedI64 (sym c.enum-told3.given.1 ∙ c.before.before.cut-to-i64.ensures) ∙ saturated-i64 c.before.before.before.args.x
+returns-4 c = ap saturated_i64 (sym c.enum-told3.given.1 ∙ c.before.before.cut-to-i64.ensures) ∙ saturated_i64_lem c.before.before.before.args.x
 
 pub saturating-f32-to-i64-spec : {M : Type 1} → statement M
 saturating-f32-to-i64-spec =

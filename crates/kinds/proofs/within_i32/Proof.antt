@@ -9,9 +9,9 @@ use Rattle.kinds.proofs.within_i32.Tie as tie
 same : (c : tie.Start) → to_z w64 (of_z w64 c.args.z) ≡ c.args.z
 same c = to_z-of_z {w = w64} {z = c.args.z} c.ranges.z
 
-in-range : (z : ℤ) → T (not (lt_z (pos 2147483647) z)) → T (not (lt_z z (negsuc 2147483647))) → SFits w32 z
-in-range (pos n) h k = let l : n ≤ 2147483647 = nltb→le 2147483647 n h in record { sfits = omega arith }
-in-range (negsuc n) h k = let l : n ≤ 2147483647 = nltb→le 2147483647 n k in record { sfits = omega arith }
+in_range_lem : (z : ℤ) → T (not (lt_z (pos 2147483647) z)) → T (not (lt_z z (negsuc 2147483647))) → SFits w32 z
+in_range_lem (pos n) h k = let l : n ≤ 2147483647 = nltb→le 2147483647 n h in record { sfits = omega arith }
+in_range_lem (negsuc n) h k = let l : n ≤ 2147483647 = nltb→le 2147483647 n k in record { sfits = omega arith }
 
 -- the code's tests on z itself
 over : (c : tie.Start) (b : Bool) → lt_z (pos 2147483647) (to_z w64 (of_z w64 c.args.z)) ≡ b → lt_z (pos 2147483647) c.args.z ≡ b
@@ -23,7 +23,7 @@ under c b e = ap (λ (z : ℤ). lt_z z (negsuc 2147483647)) (sym (same c)) ∙ e
 cast-t6 : tie.Need-overflow-cast-t6
 cast-t6 c =
     let s = c.before.before in
-    subst (SFits w32) (sym (same s)) (in-range s.args.z (no (over s _ c.before.if1.false)) (no (under s _ c.if2.false)))
+    subst (SFits w32) (sym (same s)) (in_range_lem s.args.z (no (over s _ c.before.if1.false)) (no (under s _ c.if2.false)))
 
 returns : tie.Need-returns
 returns c = rw (over c.before _ c.if1.true)

@@ -1,6 +1,6 @@
 -- `curved_from` meets its contract, by what the start gave.
 use mathlib.Core.Path.{sym, ◌∙◌}
-use Rattle.control_points.proofs.Starts.{start-valid}
+use Rattle.control_points.proofs.Starts.{start_valid}
 use borrow.Author.Rules.{rules}
 use Rattle.layers.proofs.curved_from.Statement.{statement}
 use Rattle.layers.proofs.curved_from.Tie as tie
@@ -18,7 +18,7 @@ enum-known-start : tie.Need-enum-known-start
 enum-known-start c = search rules
 
 path-from-requires : tie.Need-path-from-requires
-path-from-requires c κs = start-valid _ _ _ (sym c.before.before.before.before.starting-point.ensures ∙ c.before.before.start.given.1)
+path-from-requires c κs = start_valid _ _ _ (sym c.before.before.before.before.starting-point.ensures ∙ c.before.before.start.given.1)
 
 returns : tie.Need-returns
 returns c = rw (c.refused-with.ensures, sym c.before.before.before.starting-point.ensures ∙ c.before.enum_told.given.1)

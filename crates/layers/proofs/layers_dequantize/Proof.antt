@@ -1,6 +1,6 @@
 -- `layers_dequantize` meets its contract: the fields of what `dequantize` gives.
 use mathlib.Core.Path.{ap}
-use Rattle.layers.specs.Exported.{dequantizedExport}
+use Rattle.layers.specs.Exported.{dequantized_export}
 use mir.Syntax.{w32}
 use mir.Facts.{to_z-of_z}
 use borrow.Author.Rules.{rules}
@@ -18,7 +18,7 @@ returns c =
     let a = c.before.before.before.before.before.before.before in
     let z = to_z-of_z {w = w32} {z = a.args.adjustment} a.ranges.adjustment in
     let e = rw z at c.before.before.before.before.before.dequantize.ensures in
-    rw c.number_of_lem.ensures (ap dequantizedExport e)
+    rw c.number_of_lem.ensures (ap dequantized_export e)
 
 pub layers-dequantize-spec : {M : Type 1} → statement M
 layers-dequantize-spec = tie.close (tie.spec dequantize-requires number-of-requires returns)

@@ -1,7 +1,7 @@
 -- `layers_length_of` meets its contract: each test of the number of points decides one comparison.
 use native.Mathlib.Omega.{arith}
 use borrow.Author.Tests.{le-leb, lt-leb}
-use Rattle.layers.specs.Exported.{lengthFrom}
+use Rattle.layers.specs.Exported.{length_from}
 use borrow.Author.Rules.{rules}
 use Rattle.layers.proofs.layers_length_of.Statement.{statement}
 use Rattle.layers.proofs.layers_length_of.Tie as tie
@@ -10,14 +10,14 @@ number-of-requires : tie.Need-number-of-requires
 number-of-requires c κs = search rules
 
 returns : tie.Need-returns
-unfolding lengthFrom
+unfolding length_from
 returns c = rw (c.number_of_lem.ensures, lt-leb 2 c.before.before.args.n (omega arith))
 
 number-of-requires-2 : tie.Need-number-of-requires-2
 number-of-requires-2 c κs = search rules
 
 returns-2 : tie.Need-returns-2
-unfolding lengthFrom
+unfolding length_from
 returns-2 c =
     let n = c.before.before.before.args.n in
     rw (c.number-of2.ensures, le-leb 2 n (omega arith), lt-leb n 8388608 (omega arith))
@@ -26,7 +26,7 @@ length-of-requires : tie.Need-length-of-requires
 length-of-requires c κs = search rules
 
 returns-3 : tie.Need-returns-3
-unfolding lengthFrom
+unfolding length_from
 returns-3 c =
     let n = c.before.before.before.args.n in
     rw (c.length-of.ensures, le-leb 2 n (omega arith), le-leb n 8388608 (omega arith))

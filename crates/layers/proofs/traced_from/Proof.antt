@@ -1,6 +1,6 @@
 -- `traced_from` meets its contract, by what the start gave.
 use mathlib.Core.Path.{sym, ◌∙◌}
-use Rattle.control_points.proofs.Starts.{start-valid}
+use Rattle.control_points.proofs.Starts.{start_valid}
 use borrow.Author.Rules.{rules}
 use Rattle.layers.proofs.traced_from.Statement.{statement}
 use Rattle.layers.proofs.traced_from.Tie as tie
@@ -15,7 +15,7 @@ enum-known-start : tie.Need-enum-known-start
 enum-known-start c = search rules
 
 trace-requires : tie.Need-trace-requires
-trace-requires c κs = start-valid _ _ _ (sym c.before.before.before.starting-point.ensures ∙ c.before.start.given.1)
+trace-requires c κs = start_valid _ _ _ (sym c.before.before.before.starting-point.ensures ∙ c.before.start.given.1)
 
 returns : tie.Need-returns
 returns c = rw (sym c.before.before.starting-point.ensures ∙ c.enum_told.given.1)

@@ -3,7 +3,7 @@ use mathlib.Core.Path.{refl, ap, ◌∙◌}
 use native.Mathlib.Omega.{arith}
 use borrow.Author.Tests.{le-leb, lt-leb}
 use lib.ListN.{length}
-use Rattle.layers.specs.Exported.{countedWalk}
+use Rattle.layers.specs.Exported.{counted_walk}
 use borrow.Author.Rules.{rules}
 use Rattle.layers.proofs.walked_along.Statement.{statement}
 use Rattle.layers.proofs.walked_along.Tie as tie
@@ -28,7 +28,7 @@ returns-2 : tie.Need-returns-2
 returns-2 c =
     let path = c.before.before.before.before.before.before.before.before.args.path.now in
     let e = c.before.before.before.walk.ensures in
-    rw (le-leb 2 (length path) (omega arith)) (c.counted-walk.ensures ∙ ap countedWalk e.0, e.1)
+    rw (le-leb 2 (length path) (omega arith)) (c.counted-walk.ensures ∙ ap counted_walk e.0, e.1)
 
 pub walked-along-spec : {M : Type 1} → statement M
 walked-along-spec =

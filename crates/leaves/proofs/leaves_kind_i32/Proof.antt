@@ -1,7 +1,7 @@
 -- Each arm is the number of the kind that the cut was found to be.
 use mathlib.Core.Path.{ap, sym, ◌∙◌}
 use borrow.Author.Rules.{rules}
-use Rattle.leaves.specs.Kinds.{numberI32}
+use Rattle.leaves.specs.Kinds.{number_i32}
 use Rattle.leaves.proofs.leaves_kind_i32.Statement.{statement}
 use Rattle.leaves.proofs.leaves_kind_i32.Tie as tie
 
@@ -21,16 +21,16 @@ enum-told-4 : tie.Need-enum-told-4
 enum-told-4 c = search rules
 
 returns : tie.Need-returns
-returns c = ap numberI32 (sym c.enum_told.given.1 ∙ c.before.before.cut-to-i32.ensures)
+returns c = ap number_i32 (sym c.enum_told.given.1 ∙ c.before.before.cut-to-i32.ensures)
 
 returns-2 : tie.Need-returns-2
-returns-2 c = ap numberI32 (sym c.enum-told2.given.1 ∙ c.before.before.cut-to-i32.ensures)
+returns-2 c = ap number_i32 (sym c.enum-told2.given.1 ∙ c.before.before.cut-to-i32.ensures)
 
 returns-3 : tie.Need-returns-3
-returns-3 c = ap numberI32 (sym c.enum-told3.given.1 ∙ c.before.before.cut-to-i32.ensures)
+returns-3 c = ap number_i32 (sym c.enum-told3.given.1 ∙ c.before.before.cut-to-i32.ensures)
 
 returns-4 : tie.Need-returns-4
-returns-4 c = ap numberI32 (sym c.enum-told4.given.1 ∙ c.before.before.cut-to-i32.ensures)
+returns-4 c = ap number_i32 (sym c.enum-told4.given.1 ∙ c.before.before.cut-to-i32.ensures)
 
 pub leaves-kind-i32-spec : {M : Type 1} → statement M
 leaves-kind-i32-spec =

@@ -8,7 +8,7 @@ use lib.IntN.{negsuc, ◌-ℤ◌}
 use mir.Syntax.{w32}
 use mir.Val.{to_z}
 use mir.Facts.{to_z_pos, to_z-of_z}
-use Rattle.list.proofs.Signed.{minus-half}
+use Rattle.list.proofs.Signed.{minus_half}
 use Rattle.list.proofs.unpack_signed.Statement.{statement}
 use Rattle.list.proofs.unpack_signed.Tie as tie
 
@@ -16,7 +16,7 @@ cast-half : tie.Need-overflow-cast-half
 cast-half c = search rules
 
 minus : (u : ℕ) → u < 2 ^ 32 → negsuc 0 -ℤ to_z w32 (u / 2) ≡ negsuc (u / 2)
-minus u h = rw (to_z_pos w32 {n = u / 2} (omega arith)) (minus-half (u / 2))
+minus u h = rw (to_z_pos w32 {n = u / 2} (omega arith)) (minus_half (u / 2))
 
 sub-result : tie.Need-overflow-sub-result
 sub-result c = rw (minus c.before.args.unsigned (omega arith)) (record { sfits = omega arith })

@@ -7,10 +7,10 @@ use Rattle.listing.proofs.say_entries.Statement.{statement}
 use Rattle.listing.proofs.say_entries.Tie as tie
 
 abbrev invariant-loop : tie.invariant-loop
-invariant-loop segments segment-count y row behind₀ j₀ behind j = j ≤ length row
+invariant-loop segments segment_count_lem y row behind₀ j₀ behind j = j ≤ length row
 
 abbrev decreases-loop : tie.decreases-loop
-decreases-loop segments segment-count y row behind₀ j₀ behind j = length row - j
+decreases-loop segments segment_count_lem y row behind₀ j₀ behind j = length row - j
 
 loop-holds : tie.Need-loop-init invariant-loop decreases-loop
 loop-holds c = search rules

@@ -7,7 +7,7 @@ use mir.Syntax.{w32}
 use mir.Val.{to_z}
 use mir.Facts.{to_z_pos, to_z-of_z}
 use borrow.Author.Tests.{le-ltb}
-use Rattle.list.proofs.Signed.{minus-half}
+use Rattle.list.proofs.Signed.{minus_half}
 use borrow.Author.Rules.{rules}
 use Rattle.little.proofs.signed.Statement.{statement}
 use Rattle.little.proofs.signed.Tie as tie
@@ -24,7 +24,7 @@ cast-result-2 c = search rules
 minus : (u : ℕ) → 2 ^ 31 ≤ u → negsuc 0 -ℤ to_z w32 (4294967295 - u) ≡ negsuc (2 ^ 32 - suc u)
 minus u h =
     let e : 4294967295 - u ≡ 2 ^ 32 - suc u = omega arith in
-    rw (to_z_pos w32 {n = 4294967295 - u} (omega arith)) (minus-half (4294967295 - u) ∙ ap negsuc e)
+    rw (to_z_pos w32 {n = 4294967295 - u} (omega arith)) (minus_half (4294967295 - u) ∙ ap negsuc e)
 
 sub-result-2 : tie.Need-overflow-sub-result-2
 sub-result-2 c = rw (minus c.before.args.number (omega arith)) (record { sfits = omega arith })

@@ -8,18 +8,18 @@ use borrow.Author.Rules.{rules}
 use borrow.Author.Tests.{le-leb, lt-leb, lt-ltb, le-ltb, not-true, not-false}
 use Rattle.rows.specs.Rows.{in_row}
 use Rattle.makers.specs.Steps.{rising}
-use Rattle.makers.proofs.Rows.{rising-next, rising-turn, rising_none}
+use Rattle.makers.proofs.Rows.{rising_next, rising_turn, rising_none}
 use Rattle.makers.proofs.entries_rise.Statement.{statement}
 use Rattle.makers.proofs.entries_rise.Tie as tie
 
 abbrev invariant-loop : tie.invariant-loop
-invariant-loop segments segment-count entries b e y least₀ j₀ least j =
+invariant-loop segments segment_count_lem entries b e y least₀ j₀ least j =
     (j ≤ e)
     × (e ≤ length entries)
-    × (rising (λ i. in_row segments i y) segment-count 0 (slice b e entries) ≡ rising (λ i. in_row segments i y) segment-count least (slice j e entries))
+    × (rising (λ i. in_row segments i y) segment_count_lem 0 (slice b e entries) ≡ rising (λ i. in_row segments i y) segment_count_lem least (slice j e entries))
 
 abbrev decreases-loop : tie.decreases-loop
-decreases-loop segments segment-count entries b e y least₀ j₀ least j = e - j
+decreases-loop segments segment_count_lem entries b e y least₀ j₀ least j = e - j
 
 loop-holds : tie.Need-loop-init invariant-loop decreases-loop
 loop-holds c = (omega arith, omega arith, refl)
@@ -34,14 +34,14 @@ returns : tie.Need-returns invariant-loop decreases-loop
 returns c =
     let A = c.before.before.before.before.before.before.args in
     let l = c.before.before.before.loop in
-    sym (l.invariant.2 ∙ rising-next _ _ _ _ _ _ c.before.before.loop-test.true l.invariant.1 ∙ rw (lt-leb l.least (get_or A.entries.now l.j 0) (omega arith)))
+    sym (l.invariant.2 ∙ rising_next _ _ _ _ _ _ c.before.before.loop-test.true l.invariant.1 ∙ rw (lt-leb l.least (get_or A.entries.now l.j 0) (omega arith)))
 
 returns-2 : tie.Need-returns-2 invariant-loop decreases-loop
 returns-2 c =
     let A = c.before.before.before.before.before.before.before.args in
     let l = c.before.before.before.before.loop in
-    sym (l.invariant.2 ∙ rising-next _ _ _ _ _ _ c.before.before.before.loop-test.true l.invariant.1
-    ∙ rw (le-leb l.least (get_or A.entries.now l.j 0) (omega arith), le-ltb (get_or A.entries.now l.j 0) A.segment-count (omega arith)))
+    sym (l.invariant.2 ∙ rising_next _ _ _ _ _ _ c.before.before.before.loop-test.true l.invariant.1
+    ∙ rw (le-leb l.least (get_or A.entries.now l.j 0) (omega arith), le-ltb (get_or A.entries.now l.j 0) A.segment_count_lem (omega arith)))
 
 cast-has-row : tie.Need-overflow-cast-has-row invariant-loop decreases-loop
 cast-has-row c = search rules
@@ -53,8 +53,8 @@ returns-3 : tie.Need-returns-3 invariant-loop decreases-loop
 returns-3 c =
     let A = c.before.before.before.before.before.before.before.before.before.args in
     let l = c.before.before.before.before.before.before.loop in
-    sym (l.invariant.2 ∙ rising-next _ _ _ _ _ _ c.before.before.before.before.before.loop-test.true l.invariant.1
-    ∙ rw (le-leb l.least (get_or A.entries.now l.j 0) (omega arith), lt-ltb (get_or A.entries.now l.j 0) A.segment-count (omega arith), sym c.before.has-row.ensures ∙ not-true _ c.if3.true))
+    sym (l.invariant.2 ∙ rising_next _ _ _ _ _ _ c.before.before.before.before.before.loop-test.true l.invariant.1
+    ∙ rw (le-leb l.least (get_or A.entries.now l.j 0) (omega arith), lt-ltb (get_or A.entries.now l.j 0) A.segment_count_lem (omega arith), sym c.before.has-row.ensures ∙ not-true _ c.if3.true))
 
 add-least : tie.Need-overflow-add-least invariant-loop decreases-loop
 add-least c = search rules
@@ -72,7 +72,7 @@ loop-again c =
       omega arith,
       omega arith,
       l.invariant.2
-          ∙ rising-turn (λ i. in_row A.segments.now i A.y) A.segment-count l.least l.j A.e A.entries.now c.before.before.before.before.before.loop-test.true l.invariant.1 (omega arith) (omega arith)
+          ∙ rising_turn (λ i. in_row A.segments.now i A.y) A.segment_count_lem l.least l.j A.e A.entries.now c.before.before.before.before.before.loop-test.true l.invariant.1 (omega arith) (omega arith)
           (sym c.before.has-row.ensures ∙ not-false _ c.if3.false) (omega arith),
     )
 

@@ -5,8 +5,8 @@ use native.Mathlib.Omega.{arith}
 use native.Mathlib.Numerals.{add-one}
 use borrow.Author.Rules.{rules}
 use Rattle.rows.specs.Steps.{heights, first_of, past_of}
-use Rattle.rows.proofs.Table.{past-in}
-use Rattle.makers_search.proofs.Sums.{due-is}
+use Rattle.rows.proofs.Table.{past_in}
+use Rattle.makers_search.proofs.Sums.{due_is}
 use Rattle.makers_search.proofs.due.Statement.{statement}
 use Rattle.makers_search.proofs.due.Tie as tie
 
@@ -27,7 +27,7 @@ rows-below-requires c κs = search rules
 add-sum : tie.Need-overflow-add-sum invariant-loop decreases-loop
 add-sum c =
     let s = c.before.before.before.before.args in
-    omega (arith, c.rows-below.ensures, past-in s.segments.now s.n c.before.before.loop.i)
+    omega (arith, c.rows-below.ensures, past_in s.segments.now s.n c.before.before.loop.i)
 
 add-i : tie.Need-overflow-add-i invariant-loop decreases-loop
 add-i c = search rules
@@ -39,7 +39,7 @@ loop-again : tie.Need-loop-preserved invariant-loop decreases-loop
 unfolding heights
 loop-again c =
     let s = c.before.before.before.before.args in
-    rw add-one (omega (arith, c.rows-below.ensures, past-in s.segments.now s.n c.before.before.loop.i))
+    rw add-one (omega (arith, c.rows-below.ensures, past_in s.segments.now s.n c.before.before.loop.i))
 
 returns : tie.Need-returns invariant-loop decreases-loop
 returns c =
@@ -47,7 +47,7 @@ returns c =
     let e : c.before.loop.i ≡ s.count = omega arith in
     c.before.loop.invariant.1
     ∙ ap (heights (first_of s.segments.now) (past_of s.segments.now s.n)) e
-    ∙ due-is s.segments.now s.count s.n c.before.before.before.requires.1.1
+    ∙ due_is s.segments.now s.count s.n c.before.before.before.requires.1.1
 
 pub due-spec : {M : Type 1} → statement M
 due-spec =

@@ -6,36 +6,36 @@ use lib.ListN.{get_or}
 use borrow.Author.Rules.{rules}
 use borrow.Author.Tests.{ltb-true, ltb-false, not-true, not-false}
 use Rattle.rows.specs.Rows.{start_of, in_row}
-use Rattle.makers.proofs.Short.{none-short, first_short}
-use Rattle.makers_search.proofs.Sums.{begin-full, some-rows}
+use Rattle.makers.proofs.Short.{none_short, first_short}
+use Rattle.makers_search.proofs.Sums.{begin_full, some_rows}
 use Rattle.makers_search.proofs.first_short.Statement.{statement}
 use Rattle.makers_search.proofs.first_short.Tie as tie
 
 abbrev invariant-loop : tie.invariant-loop
-invariant-loop segments segment-count row-starts entries entry-count bad count low₀ high₀ low high =
+invariant-loop segments segment_count_lem row-starts entries entry_count_lem bad count low₀ high₀ low high =
     (low < high)
     × (high ≤ bad)
-    × (start_of (in_row segments) segment-count low ≤ get_or row-starts low 0)
-    × (get_or row-starts high 0 < start_of (in_row segments) segment-count high)
+    × (start_of (in_row segments) segment_count_lem low ≤ get_or row-starts low 0)
+    × (get_or row-starts high 0 < start_of (in_row segments) segment_count_lem high)
 
 abbrev decreases-loop : tie.decreases-loop
-decreases-loop segments segment-count row-starts entries entry-count bad count low₀ high₀ low high = high - low
+decreases-loop segments segment_count_lem row-starts entries entry_count_lem bad count low₀ high₀ low high = high - low
 
 short-before-requires : tie.Need-short-before-requires invariant-loop decreases-loop
 short-before-requires c κs = search rules
 
 returns : tie.Need-returns invariant-loop decreases-loop
-returns c = none-short _ _ _ _ _ _ c.before.before.before.before.before.requires.1.1 (ltb-false _ _ (sym c.before.short-before.ensures ∙ not-true _ c.if1.true))
+returns c = none_short _ _ _ _ _ _ c.before.before.before.before.before.requires.1.1 (ltb-false _ _ (sym c.before.short-before.ensures ∙ not-true _ c.if1.true))
 
 loop-holds : tie.Need-loop-init invariant-loop decreases-loop
 loop-holds c =
     let A = c.before.before.before.before.before.args in
     let f = c.before.before.before.before.before.requires.1.1 in
-    let s : get_or A.row-starts.now A.bad 0 < start_of (in_row A.segments.now) A.segment-count A.bad =
+    let s : get_or A.row-starts.now A.bad 0 < start_of (in_row A.segments.now) A.segment_count_lem A.bad =
     ltb-true _ _ (sym c.before.short-before.ensures ∙ not-false _ c.if1.false) in (
-      some-rows (in_row A.segments.now) A.segment-count A.row-starts.now f.begins A.bad s,
+      some_rows (in_row A.segments.now) A.segment_count_lem A.row-starts.now f.begins A.bad s,
       omega arith,
-      begin-full (in_row A.segments.now) A.segment-count A.row-starts.now f.begins,
+      begin_full (in_row A.segments.now) A.segment_count_lem A.row-starts.now f.begins,
       s,
     )
 

@@ -3,8 +3,8 @@ use mathlib.Core.Path.{◌≡◌, sym, ap, ◌∙◌, subst}
 use Prim.Native.Nat.{ℕ}
 use native.Mathlib.Omega.{arith}
 use Rattle.rows.specs.Rows.{in_row}
-use Rattle.makers.specs.Steps.{rowFits, Fitting}
-use Rattle.makers.proofs.Rows.{first-is}
+use Rattle.makers.specs.Steps.{row_fits, Fitting}
+use Rattle.makers.proofs.Rows.{first_is}
 use Rattle.makers.proofs.Short.{fitting, through}
 use borrow.Author.Rules.{rules}
 use Rattle.makers_search.proofs.first_wrong.Statement.{statement}
@@ -18,12 +18,12 @@ first-short-requires c κs =
     let A = c.before.before.before.before.args in
     let P = c.before.before.before.before.requires in
     let e = c.first-unfit.ensures in
-    let w = (first-is (rowFits (in_row A.segments.now) A.segment-count A.row-starts.now A.entries.now A.entry-count) 0 A.height).within in (
+    let w = (first_is (row_fits (in_row A.segments.now) A.segment_count_lem A.row-starts.now A.entries.now A.entry_count_lem) 0 A.height).within in (
       P.0,
       (
         omega (arith, e, w, P.1.0),
-        subst (λ (bad : ℕ). Fitting (in_row A.segments.now) A.segment-count A.row-starts.now A.entries.now A.entry-count bad) (sym e)
-            (fitting (in_row A.segments.now) A.segment-count A.row-starts.now A.entries.now A.entry-count A.height P.1.1 P.1.0.0),
+        subst (λ (bad : ℕ). Fitting (in_row A.segments.now) A.segment_count_lem A.row-starts.now A.entries.now A.entry_count_lem bad) (sym e)
+            (fitting (in_row A.segments.now) A.segment_count_lem A.row-starts.now A.entries.now A.entry_count_lem A.height P.1.1 P.1.0.0),
       ),
     )
 

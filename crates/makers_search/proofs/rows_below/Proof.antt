@@ -2,9 +2,9 @@
 use mathlib.Core.Path.{◌≡◌, ap, ◌∙◌}
 use mathlib.Core.Logic.{⊎_elim}
 use native.Mathlib.Omega.{arith}
-use Rattle.segments.specs.Segment.{segmentAt}
+use Rattle.segments.specs.Segment.{segment_at}
 use Rattle.segments.specs.Ranges.{rows_of}
-use Rattle.makers_search.proofs.Sums.{first-of, past-of}
+use Rattle.makers_search.proofs.Sums.{first_of_lem, past_of_lem}
 use borrow.Author.Rules.{rules}
 use Rattle.makers_search.proofs.rows_below.Statement.{statement}
 use Rattle.makers_search.proofs.rows_below.Tie as tie
@@ -27,17 +27,17 @@ sub-result c = search rules
 returns : tie.Need-returns
 returns c =
     let A = c.before.before.before.before.before.before.before.before.args in
-    let e : c.before.before.before.before.before.rows.result ≡ rows_of (segmentAt A.segments.now A.i) = c.before.before.before.before.before.rows.ensures ∙ ap rows_of c.before.before.before.before.before.before.at.ensures in
-    let a = first-of A.segments.now A.i e in
-    let b = past-of A.segments.now A.n A.i e in
+    let e : c.before.before.before.before.before.rows.result ≡ rows_of (segment_at A.segments.now A.i) = c.before.before.before.before.before.rows.ensures ∙ ap rows_of c.before.before.before.before.before.before.at.ensures in
+    let a = first_of_lem A.segments.now A.i e in
+    let b = past_of_lem A.segments.now A.n A.i e in
     ⊎_elim (λ w. omega (arith, a, b)) (λ w. omega (arith, a, b)) c.before.before.if1.branch
 
 returns-2 : tie.Need-returns-2
 returns-2 c =
     let A = c.before.before.before.before.before.before.before.args in
-    let e : c.before.before.before.before.rows.result ≡ rows_of (segmentAt A.segments.now A.i) = c.before.before.before.before.rows.ensures ∙ ap rows_of c.before.before.before.before.before.at.ensures in
-    let a = first-of A.segments.now A.i e in
-    let b = past-of A.segments.now A.n A.i e in
+    let e : c.before.before.before.before.rows.result ≡ rows_of (segment_at A.segments.now A.i) = c.before.before.before.before.rows.ensures ∙ ap rows_of c.before.before.before.before.before.at.ensures in
+    let a = first_of_lem A.segments.now A.i e in
+    let b = past_of_lem A.segments.now A.n A.i e in
     ⊎_elim (λ w. omega (arith, a, b)) (λ w. omega (arith, a, b)) c.before.if1.branch
 
 pub rows-below-spec : {M : Type 1} → statement M

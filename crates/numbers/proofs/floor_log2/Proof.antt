@@ -1,7 +1,7 @@
 -- The body is the definition; a number above 0 has fewer than 64 leading zeros.
 use mathlib.Core.Path.{refl}
 use native.Mathlib.Omega.{arith}
-use Rattle.numbers.specs.Saturating.{floorLog2}
+use Rattle.numbers.specs.Saturating.{floor_log2}
 use lib.Count.{leading_le, leading_top}
 use borrow.Author.Rules.{rules}
 use Rattle.numbers.proofs.floor_log2.Statement.{statement}
@@ -17,7 +17,7 @@ cast-result : tie.Need-overflow-cast-result
 cast-result c = search rules
 
 returns : tie.Need-returns
-unfolding floorLog2
+unfolding floor_log2
 returns c = refl
 
 pub floor-log2-spec : {M : Type 1} → statement M

@@ -3,12 +3,12 @@ use mathlib.Core.Path.{◌≡◌, refl}
 use mathlib.Core.Bool.{false}
 use borrow.Author.Rules.{rules}
 use lib.Ieee.{Float, nan, inf, fin, of_bits, div, eq}
-use Rattle.numbers.specs.Magnitude.{absOf, isInfinite}
+use Rattle.numbers.specs.Magnitude.{abs_of, is_infinite}
 use Rattle.numbers.proofs.is_infinite.Statement.{statement}
 use Rattle.numbers.proofs.is_infinite.Tie as tie
 
-same : (x : Float) → eq (absOf x) (inf false) ≡ isInfinite x
-unfolding eq absOf isInfinite
+same : (x : Float) → eq (abs_of x) (inf false) ≡ is_infinite x
+unfolding eq abs_of is_infinite
 same nan = refl
 same (inf s) = refl
 same (fin s m e) = refl

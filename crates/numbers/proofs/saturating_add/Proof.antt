@@ -2,7 +2,7 @@
 use Prim.Native.Nat.{◌+◌, ◌<◌, ◌≤◌}
 use native.Mathlib.Omega.{arith}
 use borrow.Author.Tests.{le-leb, lt-leb}
-use Rattle.numbers.specs.Saturating.{satAdd}
+use Rattle.numbers.specs.Saturating.{sat_add}
 use borrow.Author.Rules.{rules}
 use Rattle.numbers.proofs.saturating_add.Statement.{statement}
 use Rattle.numbers.proofs.saturating_add.Tie as tie
@@ -14,11 +14,11 @@ add-result : tie.Need-overflow-add-result
 add-result c = search rules
 
 returns : tie.Need-returns
-unfolding satAdd
+unfolding sat_add
 returns c = let h : c.before.args.a + c.before.args.b ≤ 18446744073709551615 = omega arith in rw (le-leb _ _ h)
 
 returns-2 : tie.Need-returns-2
-unfolding satAdd
+unfolding sat_add
 returns-2 c = let h : 18446744073709551615 < c.before.args.a + c.before.args.b = omega arith in rw (lt-leb _ _ h)
 
 pub saturating-add-spec : {M : Type 1} → statement M

@@ -5,16 +5,16 @@ use native.Mathlib.Omega.{arith}
 use borrow.Author.Rules.{rules}
 use lib.ListN.{length, replicate}
 use lib.Seq.{sets}
-use Rattle.dequantize.specs.Judge.{Description, descriptionOf, Shaped, startX, startY, coefficientsOf, splineOf}
-use Rattle.dequantize.proofs.Judging.{deltas-fit}
-use Rattle.dequantize.proofs.Judgement.{fine-accepted}
-use Rattle.curve.specs.Curve.{pathRoom}
-use Rattle.walk.specs.Walk.{walkRoom}
-use Rattle.points.specs.Points.{segmentRoom, FilledOn}
-use Rattle.strand.specs.Strand.{strandFilled, segmentsOf}
+use Rattle.dequantize.specs.Judge.{Description, description_of, Shaped, start_x, start_y, coefficients_of, spline_of}
+use Rattle.dequantize.proofs.Judging.{deltas_fit}
+use Rattle.dequantize.proofs.Judgement.{fine_accepted}
+use Rattle.curve.specs.Curve.{path_room}
+use Rattle.walk.specs.Walk.{walk_room}
+use Rattle.points.specs.Points.{segment_room, FilledOn}
+use Rattle.strand.specs.Strand.{strand_filled, segments_of}
 use Rattle.painting.specs.declared.Segmented.TheVariants as Segmented
-use Rattle.painting.specs.Painting.{Passed, strandOfSpline}
-use Rattle.painting.proofs.Painting.{Painting, painting-none, painting-all, painting-room, painting-fits, painting-more, part-is}
+use Rattle.painting.specs.Painting.{Passed, strand_of_spline}
+use Rattle.painting.proofs.Painting.{Painting, painting_none, painting_all, painting_room, painting_fits, painting_more, part_is}
 use Rattle.painting.proofs.draw_each.Statement.{statement}
 use Rattle.painting.proofs.draw_each.Tie as tie
 
@@ -30,37 +30,37 @@ invariant-loop counts starts deltas coefficients given high-precision path₀ wa
     × (length walk ≡ length walk₀)
     × (length out ≡ length out₀)
     × (length owners ≡ length owners₀)
-    × (segmentRoom (length out₀) ≤ length owners₀)
-    × Shaped (descriptionOf counts starts deltas coefficients)
-    × Passed (descriptionOf counts starts deltas coefficients) given
-    × Painting (descriptionOf counts starts deltas coefficients) given high-precision (pathRoom (length path₀)) (walkRoom (length walk₀)) (segmentRoom (length out₀)) out₀ owners₀ out owners k at count
+    × (segment_room (length out₀) ≤ length owners₀)
+    × Shaped (description_of counts starts deltas coefficients)
+    × Passed (description_of counts starts deltas coefficients) given
+    × Painting (description_of counts starts deltas coefficients) given high-precision (path_room (length path₀)) (walk_room (length walk₀)) (segment_room (length out₀)) out₀ owners₀ out owners k at count
 
 abbrev decreases-loop : tie.decreases-loop
 decreases-loop counts starts deltas coefficients given high-precision path₀ walk₀ out₀ owners₀ k₀ at₀ count₀ path walk out owners k at count = length counts - k
 
 -- the description that is drawn
 abbrev described : tie.Start invariant-loop decreases-loop → Description
-described z = (descriptionOf z.args.counts.now z.args.starts.now z.args.deltas.now z.args.coefficients.now)
+described z = (description_of z.args.counts.now z.args.starts.now z.args.deltas.now z.args.coefficients.now)
 
 -- the double deltas of the spline are all there
 fits : (c : tie.After-wide invariant-loop decreases-loop) → c.before.before.before.loop.at + 2 * c.wide.result ≤ length c.before.before.before.before.before.before.before.before.before.before.args.deltas.now
 fits c =
     let l = c.before.before.before.loop in
-    omega (arith, deltas-fit (described c.before.before.before.before.before.before.before.before.before.before) l.k (omega arith) l.invariant.11, l.invariant.13.used, c.wide.ensures)
+    omega (arith, deltas_fit (described c.before.before.before.before.before.before.before.before.before.before) l.k (omega arith) l.invariant.11, l.invariant.13.used, c.wide.ensures)
 
 -- what the spline answered, in terms of the description
 answer : (e : tie.After-draw-one invariant-loop decreases-loop)
-    → (e.draw-one.result ≡ strandFilled (segmentRoom (length e.before.before.before.before.before.before.before.before.before.before.before.before.before.before.before.args.out.now)) e.before.before.before.before.before.before.before.before.loop.count (strandOfSpline (described e.before.before.before.before.before.before.before.before.before.before.before.before.before.before.before) e.before.before.before.before.before.before.before.before.before.before.before.before.before.before.before.args.given e.before.before.before.before.before.before.before.before.before.before.before.before.before.before.before.args.high-precision (pathRoom (length e.before.before.before.before.before.before.before.before.before.before.before.before.before.before.before.args.path.now)) (walkRoom (length e.before.before.before.before.before.before.before.before.before.before.before.before.before.before.before.args.walk.now)) e.before.before.before.before.before.before.before.before.loop.k))
-    × FilledOn e.draw-one.result e.before.before.before.before.before.before.before.before.loop.count (segmentsOf (strandOfSpline (described e.before.before.before.before.before.before.before.before.before.before.before.before.before.before.before) e.before.before.before.before.before.before.before.before.before.before.before.before.before.before.before.args.given e.before.before.before.before.before.before.before.before.before.before.before.before.before.before.before.args.high-precision (pathRoom (length e.before.before.before.before.before.before.before.before.before.before.before.before.before.before.before.args.path.now)) (walkRoom (length e.before.before.before.before.before.before.before.before.before.before.before.before.before.before.before.args.walk.now)) e.before.before.before.before.before.before.before.before.loop.k)) e.before.before.before.before.before.before.before.before.loop.out e.draw-one.new.1.1.1.1.1.1.1.1.0
-unfolding strandOfSpline startX startY splineOf coefficientsOf
+    → (e.draw-one.result ≡ strand_filled (segment_room (length e.before.before.before.before.before.before.before.before.before.before.before.before.before.before.before.args.out.now)) e.before.before.before.before.before.before.before.before.loop.count (strand_of_spline (described e.before.before.before.before.before.before.before.before.before.before.before.before.before.before.before) e.before.before.before.before.before.before.before.before.before.before.before.before.before.before.before.args.given e.before.before.before.before.before.before.before.before.before.before.before.before.before.before.before.args.high-precision (path_room (length e.before.before.before.before.before.before.before.before.before.before.before.before.before.before.before.args.path.now)) (walk_room (length e.before.before.before.before.before.before.before.before.before.before.before.before.before.before.before.args.walk.now)) e.before.before.before.before.before.before.before.before.loop.k))
+    × FilledOn e.draw-one.result e.before.before.before.before.before.before.before.before.loop.count (segments_of (strand_of_spline (described e.before.before.before.before.before.before.before.before.before.before.before.before.before.before.before) e.before.before.before.before.before.before.before.before.before.before.before.before.before.before.before.args.given e.before.before.before.before.before.before.before.before.before.before.before.before.before.before.before.args.high-precision (path_room (length e.before.before.before.before.before.before.before.before.before.before.before.before.before.before.before.args.path.now)) (walk_room (length e.before.before.before.before.before.before.before.before.before.before.before.before.before.before.before.args.walk.now)) e.before.before.before.before.before.before.before.before.loop.k)) e.before.before.before.before.before.before.before.before.loop.out e.draw-one.new.1.1.1.1.1.1.1.1.0
+unfolding strand_of_spline start_x start_y spline_of coefficients_of
 answer e =
     let l = e.before.before.before.before.before.before.before.before.loop in
-    rw (part-is (described e.before.before.before.before.before.before.before.before.before.before.before.before.before.before.before) l.k l.at e.before.before.before.before.before.wide.result e.before.before.before.before.before.wide.ensures l.invariant.13.used, l.invariant.6, l.invariant.7, l.invariant.8) at e.draw-one.ensures
+    rw (part_is (described e.before.before.before.before.before.before.before.before.before.before.before.before.before.before.before) l.k l.at e.before.before.before.before.before.wide.result e.before.before.before.before.before.wide.ensures l.invariant.13.used, l.invariant.6, l.invariant.7, l.invariant.8) at e.draw-one.ensures
 
 loop-holds : tie.Need-loop-init invariant-loop decreases-loop
 loop-holds c =
     let s = c.before.before.before.before.before.before.requires in
-    (omega arith, omega arith, omega arith, omega arith, omega (arith, s.0.starts), omega (arith, s.0.coefficients), refl, refl, refl, refl, s.2, s.0, s.1, painting-none _ _ _ _ _ _ _ _)
+    (omega arith, omega arith, omega arith, omega arith, omega (arith, s.0.starts), omega (arith, s.0.coefficients), refl, refl, refl, refl, s.2, s.0, s.1, painting_none _ _ _ _ _ _ _ _)
 
 mul_wide : tie.Need-overflow-mul-wide invariant-loop decreases-loop
 mul_wide c = omega arith
@@ -93,7 +93,7 @@ part-draw-one-end : tie.Need-slice-bounds-draw-one-end invariant-loop decreases-
 part-draw-one-end c = omega (arith, fits c)
 
 draw-one-requires : tie.Need-draw-one-requires invariant-loop decreases-loop
-unfolding startX startY coefficientsOf
+unfolding start_x start_y coefficients_of
 draw-one-requires c κs =
     let l = c.before.before.before.before.before.before.before.loop in
     let z = c.before.before.before.before.before.before.before.before.before.before.before.before.before.before in
@@ -101,7 +101,7 @@ draw-one-requires c κs =
       omega arith,
       omega arith,
       omega (arith, l.invariant.13.fits, l.invariant.8),
-      rw (part-is (described z) l.k l.at c.before.before.before.before.wide.result c.before.before.before.before.wide.ensures l.invariant.13.used) (fine-accepted (described z) z.args.given p.total p.fine l.k (omega arith)),
+      rw (part_is (described z) l.k l.at c.before.before.before.before.wide.result c.before.before.before.before.wide.ensures l.invariant.13.used) (fine_accepted (described z) z.args.given p.total p.fine l.k (omega arith)),
     )
 
 enum-known-more : tie.Need-enum-known-more invariant-loop decreases-loop
@@ -126,13 +126,13 @@ returns : tie.Need-returns invariant-loop decreases-loop
 returns c =
     let e = c.before.before.before.before.before.before.before.before in
     let l = e.before.before.before.before.before.before.before.before.loop in
-    rw (painting-room _ _ _ _ _ _ _ _ l.out l.owners l.k l.at l.count l.invariant.13 (omega arith) (answer e).0 c.enum_told.given.1) (refl, tt)
+    rw (painting_room _ _ _ _ _ _ _ _ l.out l.owners l.k l.at l.count l.invariant.13 (omega arith) (answer e).0 c.enum_told.given.1) (refl, tt)
 
 fill-requires : tie.Need-fill-requires invariant-loop decreases-loop
 fill-requires c κs =
     let e = c.before.before.before.before.before.before.before.before.before.before in
     let l = e.before.before.before.before.before.before.before.before.loop in
-    let f = painting-fits _ _ _ _ _ _ _ _ l.out l.owners l.k l.at l.count l.invariant.13 (omega arith) (answer e).0 c.before.before.more.given.0.0 c.before.before.more.given.1 in
+    let f = painting_fits _ _ _ _ _ _ _ _ l.out l.owners l.k l.at l.count l.invariant.13 (omega arith) (answer e).0 c.before.before.more.given.0.0 c.before.before.more.given.1 in
     (omega (arith, f.0), omega (arith, f.1, l.invariant.9, l.invariant.10))
 
 loop-less : tie.Need-loop-smaller invariant-loop decreases-loop
@@ -144,7 +144,7 @@ loop-again c =
     let l = e.before.before.before.before.before.before.before.before.loop in
     let n = c.before.before.before.before.before.more.given.0.0 in
     let own : c.before.before.fill.new.0 ≡ sets l.owners l.count (replicate (n - l.count) l.k) = c.before.before.fill.ensures in
-    let a = painting-more _ _ _ _ _ _ _ _ l.out l.owners l.k l.at l.count l.invariant.13 (omega arith) (answer e).0 n (answer e).1 own c.before.before.before.before.before.more.given.1 in (
+    let a = painting_more _ _ _ _ _ _ _ _ l.out l.owners l.k l.at l.count l.invariant.13 (omega arith) (answer e).0 n (answer e).1 own c.before.before.before.before.before.more.given.1 in (
       omega arith,
       fits e.before.before.before.before.before,
       l.invariant.2,
@@ -177,7 +177,7 @@ returns-2 : tie.Need-returns-2 invariant-loop decreases-loop
 returns-2 c =
     let l = c.before.loop in
     let a = l.invariant.13 in
-    rw (painting-all _ _ _ _ _ _ _ _ l.out l.owners l.k l.at l.count a (omega arith)) (ap Segmented.Count (sym a.size), (a.buffer, a.numbers, omega (arith, a.size, a.fits), a.owned ∙ sym a.size))
+    rw (painting_all _ _ _ _ _ _ _ _ l.out l.owners l.k l.at l.count a (omega arith)) (ap Segmented.Count (sym a.size), (a.buffer, a.numbers, omega (arith, a.size, a.fits), a.owned ∙ sym a.size))
 
 pub draw-each-spec : {M : Type 1} → statement M
 draw-each-spec =

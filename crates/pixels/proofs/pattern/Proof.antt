@@ -3,13 +3,13 @@ use mathlib.Core.Path.{sym, ap}
 use lib.Ieee.{binary32, to_bits}
 use lib.Ieee.Compare.{differs_from_itself}
 use Rattle.numbers.proofs.Zero.{yes}
-use Rattle.numbers.proofs.Signs.{nan-no}
+use Rattle.numbers.proofs.Signs.{nan_no}
 use borrow.Author.Rules.{rules}
 use Rattle.pixels.proofs.pattern.Statement.{statement}
 use Rattle.pixels.proofs.pattern.Tie as tie
 
 float-to-bits-result : tie.Need-float-to-bits-result
-float-to-bits-result c = rw (nan-no c.before.args.v c.if1.false) tt
+float-to-bits-result c = rw (nan_no c.before.args.v c.if1.false) tt
 
 returns : tie.Need-returns
 unfolding to_bits

@@ -1,5 +1,5 @@
 -- `pixels::put_tones`: each byte is its tone.
-use Rattle.pixels.specs.Pixels.{tonesOf}
+use Rattle.pixels.specs.Pixels.{tones_of}
 use borrow.Author.Rules.{rules}
 use Rattle.pixels.proofs.put_tones.Statement.{statement}
 use Rattle.pixels.proofs.put_tones.Tie as tie
@@ -20,7 +20,7 @@ same_length : tie.Need-same-length
 same_length c = search rules
 
 returns : tie.Need-returns
-unfolding tonesOf
+unfolding tones_of
 returns c = rw (c.before.before.before.before.before.before.tone.ensures, c.before.before.before.before.before.tone2.ensures, c.before.before.before.before.tone3.ensures) at c.before.before.put3.ensures
 
 pub put-tones-spec : {M : Type 1} → statement M

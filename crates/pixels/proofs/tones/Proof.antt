@@ -3,21 +3,21 @@ use mathlib.Core.Path.{◌≡◌, ◌∙◌, ap}
 use Prim.Native.Nat.{◌-◌, ◌*◌, ◌≤◌}
 use native.Mathlib.Omega.{arith}
 use lib.ListN.{length}
-use Rattle.buffers.proofs.Filling.{Filled, filled-length}
-use Rattle.pixels.specs.Pixels.{at, each, pixelsOf, tonesOf}
-use Rattle.pixels.proofs.Strips.{strip-begin, strip-more, strip-end, three}
+use Rattle.buffers.proofs.Filling.{Filled, filled_length}
+use Rattle.pixels.specs.Pixels.{at, each, pixels_of, tones_of}
+use Rattle.pixels.proofs.Strips.{strip_begin, strip_more, strip_end, three}
 use borrow.Author.Rules.{rules}
 use Rattle.pixels.proofs.tones.Statement.{statement}
 use Rattle.pixels.proofs.tones.Tie as tie
 
 abbrev invariant-loop : tie.invariant-loop
-invariant-loop n x y b out₀ i₀ out i = (i ≤ n) × (n ≤ length x) × (n ≤ length y) × (n ≤ length b) × (3 * n ≤ length out₀) × (length out ≡ length out₀) × Filled (pixelsOf tonesOf x y b n) out₀ out (each (at tonesOf x y b) (n - i) i) (3 * i)
+invariant-loop n x y b out₀ i₀ out i = (i ≤ n) × (n ≤ length x) × (n ≤ length y) × (n ≤ length b) × (3 * n ≤ length out₀) × (length out ≡ length out₀) × Filled (pixels_of tones_of x y b n) out₀ out (each (at tones_of x y b) (n - i) i) (3 * i)
 
 abbrev decreases-loop : tie.decreases-loop
 decreases-loop n x y b out₀ i₀ out i = n - i
 
 loop-holds : tie.Need-loop-init invariant-loop decreases-loop
-loop-holds c = (search rules, search rules, search rules, search rules, search rules, search rules, strip-begin (at tonesOf c.before.before.before.before.args.x.now c.before.before.before.before.args.y.now c.before.before.before.before.args.b.now) c.before.before.before.before.args.n c.before.before.before.before.args.out.now)
+loop-holds c = (search rules, search rules, search rules, search rules, search rules, search rules, strip_begin (at tones_of c.before.before.before.before.args.x.now c.before.before.before.before.args.y.now c.before.before.before.before.args.b.now) c.before.before.before.before.args.n c.before.before.before.before.args.out.now)
 
 mul-put-tones : tie.Need-overflow-mul-put-tones invariant-loop decreases-loop
 mul-put-tones c = search rules
@@ -50,13 +50,13 @@ loop-less : tie.Need-loop-smaller invariant-loop decreases-loop
 loop-less c = search rules
 
 loop-again : tie.Need-loop-preserved invariant-loop decreases-loop
-loop-again c = (search rules, search rules, search rules, search rules, search rules, search rules, strip-more (at tonesOf c.before.before.before.before.before.before.before.before.before.before.before.before.before.args.x.now c.before.before.before.before.before.before.before.before.before.before.before.before.before.args.y.now c.before.before.before.before.before.before.before.before.before.before.before.before.before.args.b.now) c.before.before.before.before.before.before.before.before.loop.invariant.6 c.before.before.put-tones.ensures c.before.before.before.before.before.before.before.loop-test.true 3 _ (three _ _ _) (omega arith) (omega arith))
+loop-again c = (search rules, search rules, search rules, search rules, search rules, search rules, strip_more (at tones_of c.before.before.before.before.before.before.before.before.before.before.before.before.before.args.x.now c.before.before.before.before.before.before.before.before.before.before.before.before.before.args.y.now c.before.before.before.before.before.before.before.before.before.before.before.before.before.args.b.now) c.before.before.before.before.before.before.before.before.loop.invariant.6 c.before.before.put-tones.ensures c.before.before.before.before.before.before.before.loop-test.true 3 _ (three _ _ _) (omega arith) (omega arith))
 
 same_length : tie.Need-same-length invariant-loop decreases-loop
 same_length c = search rules
 
 returns : tie.Need-returns invariant-loop decreases-loop
-returns c = strip-end (at tonesOf c.before.before.before.before.before.before.args.x.now c.before.before.before.before.before.before.args.y.now c.before.before.before.before.before.before.args.b.now) c.before.loop.invariant.6 c.loop-test.false
+returns c = strip_end (at tones_of c.before.before.before.before.before.before.args.x.now c.before.before.before.before.before.before.args.y.now c.before.before.before.before.before.before.args.b.now) c.before.loop.invariant.6 c.loop-test.false
 
 pub tones-spec : {M : Type 1} → statement M
 tones-spec =

@@ -3,7 +3,7 @@ use native.Mathlib.Omega.{arith}
 use borrow.Author.Rules.{rules}
 use lib.Dec.{le→leb}
 use lib.Ieee.{in_float}
-use Rattle.points.specs.Points.{curveTime}
+use Rattle.points.specs.Points.{curve_time}
 use Rattle.points.proofs.place_of.Statement.{statement}
 use Rattle.points.proofs.place_of.Tie as tie
 
@@ -15,7 +15,7 @@ min-requires : tie.Need-min-requires
 min-requires c κs = search rules
 
 returns : tie.Need-returns
-unfolding curveTime
+unfolding curve_time
 returns c = rw c.min.ensures
 
 pub place-of-spec : {M : Type 1} → statement M

@@ -1,6 +1,6 @@
 -- `point_segment`: three reads, then the calls in turn.
 use borrow.Author.Rules.{rules}
-use Rattle.points.specs.Points.{pointSegment}
+use Rattle.points.specs.Points.{point_segment}
 use Rattle.points.proofs.point_segment.Statement.{statement}
 use Rattle.points.proofs.point_segment.Tie as tie
 
@@ -41,7 +41,7 @@ add-segment-requires : tie.Need-add-segment-requires
 add-segment-requires c κs = search rules
 
 returns : tie.Need-returns
-unfolding pointSegment
+unfolding point_segment
 returns c = rw (c.add-segment.ensures, c.before.sums_at.ensures, c.before.before.place_of.ensures)
 
 pub point-segment-spec : {M : Type 1} → statement M

@@ -1,7 +1,7 @@
 -- `put_made`: by cases of what the point makes and of the room.
 use native.Mathlib.Omega.{arith}
 use borrow.Author.Rules.{rules}
-use Rattle.points.proofs.Adding.{made_none, made_one, made-room}
+use Rattle.points.proofs.Adding.{made_none, made_one, made_room}
 use Rattle.points.proofs.put_made.Statement.{statement}
 use Rattle.points.proofs.put_made.Tie as tie
 
@@ -15,7 +15,7 @@ segment-room-requires : tie.Need-segment-room-requires
 segment-room-requires c κs = search rules
 
 returns : tie.Need-returns
-returns c = rw c.before.before.before.made.given.1 (made-room _ _ _ (omega (arith, c.before.segment-room.ensures, c.if1.true)), tt)
+returns c = rw c.before.before.before.made.given.1 (made_room _ _ _ (omega (arith, c.before.segment-room.ensures, c.if1.true)), tt)
 
 mul-put : tie.Need-overflow-mul-put
 mul-put c = omega (arith, c.before.before.segment-room.ensures, c.before.if1.false)

@@ -3,14 +3,14 @@ use mathlib.Core.Path.{◌≡◌, refl, sym, ◌∙◌}
 use Prim.Native.Nat.{◌-◌, ◌≤◌}
 use native.Mathlib.Omega.{arith}
 use lib.ListN.{length, drop}
-use Rattle.polyline.specs.Stages.{textFrom, text_of}
-use Rattle.polyline_form.proofs.Bytes.{turn-stray, turn_on, turn-fine, turn-early}
+use Rattle.polyline.specs.Stages.{text_from, text_of}
+use Rattle.polyline_form.proofs.Bytes.{turn_stray, turn_on, turn_fine, turn_early}
 use borrow.Author.Rules.{rules}
 use Rattle.polyline_form.proofs.judge_form.Statement.{statement}
 use Rattle.polyline_form.proofs.judge_form.Tie as tie
 
 abbrev invariant-loop : tie.invariant-loop
-invariant-loop text stage₀ i₀ stage i = (i ≤ length text) × (textFrom stage i (drop i text) ≡ text_of text)
+invariant-loop text stage₀ i₀ stage i = (i ≤ length text) × (text_from stage i (drop i text) ≡ text_of text)
 
 abbrev decreases-loop : tie.decreases-loop
 decreases-loop text stage₀ i₀ stage i = length text - i
@@ -31,7 +31,7 @@ enum_told c = search rules
 returns : tie.Need-returns invariant-loop decreases-loop
 returns c =
     let v = c.before.before.before.before.before.loop in
-    sym (turn-stray c.before.before.before.before.before.before.before.args.text.now v.stage v.i _ (omega arith) c.before.before.next-stage.ensures c.enum_told.given.1) ∙ v.invariant.1
+    sym (turn_stray c.before.before.before.before.before.before.before.args.text.now v.stage v.i _ (omega arith) c.before.before.next-stage.ensures c.enum_told.given.1) ∙ v.invariant.1
 
 enum-known-s : tie.Need-enum-known-s invariant-loop decreases-loop
 enum-known-s c = search rules
@@ -53,12 +53,12 @@ may-end-requires c κs = search rules
 returns-2 : tie.Need-returns-2 invariant-loop decreases-loop
 returns-2 c =
     let v = c.before.before.before.loop in
-    sym (turn-fine c.before.before.before.before.before.args.text.now v.stage v.i _ (omega arith) c.before.may-end.ensures c.if1.true) ∙ v.invariant.1
+    sym (turn_fine c.before.before.before.before.before.args.text.now v.stage v.i _ (omega arith) c.before.may-end.ensures c.if1.true) ∙ v.invariant.1
 
 returns-3 : tie.Need-returns-3 invariant-loop decreases-loop
 returns-3 c =
     let v = c.before.before.before.loop in
-    sym (turn-early c.before.before.before.before.before.args.text.now v.stage v.i _ (omega arith) (omega arith) c.before.may-end.ensures c.if1.false) ∙ v.invariant.1
+    sym (turn_early c.before.before.before.before.before.args.text.now v.stage v.i _ (omega arith) (omega arith) c.before.may-end.ensures c.if1.false) ∙ v.invariant.1
 
 pub judge-form-spec : {M : Type 1} → statement M
 judge-form-spec =

@@ -1,5 +1,5 @@
 -- `polyline_form::may_end` meets its contract: in each arm the stage is known.
-use Rattle.polyline.specs.Stages.{mayEnd}
+use Rattle.polyline.specs.Stages.{may_end}
 use borrow.Author.Rules.{rules}
 use Rattle.polyline_form.proofs.may_end.Statement.{statement}
 use Rattle.polyline_form.proofs.may_end.Tie as tie
@@ -17,19 +17,19 @@ enum-known-stage-2 : tie.Need-enum-known-stage-2
 enum-known-stage-2 c = search rules
 
 returns : tie.Need-returns
-unfolding mayEnd
+unfolding may_end
 returns c = rw c.enum_told.given.1
 
 returns-2 : tie.Need-returns-2
-unfolding mayEnd
+unfolding may_end
 returns-2 c = rw c.enum-told2.given.1
 
 returns-3 : tie.Need-returns-3
-unfolding mayEnd
+unfolding may_end
 returns-3 c = rw c.before.stage.given.1
 
 returns-4 : tie.Need-returns-4
-unfolding mayEnd
+unfolding may_end
 returns-4 c = rw c.before.stage2.given.1
 
 pub may-end-spec : {M : Type 1} → statement M

@@ -2,7 +2,7 @@
 use mathlib.Core.Path.{sym, ◌∙◌}
 use native.Mathlib.Omega.{arith}
 use lib.ListN.{length}
-use Rattle.list.proofs.Buffers.{zeros-f32}
+use Rattle.list.proofs.Buffers.{zeros_f32}
 use Rattle.polyline_read.proofs.Answers.{call-done, call-refused}
 use borrow.Author.Rules.{rules}
 use Rattle.polyline_read.proofs.points_read.Statement.{statement}
@@ -36,7 +36,7 @@ returns : tie.Need-returns
 returns c =
     let s = c.before.before.before.before.before.before.before.before.before.before.before.before.before.before.before.before.before.before in
     let t = c.before.before.before.before.before.before.read-text in
-    call-done s.args.text.now (length s.args.start.now) (length s.args.deltas.now) _ _ _ _ (zeros-f32 (length s.args.start.now) c.before.before.before.before.before.before.before.before.before.before.before.before.before.before.clear-f32.ensures) c.before.before.before.before.before.before.before.before.before.before.clear-i32.ensures _ t.ensures _ c.before.n.given.1
+    call-done s.args.text.now (length s.args.start.now) (length s.args.deltas.now) _ _ _ _ (zeros_f32 (length s.args.start.now) c.before.before.before.before.before.before.before.before.before.before.before.before.before.before.clear-f32.ensures) c.before.before.before.before.before.before.before.before.before.before.clear-i32.ensures _ t.ensures _ c.before.n.given.1
 
 same-length-3 : tie.Need-same-length-3
 same-length-3 c = search rules
@@ -48,7 +48,7 @@ returns-2 : tie.Need-returns-2
 returns-2 c =
     let s = c.before.before.before.before.before.before.before.before.before.before.before.before.before.before.before.before.before.before.before.before.before in
     let t = c.before.before.before.before.before.before.before.before.before.read-text in
-    call-refused s.args.text.now (length s.args.start.now) (length s.args.deltas.now) _ _ _ _ (zeros-f32 (length s.args.start.now) c.before.before.before.before.before.before.before.before.before.before.before.before.before.before.before.before.before.clear-f32.ensures) c.before.before.before.before.before.before.before.before.before.before.before.before.before.clear-i32.ensures _ t.ensures _ _ _ c.before.clear-i322.ensures t.auto.1.1.0 c.before.before.before.before.code.given.1
+    call-refused s.args.text.now (length s.args.start.now) (length s.args.deltas.now) _ _ _ _ (zeros_f32 (length s.args.start.now) c.before.before.before.before.before.before.before.before.before.before.before.before.before.before.before.before.before.clear-f32.ensures) c.before.before.before.before.before.before.before.before.before.before.before.before.before.clear-i32.ensures _ t.ensures _ _ _ c.before.clear-i322.ensures t.auto.1.1.0 c.before.before.before.before.code.given.1
 
 pub points-read-spec : {M : Type 1} → statement M
 points-read-spec =

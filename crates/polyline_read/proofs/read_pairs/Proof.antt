@@ -2,7 +2,7 @@
 use mathlib.Core.Path.{refl, ap, ◌∙◌}
 use native.Mathlib.Omega.{arith}
 use lib.ListN.{length}
-use Rattle.polyline_read.proofs.Answers.{scanned, halted, never-empty, first-is, first-valid, start-lacks, deltas-lack, all-fits, text-refused, text-done}
+use Rattle.polyline_read.proofs.Answers.{scanned, halted, never-empty, first_is, first-valid, start-lacks, deltas-lack, all-fits, text-refused, text-done}
 use borrow.Author.Rules.{rules}
 use Rattle.polyline_read.proofs.read_pairs.Statement.{statement}
 use Rattle.polyline_read.proofs.read_pairs.Tie as tie
@@ -73,7 +73,7 @@ returns-5 : tie.Need-returns-5
 returns-5 c =
     let s = c.before.before.before.before.before.before.before.before.before.before.before.before.before.before.before.before.before in
     let g = scanned s.args.text.now _ _ _ (rw c.before.before.before.before.before.before.before.before.before.before.run.given.1 at c.before.before.before.before.before.before.before.before.before.before.before.before.before.scan.ensures) in
-    text-done _ _ _ _ _ _ _ (all-fits (length s.args.start.now) (length s.args.deltas.now) s.args.text.now _ g.walk c.before.before.before.before.before.before.before.before.if1.false _ g.held (omega (arith, c.before.before.before.before.before.before.before.if2.false, c.before.before.before.before.before.before.before.before.before.before.before.before.before.scan.auto.1.0))) (omega (arith, g.held)) (rw (first-is _ _ _ _ g _ _ c.before.before.before.before.before.track.given.1) at c.before.before.put-start.ensures) g.stored
+    text-done _ _ _ _ _ _ _ (all-fits (length s.args.start.now) (length s.args.deltas.now) s.args.text.now _ g.walk c.before.before.before.before.before.before.before.before.if1.false _ g.held (omega (arith, c.before.before.before.before.before.before.before.if2.false, c.before.before.before.before.before.before.before.before.before.before.before.before.before.scan.auto.1.0))) (omega (arith, g.held)) (rw (first_is _ _ _ _ g _ _ c.before.before.before.before.before.track.given.1) at c.before.before.put-start.ensures) g.stored
 
 pub read-pairs-spec : {M : Type 1} → statement M
 read-pairs-spec =

@@ -1,6 +1,6 @@
 -- `polyline_read::read_text` meets its contract: TEXT, and where it passes the rest.
 use mathlib.Core.Path.{refl, sym, ◌∙◌}
-use Rattle.polyline.specs.Read.{and_then, pointsVerdict}
+use Rattle.polyline.specs.Read.{and_then, points_verdict}
 use Rattle.polyline_read.proofs.Answers.{text-refused, text-fine}
 use borrow.Author.Rules.{rules}
 use Rattle.polyline_read.proofs.read_text.Statement.{statement}
@@ -19,7 +19,7 @@ read-pairs-requires : tie.Need-read-pairs-requires
 read-pairs-requires c κs = search rules
 
 returns : tie.Need-returns
-unfolding pointsVerdict
+unfolding points_verdict
 returns c = text-refused _ _ _ _ _ _ _ _ (rw (sym c.before.before.before.judge-form.ensures ∙ c.before.code.given.1)) refl
 
 same_length : tie.Need-same-length
@@ -29,7 +29,7 @@ same-length-2 : tie.Need-same-length-2
 same-length-2 c = search rules
 
 returns-2 : tie.Need-returns-2
-unfolding pointsVerdict
+unfolding points_verdict
 returns-2 c = text-fine _ _ _ _ _ _ _ _ (sym c.before.before.before.before.before.before.before.before.judge-form.ensures ∙ c.before.before.before.before.before.before.enum_told.given.1) c.before.before.before.read_pairs.ensures
 
 pub read-text-spec : {M : Type 1} → statement M

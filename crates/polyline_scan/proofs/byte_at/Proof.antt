@@ -1,6 +1,6 @@
 -- `polyline_scan::byte_at` meets its contract: before the end it is the text's byte, and at the end a space.
 use native.Mathlib.Omega.{arith}
-use Rattle.polyline_scan.proofs.Turns.{byte_inside, byte-end}
+use Rattle.polyline_scan.proofs.Turns.{byte_inside, byte_end}
 use borrow.Author.Rules.{rules}
 use Rattle.polyline_scan.proofs.byte_at.Statement.{statement}
 use Rattle.polyline_scan.proofs.byte_at.Tie as tie
@@ -15,7 +15,7 @@ returns : tie.Need-returns
 returns c = (byte_inside c.before.before.before.before.args.text.now c.before.before.before.before.args.i c.before.before.if1.true c.wide.ensures.0, c.wide.ensures.1)
 
 returns-2 : tie.Need-returns-2
-returns-2 c = (byte-end c.before.before.args.text.now c.before.before.args.i c.if1.false (search rules), omega arith)
+returns-2 c = (byte_end c.before.before.args.text.now c.before.before.args.i c.if1.false (search rules), omega arith)
 
 pub byte-at-spec : {M : Type 1} → statement M
 byte-at-spec = tie.close (tie.spec shared-slice-read-wide wide-requires returns returns-2)

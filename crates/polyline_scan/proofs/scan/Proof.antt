@@ -3,7 +3,7 @@ use mathlib.Core.Path.{refl}
 use Prim.Native.Nat.{◌+◌, ◌-◌}
 use native.Mathlib.Omega.{arith}
 use lib.ListN.{length}
-use Rattle.polyline_scan.proofs.Turns.{Going, spare, going-begin, going_on, going-stops, going_done}
+use Rattle.polyline_scan.proofs.Turns.{Going, spare, going_begin, going_on, going_stops, going_done}
 use borrow.Author.Rules.{rules}
 use Rattle.polyline_scan.proofs.scan.Statement.{statement}
 use Rattle.polyline_scan.proofs.scan.Tie as tie
@@ -18,7 +18,7 @@ figure-at-requires : tie.Need-figure-at-requires invariant-loop decreases-loop
 figure-at-requires c κs = search rules
 
 loop-holds : tie.Need-loop-init invariant-loop decreases-loop
-loop-holds c = going-begin _ _ _ c.figure-at.ensures
+loop-holds c = going_begin _ _ _ c.figure-at.ensures
 
 byte-at-requires : tie.Need-byte-at-requires invariant-loop decreases-loop
 byte-at-requires c κs = search rules
@@ -36,7 +36,7 @@ same_length : tie.Need-same-length invariant-loop decreases-loop
 same_length c = omega (arith, c.before.before.before.before.before.before.before.before.loop.invariant.kept, c.before.before.before.before.turn.auto.1.1.1.0)
 
 returns : tie.Need-returns invariant-loop decreases-loop
-returns c = record { leaves = going-stops _ _ _ _ _ _ c.before.before.before.before.before.before.before.before.loop.invariant (omega (arith, c.before.before.before.before.before.before.before.loop-test.true)) _ c.before.before.before.before.before.before.byte_at.ensures.0 _ c.before.before.before.before.turn.ensures _ _ c.before.code.given.1 }
+returns c = record { leaves = going_stops _ _ _ _ _ _ c.before.before.before.before.before.before.before.before.loop.invariant (omega (arith, c.before.before.before.before.before.before.before.loop-test.true)) _ c.before.before.before.before.before.before.byte_at.ensures.0 _ c.before.before.before.before.turn.ensures _ _ c.before.code.given.1 }
 
 enum-known-next : tie.Need-enum-known-next invariant-loop decreases-loop
 enum-known-next c = search rules

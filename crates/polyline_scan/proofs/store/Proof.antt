@@ -3,8 +3,8 @@ use mathlib.Core.Path.{◌∙◌}
 use native.Mathlib.Omega.{arith}
 use mir.Syntax.{w32}
 use mir.Facts.{to_z-of_z}
-use Rattle.polyline_pairs.proofs.Numbers.{small-near, valid-small, valid-near, minus-near}
-use Rattle.polyline_scan.proofs.Turns.{store-none, store_two}
+use Rattle.polyline_pairs.proofs.Numbers.{small_near, valid_small, valid_near, minus_near}
+use Rattle.polyline_scan.proofs.Turns.{store_none, store_two}
 use borrow.Author.Rules.{rules}
 use Rattle.polyline_scan.proofs.store.Statement.{statement}
 use Rattle.polyline_scan.proofs.store.Tie as tie
@@ -16,7 +16,7 @@ enum-known-track : tie.Need-enum-known-track
 enum-known-track c = search rules
 
 double-delta-requires : tie.Need-double-delta-requires
-double-delta-requires c κs = let t = rw c.before.track.given.1 at c.before.before.before.requires.0 in let q = c.before.before.before.requires.1 in (small-near _ q, valid-near _ t.held.1, minus-near _ _ q (valid-small _ t.held.1), valid-near _ t.held.0)
+double-delta-requires c κs = let t = rw c.before.track.given.1 at c.before.before.before.requires.0 in let q = c.before.before.before.requires.1 in (small_near _ q, valid_near _ t.held.1, minus_near _ _ q (valid_small _ t.held.1), valid_near _ t.held.0)
 
 put-requires : tie.Need-put-requires
 put-requires c κs = search rules
@@ -31,7 +31,7 @@ add-result : tie.Need-overflow-add-result
 add-result c = let h = rw c.before.before.before.before.before.before.before.before.before.before.track.given.1 at c.before.before.before.before.before.before.before.before.before.before.before.before.requires.2 in omega (arith, h.cells)
 
 returns : tie.Need-returns
-returns c = let s = c.before.before in store-none s.args.track s.args.q s.args.deltas.now s.args.held c.enum_told.given.1
+returns c = let s = c.before.before in store_none s.args.track s.args.q s.args.deltas.now s.args.held c.enum_told.given.1
 
 same_length : tie.Need-same-length
 same_length c = search rules

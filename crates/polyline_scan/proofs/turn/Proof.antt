@@ -1,5 +1,5 @@
 -- `polyline_scan::turn` meets its contract: a space ends the pair, another byte stands inside it.
-use Rattle.polyline_scan.proofs.Turns.{turn-space, turn_inside}
+use Rattle.polyline_scan.proofs.Turns.{turn_space, turn_inside}
 use borrow.Author.Rules.{rules}
 use Rattle.polyline_scan.proofs.turn.Statement.{statement}
 use Rattle.polyline_scan.proofs.turn.Tie as tie
@@ -11,7 +11,7 @@ same_length : tie.Need-same-length
 same_length c = search rules
 
 returns : tie.Need-returns
-returns c = let s = c.before.before.before.before in turn-space s.args.run s.args.b s.args.after _ s.args.deltas.now _ c.before.before.before.if1.true c.before.end-pair.ensures
+returns c = let s = c.before.before.before.before in turn_space s.args.run s.args.b s.args.after _ s.args.deltas.now _ c.before.before.before.if1.true c.before.end-pair.ensures
 
 grown-requires : tie.Need-grown-requires
 grown-requires c κs = search rules

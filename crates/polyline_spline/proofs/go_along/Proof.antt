@@ -3,7 +3,7 @@ use mathlib.Core.Path.{◌≡◌, ◌∙◌}
 use Prim.Native.Nat.{◌-◌, ◌/◌}
 use native.Mathlib.Omega.{arith}
 use lib.ListN.{length}
-use Rattle.polyline_spline.proofs.Goes.{Along, along-begin, from_first, along-more, along-stop, along-end}
+use Rattle.polyline_spline.proofs.Goes.{Along, along_begin, from_first, along_more, along_stop, along_end}
 use borrow.Author.Rules.{rules}
 use Rattle.polyline_spline.proofs.go_along.Statement.{statement}
 use Rattle.polyline_spline.proofs.go_along.Tie as tie
@@ -18,7 +18,7 @@ at-requires : tie.Need-at-requires invariant-loop decreases-loop
 at-requires c κs = search rules
 
 loop-holds : tie.Need-loop-init invariant-loop decreases-loop
-loop-holds c = along-begin _ _ _ c.at.ensures c.before.requires
+loop-holds c = along_begin _ _ _ c.at.ensures c.before.requires
 
 of-requires : tie.Need-of-requires invariant-loop decreases-loop
 of-requires c κs = omega (arith, c.loop-test.true)
@@ -30,7 +30,7 @@ enum-known-code : tie.Need-enum-known-code invariant-loop decreases-loop
 enum-known-code c = search rules
 
 returns : tie.Need-returns invariant-loop decreases-loop
-returns c = along-stop _ _ _ _ _ c.before.before.before.before.before.before.loop.invariant c.before.before.before.before.before.loop-test.true _ c.before.before.before.before.of.ensures _ c.before.before.before.go_on.ensures _ c.before.code.given.1 ∙ from_first _ _ _ c.before.before.before.before.before.before.before.at.ensures
+returns c = along_stop _ _ _ _ _ c.before.before.before.before.before.before.loop.invariant c.before.before.before.before.before.loop-test.true _ c.before.before.before.before.of.ensures _ c.before.before.before.go_on.ensures _ c.before.code.given.1 ∙ from_first _ _ _ c.before.before.before.before.before.before.before.at.ensures
 
 enum-known-q : tie.Need-enum-known-q invariant-loop decreases-loop
 enum-known-q c = search rules
@@ -42,10 +42,10 @@ loop-less : tie.Need-loop-smaller invariant-loop decreases-loop
 loop-less c = omega (arith, c.before.before.before.before.before.loop-test.true)
 
 loop-again : tie.Need-loop-preserved invariant-loop decreases-loop
-loop-again c = along-more _ _ _ _ _ c.before.before.before.before.before.before.loop.invariant c.before.before.before.before.before.loop-test.true _ c.before.before.before.before.of.ensures _ c.before.before.before.go_on.ensures _ _ c.before.q.given.1
+loop-again c = along_more _ _ _ _ _ c.before.before.before.before.before.before.loop.invariant c.before.before.before.before.before.loop-test.true _ c.before.before.before.before.of.ensures _ c.before.before.before.go_on.ensures _ _ c.before.q.given.1
 
 returns-2 : tie.Need-returns-2 invariant-loop decreases-loop
-returns-2 c = along-end _ _ _ _ _ c.before.loop.invariant c.loop-test.false ∙ from_first _ _ _ c.before.before.at.ensures
+returns-2 c = along_end _ _ _ _ _ c.before.loop.invariant c.loop-test.false ∙ from_first _ _ _ c.before.before.at.ensures
 
 pub go-along-spec : {M : Type 1} → statement M
 go-along-spec =

@@ -1,7 +1,7 @@
 -- `polyline_spline::put_later` meets its contract: a space and the pair.
 use mathlib.Core.Path.{◌≡◌}
 use native.Mathlib.Omega.{arith}
-use Rattle.polyline_spline.proofs.Puts.{later-put}
+use Rattle.polyline_spline.proofs.Puts.{later_put}
 use borrow.Author.Rules.{rules}
 use Rattle.polyline_spline.proofs.put_later.Statement.{statement}
 use Rattle.polyline_spline.proofs.put_later.Tie as tie
@@ -19,7 +19,7 @@ same_length : tie.Need-same-length
 same_length c = search rules
 
 returns : tie.Need-returns
-returns c = let s = c.before.before.before.before.before.before.before.before.before in later-put s.args.p s.args.text.now _ _ s.args.at _ c.before.before.before.before.before.before.put_byte.ensures c.before.before.put-pair.ensures
+returns c = let s = c.before.before.before.before.before.before.before.before.before in later_put s.args.p s.args.text.now _ _ s.args.at _ c.before.before.before.before.before.before.put_byte.ensures c.before.before.put-pair.ensures
 
 pub put-later-spec : {M : Type 1} → statement M
 put-later-spec =

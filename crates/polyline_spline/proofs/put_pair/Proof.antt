@@ -3,14 +3,14 @@ use mathlib.Core.Path.{◌≡◌}
 use native.Mathlib.Omega.{arith}
 use mir.Syntax.{w32}
 use mir.Facts.{to_z-of_z}
-use Rattle.control_points.proofs.Pairs.{point-range}
+use Rattle.control_points.proofs.Pairs.{point_range}
 use Rattle.polyline_spline.proofs.Puts.{pair_put}
 use borrow.Author.Rules.{rules}
 use Rattle.polyline_spline.proofs.put_pair.Statement.{statement}
 use Rattle.polyline_spline.proofs.put_pair.Tie as tie
 
 put-number-requires : tie.Need-put-number-requires
-put-number-requires c κs = let s = c.before.before.before in (omega arith, rw (to_z-of_z {w = w32} {z = s.args.p.x} (record { sfits = omega arith })) (point-range s.args.p s.requires.1).0)
+put-number-requires c κs = let s = c.before.before.before in (omega arith, rw (to_z-of_z {w = w32} {z = s.args.p.x} (record { sfits = omega arith })) (point_range s.args.p s.requires.1).0)
 
 put-byte-requires : tie.Need-put-byte-requires
 put-byte-requires c κs = search rules
@@ -19,7 +19,7 @@ add-put-number : tie.Need-overflow-add-put-number
 add-put-number c = omega (arith, c.before.before.before.before.before.before.before.put-number.ensures.2)
 
 put-number-requires-2 : tie.Need-put-number-requires-2
-put-number-requires-2 c κs = let s = c.before.before.before.before.before.before.before.before.before.before.before.before in (omega (arith, c.before.before.before.before.before.before.before.before.put-number.ensures.2), rw (to_z-of_z {w = w32} {z = s.args.p.y} (record { sfits = omega arith })) (point-range s.args.p s.requires.1).1)
+put-number-requires-2 c κs = let s = c.before.before.before.before.before.before.before.before.before.before.before.before in (omega (arith, c.before.before.before.before.before.before.before.before.put-number.ensures.2), rw (to_z-of_z {w = w32} {z = s.args.p.y} (record { sfits = omega arith })) (point_range s.args.p s.requires.1).1)
 
 same_length : tie.Need-same-length
 same_length c = search rules

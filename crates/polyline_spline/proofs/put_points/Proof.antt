@@ -1,14 +1,14 @@
 -- `polyline_spline::put_points` meets its contract: the start, then the rest.
 use mathlib.Core.Path.{◌≡◌}
 use native.Mathlib.Omega.{arith}
-use Rattle.control_points.specs.ControlPoints.{standAt}
-use Rattle.polyline_spline.proofs.Puts.{points-put}
+use Rattle.control_points.specs.ControlPoints.{stand_at}
+use Rattle.polyline_spline.proofs.Puts.{points_put}
 use borrow.Author.Rules.{rules}
 use Rattle.polyline_spline.proofs.put_points.Statement.{statement}
 use Rattle.polyline_spline.proofs.put_points.Tie as tie
 
 put-pair-requires : tie.Need-put-pair-requires
-unfolding standAt
+unfolding stand_at
 put-pair-requires c κs = (omega arith, c.before.before.requires.point)
 
 at-requires : tie.Need-at-requires
@@ -21,7 +21,7 @@ same_length : tie.Need-same-length
 same_length c = search rules
 
 returns : tie.Need-returns
-returns c = points-put _ _ _ _ _ _ c.before.before.before.before.before.before.before.put-pair.ensures _ c.before.before.before.before.at.ensures _ c.before.before.put_rest.ensures
+returns c = points_put _ _ _ _ _ _ c.before.before.before.before.before.before.before.put-pair.ensures _ c.before.before.before.before.at.ensures _ c.before.before.put_rest.ensures
 
 pub put-points-spec : {M : Type 1} → statement M
 put-points-spec =

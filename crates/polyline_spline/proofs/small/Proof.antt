@@ -4,7 +4,7 @@ use mathlib.Core.Bool.{true, false}
 use native.Mathlib.Omega.{arith}
 use mir.Syntax.{w32}
 use mir.Facts.{to_z-of_z}
-use Rattle.control_points.specs.ControlPoints.{belowDeltaLimit, validDoubleDelta}
+use Rattle.control_points.specs.ControlPoints.{below_delta_limit, valid_double_delta}
 use borrow.Author.Rules.{rules}
 use Rattle.polyline_spline.proofs.small.Statement.{statement}
 use Rattle.polyline_spline.proofs.small.Tie as tie
@@ -16,20 +16,20 @@ below-delta-limit-requires-2 : tie.Need-below-delta-limit-requires-2
 below-delta-limit-requires-2 c κs = search rules
 
 returns : tie.Need-returns
-unfolding validDoubleDelta
+unfolding valid_double_delta
 returns c =
     let s = c.before.before.before.before.before in
     let p = to_z-of_z {w = w32} {z = s.args.dd.x} (record { sfits = omega arith }) in
     let q = to_z-of_z {w = w32} {z = s.args.dd.y} (record { sfits = omega arith }) in
-    let e : belowDeltaLimit s.args.dd.x ≡ true = rw p at (sym c.before.before.before.below-delta-limit.ensures ∙ c.before.before.if1.true) in
+    let e : below_delta_limit s.args.dd.x ≡ true = rw p at (sym c.before.before.before.below-delta-limit.ensures ∙ c.before.before.if1.true) in
     rw e (rw q at c.below-delta-limit2.ensures)
 
 returns-2 : tie.Need-returns-2
-unfolding validDoubleDelta
+unfolding valid_double_delta
 returns-2 c =
     let s = c.before.before.before in
     let p = to_z-of_z {w = w32} {z = s.args.dd.x} (record { sfits = omega arith }) in
-    let e : belowDeltaLimit s.args.dd.x ≡ false = rw p at (sym c.before.below-delta-limit.ensures ∙ c.if1.false) in
+    let e : below_delta_limit s.args.dd.x ≡ false = rw p at (sym c.before.below-delta-limit.ensures ∙ c.if1.false) in
     rw e
 
 pub small_spec : {M : Type 1} → statement M

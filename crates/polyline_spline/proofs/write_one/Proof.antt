@@ -1,7 +1,7 @@
 -- `polyline_spline::write_one` meets its contract: the spline is judged, and put where it passes.
 use mathlib.Core.Path.{refl, sym, ◌∙◌}
 use native.Mathlib.Omega.{arith}
-use Rattle.polyline_spline.proofs.One.{one-refused, one_passes, one-full, one-ends}
+use Rattle.polyline_spline.proofs.One.{one_refused, one_passes, one_full, one_ends}
 use borrow.Author.Rules.{rules}
 use Rattle.polyline_spline.proofs.write_one.Statement.{statement}
 use Rattle.polyline_spline.proofs.write_one.Tie as tie
@@ -25,19 +25,19 @@ enum-known-n : tie.Need-enum-known-n
 enum-known-n c = search rules
 
 returns : tie.Need-returns
-returns c = let s = c.before.before.before.before.before in one-refused s.args.k s.args.deltas.now s.args.x s.args.y _ _ _ (sym c.before.code.given.1 ∙ c.before.before.before.begin-at.ensures)
+returns c = let s = c.before.before.before.before.before in one_refused s.args.k s.args.deltas.now s.args.x s.args.y _ _ _ (sym c.before.code.given.1 ∙ c.before.before.before.begin-at.ensures)
 
 same_length : tie.Need-same-length
 same_length c = search rules
 
 returns-2 : tie.Need-returns-2
-returns-2 c = let s = c.before.before.before.before.before.before.before.before.before.before.before in one-full s.args.k s.args.deltas.now s.args.x s.args.y _ _ _ (sym c.before.before.before.before.before.before.before.start.given.1 ∙ c.before.before.before.before.before.before.before.before.before.begin-at.ensures) (rw c.enum_told.given.1 at c.before.before.before.before.put-points.ensures) _ (omega arith)
+returns-2 c = let s = c.before.before.before.before.before.before.before.before.before.before.before in one_full s.args.k s.args.deltas.now s.args.x s.args.y _ _ _ (sym c.before.before.before.before.before.before.before.start.given.1 ∙ c.before.before.before.before.before.before.before.before.before.begin-at.ensures) (rw c.enum_told.given.1 at c.before.before.before.before.put-points.ensures) _ (omega arith)
 
 same-length-2 : tie.Need-same-length-2
 same-length-2 c = search rules
 
 returns-3 : tie.Need-returns-3
-returns-3 c = let s = c.before.before.before.before.before.before.before.before.before.before.before.before in one-ends s.args.k s.args.deltas.now s.args.x s.args.y _ _ _ (sym c.before.before.before.before.before.before.before.before.start.given.1 ∙ c.before.before.before.before.before.before.before.before.before.before.begin-at.ensures) _ (rw c.before.n.given.1 at c.before.before.before.before.before.put-points.ensures)
+returns-3 c = let s = c.before.before.before.before.before.before.before.before.before.before.before.before in one_ends s.args.k s.args.deltas.now s.args.x s.args.y _ _ _ (sym c.before.before.before.before.before.before.before.before.start.given.1 ∙ c.before.before.before.before.before.before.before.before.before.before.begin-at.ensures) _ (rw c.before.n.given.1 at c.before.before.before.before.before.put-points.ensures)
 
 pub write-one-spec : {M : Type 1} → statement M
 write-one-spec =

@@ -4,7 +4,7 @@ use native.Mathlib.Omega.{arith}
 use lib.ListN.{length, take}
 use Prim.Native.Nat.{◌*◌}
 use Rattle.shape.specs.Shape.{points_of}
-use Rattle.polyline_write.proofs.Answers.{at-fits, part-is}
+use Rattle.polyline_write.proofs.Answers.{at-fits, part_is}
 use borrow.Author.Rules.{rules}
 use Rattle.polyline_write.proofs.write_spline.Statement.{statement}
 use Rattle.polyline_write.proofs.write_spline.Tie as tie
@@ -71,7 +71,7 @@ returns c =
     let s = c.before.before.before.before.before.before.before.before.before.before.before.before.before in
     let d = c.before.before.before.before.before.before.before.before.before.deltas-at in
     let from : d.result ≡ 2 * points_of (take s.args.k s.args.counts.now) = omega (arith, d.ensures) in
-    rw (part-is s.args.counts.now s.args.deltas.now s.args.k _ _ _ from c.before.before.before.before.before.before.before.wide.ensures refl) at c.before.before.write-one.ensures
+    rw (part_is s.args.counts.now s.args.deltas.now s.args.k _ _ _ from c.before.before.before.before.before.before.before.wide.ensures refl) at c.before.before.write-one.ensures
 
 pub write-spline-spec : {M : Type 1} → statement M
 write-spline-spec =

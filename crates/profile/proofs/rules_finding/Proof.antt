@@ -2,7 +2,7 @@
 use native.Mathlib.Omega.{arith}
 use mir.Syntax.{w32}
 use mir.Facts.{to_z-of_z}
-use Rattle.profile.specs.Profile.{rulesFinding}
+use Rattle.profile.specs.Profile.{rules_finding}
 use borrow.Author.Rules.{rules}
 use Rattle.profile.proofs.rules_finding.Statement.{statement}
 use Rattle.profile.proofs.rules_finding.Tie as tie
@@ -29,7 +29,7 @@ first-of-requires-2 : tie.Need-first-of-requires-2
 first-of-requires-2 c κs = search rules
 
 returns : tie.Need-returns
-unfolding rulesFinding
+unfolding rules_finding
 returns c =
     let s = c.before.before.before.before.before.before.before.before.before.before in
     let v = to_z-of_z {w = w32} {z = s.args.adjustment} s.ranges.adjustment in

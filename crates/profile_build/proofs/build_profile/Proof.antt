@@ -3,15 +3,15 @@ use mathlib.Core.Path.{◌≡◌, ◌∙◌}
 use mir.Syntax.{w32}
 use mir.Facts.{to_z-of_z}
 use mir.Val.{to_z, of_z}
-use Rattle.dequantize.specs.Judge.{Description, descriptionOf}
+use Rattle.dequantize.specs.Judge.{Description, description_of}
 use Rattle.table.specs.Table.{BuildRooms, rooms_of, Setting, setting_of}
-use Rattle.profile_build.proofs.Steps.{refused-is, broken-is, built-is}
+use Rattle.profile_build.proofs.Steps.{refused_is, broken_is, built_is}
 use borrow.Author.Rules.{rules}
 use Rattle.profile_build.proofs.build_profile.Statement.{statement}
 use Rattle.profile_build.proofs.build_profile.Tie as tie
 
 abbrev described : tie.Start → Description
-described s = descriptionOf s.args.counts.now s.args.starts.now s.args.deltas.now s.args.coefficients.now
+described s = description_of s.args.counts.now s.args.starts.now s.args.deltas.now s.args.coefficients.now
 
 abbrev image : tie.Start → Setting
 image s = setting_of s.args.adjustment s.args.width s.args.height s.args.y-to-x s.args.y-to-b s.args.high-precision s.args.level10
@@ -69,7 +69,7 @@ returns : tie.Need-returns
 returns c =
     let s = c.before.before.before.before.before.before.before.before.before.before.before.before.before.before.before.before.before.before.before.before.before.before.before.before.before.before.before.before.before.before.before in
     c.before.before.before.before.before.before.before.before.before.before.before.before.stop.ensures
-    ∙ refused-is (described s) (image s) s.args.edition (rooms s) (rw (signed s) at c.before.before.before.before.before.before.before.before.before.before.before.before.before.before.before.before.before.before.before.before.before.before.check.ensures) c.before.before.before.before.before.before.before.before.before.before.before.before.before.before.before.before.before.before.before.before.code.given.1
+    ∙ refused_is (described s) (image s) s.args.edition (rooms s) (rw (signed s) at c.before.before.before.before.before.before.before.before.before.before.before.before.before.before.before.before.before.before.before.before.before.before.check.ensures) c.before.before.before.before.before.before.before.before.before.before.before.before.before.before.before.before.before.before.before.before.code.given.1
 
 same-length-7 : tie.Need-same-length-7
 same-length-7 c = search rules
@@ -93,7 +93,7 @@ returns-2 : tie.Need-returns-2
 returns-2 c =
     let s = c.before.before.before.before.before.before.before.before.before.before.before.before.before.before.before.before.before.before.before.before.before.before.before.before.before.before.before.before.before.before.before in
     c.before.before.before.before.before.before.before.before.before.before.before.before.stop2.ensures
-    ∙ broken-is (described s) (image s) s.args.edition (rooms s) (rw (signed s) at c.before.before.before.before.before.before.before.before.before.before.before.before.before.before.before.before.before.before.before.before.before.before.check.ensures) c.before.before.before.before.before.before.before.before.before.before.before.before.before.before.before.before.before.before.before.before.rule.given.1
+    ∙ broken_is (described s) (image s) s.args.edition (rooms s) (rw (signed s) at c.before.before.before.before.before.before.before.before.before.before.before.before.before.before.before.before.before.before.before.before.before.before.check.ensures) c.before.before.before.before.before.before.before.before.before.before.before.before.before.before.before.before.before.before.before.before.rule.given.1
 
 same-length-13 : tie.Need-same-length-13
 same-length-13 c = search rules
@@ -117,7 +117,7 @@ returns-3 : tie.Need-returns-3
 returns-3 c =
     let s = c.before.before.before.before.before.before.before.before.before.before.before.before.before.before.before.before.before.before.before.before.before.before.before.before.before.before.before.before.before.before.before in
     rw c.of-build.ensures
-    (built-is (described s) (image s) s.args.edition (rooms s) _ (rw (signed s) at c.before.before.before.before.before.before.before.before.before.before.before.before.before.before.before.before.before.before.before.before.before.before.check.ensures) c.before.before.before.before.before.before.before.before.before.before.before.before.before.before.before.before.before.before.before.before.enum_told.given.1 (rw (signed s) at c.before.before.before.before.before.before.before.before.before.before.before.before.before.build.ensures))
+    (built_is (described s) (image s) s.args.edition (rooms s) _ (rw (signed s) at c.before.before.before.before.before.before.before.before.before.before.before.before.before.before.before.before.before.before.before.before.before.before.check.ensures) c.before.before.before.before.before.before.before.before.before.before.before.before.before.before.before.before.before.before.before.before.enum_told.given.1 (rw (signed s) at c.before.before.before.before.before.before.before.before.before.before.before.before.before.build.ensures))
 
 pub build-profile-spec : {M : Type 1} → statement M
 build-profile-spec =

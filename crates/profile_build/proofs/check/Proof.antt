@@ -3,8 +3,8 @@ use mathlib.Core.Path.{sym, ap, ◌∙◌}
 use borrow.Author.Tests.{not-true, not-false}
 use mir.Syntax.{w32}
 use mir.Facts.{to_z-of_z}
-use Rattle.profile.specs.Profile.{ProfileOutcome, profileOf}
-use Rattle.profile_build.specs.Building.{checkProfileOf}
+use Rattle.profile.specs.Profile.{ProfileOutcome, profile_of}
+use Rattle.profile_build.specs.Building.{check_profile_of}
 use borrow.Author.Rules.{rules}
 use Rattle.profile_build.proofs.check.Statement.{statement}
 use Rattle.profile_build.proofs.check.Tie as tie
@@ -13,14 +13,14 @@ size-good-requires : tie.Need-size-good-requires
 size-good-requires c κs = search rules
 
 returns : tie.Need-returns
-unfolding checkProfileOf
+unfolding check_profile_of
 returns c = rw (sym c.before.size-good.ensures ∙ not-true _ c.if1.true)
 
 profile-requires : tie.Need-profile-requires
 profile-requires c κs = search rules
 
 returns-2 : tie.Need-returns-2
-unfolding checkProfileOf profileOf
+unfolding check_profile_of profile_of
 returns-2 c =
     let s = c.before.before.before.before.before in
     let v = to_z-of_z {w = w32} {z = s.args.adjustment} s.ranges.adjustment in

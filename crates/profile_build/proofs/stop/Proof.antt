@@ -1,5 +1,5 @@
 -- `stop`: all six buffers are wiped.
-use Rattle.profile_build.specs.Building.{stoppedWith}
+use Rattle.profile_build.specs.Building.{stopped_with}
 use borrow.Author.Rules.{rules}
 use Rattle.profile_build.proofs.stop.Statement.{statement}
 use Rattle.profile_build.proofs.stop.Tie as tie
@@ -26,7 +26,7 @@ same-length-6 : tie.Need-same-length-6
 same-length-6 c = search rules
 
 returns : tie.Need-returns
-unfolding stoppedWith
+unfolding stopped_with
 returns c =
     let w = c.before.before.before.before.before.before.before.before.before.before.before.before.wipe.ensures in
     rw (w.0, w.1.0, w.1.1.0, w.1.1.1.0, w.1.1.1.1.0, w.1.1.1.1.1)

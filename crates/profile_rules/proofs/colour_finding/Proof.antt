@@ -1,5 +1,5 @@
 -- `colour_finding`: X, then B.
-use Rattle.profile_rules.specs.Rules.{colourFinding}
+use Rattle.profile_rules.specs.Rules.{colour_finding}
 use borrow.Author.Rules.{rules}
 use Rattle.profile_rules.proofs.colour_finding.Statement.{statement}
 use Rattle.profile_rules.proofs.colour_finding.Tie as tie
@@ -29,7 +29,7 @@ first-of-requires : tie.Need-first-of-requires
 first-of-requires c κs = search rules
 
 returns : tie.Need-returns
-unfolding colourFinding
+unfolding colour_finding
 returns c = rw (c.first-of.ensures, c.before.kept2.ensures, c.before.before.zeros2.ensures, c.before.before.before.kept.ensures, c.before.before.before.before.zeros.ensures)
 
 pub colour-finding-spec : {M : Type 1} → statement M

@@ -1,7 +1,7 @@
 -- `deltas_finding`: one test.
 use mathlib.Core.Path.{sym, ◌∙◌}
 use borrow.Author.Rules.{rules}
-use Rattle.profile_rules.specs.Rules.{deltasFinding}
+use Rattle.profile_rules.specs.Rules.{deltas_finding}
 use Rattle.profile_rules.proofs.deltas_finding.Statement.{statement}
 use Rattle.profile_rules.proofs.deltas_finding.Tie as tie
 
@@ -15,7 +15,7 @@ kept-requires : tie.Need-kept-requires
 kept-requires c κs = search rules
 
 returns : tie.Need-returns
-unfolding deltasFinding
+unfolding deltas_finding
 returns c = rw (← c.before.counted.ensures) c.kept.ensures
 
 pub deltas-finding-spec : {M : Type 1} → statement M

@@ -2,7 +2,7 @@
 use native.Mathlib.Omega.{arith}
 use mir.Syntax.{w32}
 use mir.Facts.{to_z-of_z}
-use Rattle.profile_rules.specs.Rules.{sigmaFinding}
+use Rattle.profile_rules.specs.Rules.{sigma_finding}
 use borrow.Author.Rules.{rules}
 use Rattle.profile_rules.proofs.sigma_finding.Statement.{statement}
 use Rattle.profile_rules.proofs.sigma_finding.Tie as tie
@@ -35,7 +35,7 @@ first-of-requires : tie.Need-first-of-requires
 first-of-requires c κs = search rules
 
 returns : tie.Need-returns
-unfolding sigmaFinding
+unfolding sigma_finding
 returns c =
     let s = c.before.before.before.before.before.before.args.limits.sigma in
     let g = to_z-of_z {w = w32} {z = s} (record { sfits = omega arith }) in

@@ -1,5 +1,5 @@
 -- `spline_finding`: the rules of a spline in their order.
-use Rattle.profile_rules.specs.Rules.{splineFinding}
+use Rattle.profile_rules.specs.Rules.{spline_finding}
 use borrow.Author.Rules.{rules}
 use Rattle.profile_rules.proofs.spline_finding.Statement.{statement}
 use Rattle.profile_rules.proofs.spline_finding.Tie as tie
@@ -20,7 +20,7 @@ first-of-requires-2 : tie.Need-first-of-requires-2
 first-of-requires-2 c κs = search rules
 
 returns : tie.Need-returns
-unfolding splineFinding
+unfolding spline_finding
 returns c = rw (c.first-of2.ensures, c.before.first-of.ensures, c.before.before.colour-finding.ensures, c.before.before.before.sigma-finding.ensures, c.before.before.before.before.deltas-finding.ensures)
 
 pub spline-finding-spec : {M : Type 1} → statement M

@@ -5,10 +5,10 @@ use Rattle.reaching.proofs.say.Statement.{statement}
 use Rattle.reaching.proofs.say.Tie as tie
 
 abbrev invariant-loop : tie.invariant-loop
-invariant-loop segments owners segment-count entries entry-count row-starts bits task height y₀ y = y ≤ height
+invariant-loop segments owners segment_count_lem entries entry_count_lem row-starts bits task height y₀ y = y ≤ height
 
 abbrev decreases-loop : tie.decreases-loop
-decreases-loop segments owners segment-count entries entry-count row-starts bits task height y₀ y = height - y
+decreases-loop segments owners segment_count_lem entries entry_count_lem row-starts bits task height y₀ y = height - y
 
 loop-holds : tie.Need-loop-init invariant-loop decreases-loop
 loop-holds c = search rules

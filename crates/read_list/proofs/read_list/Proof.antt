@@ -5,9 +5,9 @@ use native.Mathlib.Omega.{arith}
 use lib.ListN.{length, take, drop}
 use borrow.Author.Rules.{rules}
 use Rattle.codes.specs.declared.Code.{Code}
-use Rattle.list.proofs.Buffers.{part-tail, next-is}
+use Rattle.list.proofs.Buffers.{part_tail, next_is}
 use Rattle.read_list.specs.Rest.{rooms_of}
-use Rattle.read_list.proofs.Whole.{list-stop, read_short, read-splines, no-counts, no-starts, no-coefficients, read-starts-stop, read-long, read-after}
+use Rattle.read_list.proofs.Whole.{list_stop, read_short, read_splines, no_counts, no_starts, no_coefficients, read_starts_stop, read_long, read_after}
 use Rattle.read_list.proofs.read_list.Statement.{statement}
 use Rattle.read_list.proofs.read_list.Tie as tie
 
@@ -23,12 +23,12 @@ enum_told c = search rules
 returns : tie.Need-returns
 returns c =
     let a = c.before.before.before.before.before.before.args in
-    list-stop _ Code.Short 0 _ _ _ _ _ _ _ _ (read_short a.limit (rooms_of a.counts.now a.starts.now a.deltas.now a.coefficients.now) a.list.now (sym c.before.before.head.ensures ∙ c.enum_told.given.1))
+    list_stop _ Code.Short 0 _ _ _ _ _ _ _ _ (read_short a.limit (rooms_of a.counts.now a.starts.now a.deltas.now a.coefficients.now) a.list.now (sym c.before.before.head.ensures ∙ c.enum_told.given.1))
 
 returns-2 : tie.Need-returns-2
 returns-2 c =
     let a = c.before.before.before.before.before.before.before.before.args in
-    list-stop _ Code.Splines 0 _ _ _ _ _ _ _ _ (read-splines a.limit (rooms_of a.counts.now a.starts.now a.deltas.now a.coefficients.now) a.list.now c.before.before.v.given.0.0 (sym c.before.before.before.before.head.ensures ∙ c.before.before.v.given.1) (omega arith))
+    list_stop _ Code.Splines 0 _ _ _ _ _ _ _ _ (read_splines a.limit (rooms_of a.counts.now a.starts.now a.deltas.now a.coefficients.now) a.list.now c.before.before.v.given.0.0 (sym c.before.before.before.before.head.ensures ∙ c.before.before.v.given.1) (omega arith))
 
 add-s : tie.Need-overflow-add-s
 add-s c = omega (arith, c.if1.false)
@@ -39,7 +39,7 @@ cast-n c = search rules
 returns-3 : tie.Need-returns-3
 returns-3 c =
     let a = c.before.before.before.before.before.before.before.before.before.args in
-    list-stop _ Code.Room 0 _ _ _ _ _ _ _ _ (no-counts a.limit (rooms_of a.counts.now a.starts.now a.deltas.now a.coefficients.now) a.list.now c.before.before.before.v.given.0.0 (sym c.before.before.before.before.before.head.ensures ∙ c.before.before.before.v.given.1) c.before.if1.false c.if2.true)
+    list_stop _ Code.Room 0 _ _ _ _ _ _ _ _ (no_counts a.limit (rooms_of a.counts.now a.starts.now a.deltas.now a.coefficients.now) a.list.now c.before.before.before.v.given.0.0 (sym c.before.before.before.before.before.head.ensures ∙ c.before.before.before.v.given.1) c.before.if1.false c.if2.true)
 
 mul-if3 : tie.Need-overflow-mul-if3
 mul-if3 c = search rules
@@ -47,7 +47,7 @@ mul-if3 c = search rules
 returns-4 : tie.Need-returns-4
 returns-4 c =
     let a = c.before.before.before.before.before.before.before.before.before.before.args in
-    list-stop _ Code.Room 0 _ _ _ _ _ _ _ _ (no-starts a.limit (rooms_of a.counts.now a.starts.now a.deltas.now a.coefficients.now) a.list.now c.before.before.before.before.v.given.0.0 (sym c.before.before.before.before.before.before.head.ensures ∙ c.before.before.before.before.v.given.1) c.before.before.if1.false c.before.if2.false c.if3.true)
+    list_stop _ Code.Room 0 _ _ _ _ _ _ _ _ (no_starts a.limit (rooms_of a.counts.now a.starts.now a.deltas.now a.coefficients.now) a.list.now c.before.before.before.before.v.given.0.0 (sym c.before.before.before.before.before.before.head.ensures ∙ c.before.before.before.before.v.given.1) c.before.before.if1.false c.before.if2.false c.if3.true)
 
 mul-if4 : tie.Need-overflow-mul-if4
 mul-if4 c = search rules
@@ -55,13 +55,13 @@ mul-if4 c = search rules
 returns-5 : tie.Need-returns-5
 returns-5 c =
     let a = c.before.before.before.before.before.before.before.before.before.before.before.args in
-    list-stop _ Code.Room 0 _ _ _ _ _ _ _ _ (no-coefficients a.limit (rooms_of a.counts.now a.starts.now a.deltas.now a.coefficients.now) a.list.now c.before.before.before.before.before.v.given.0.0 (sym c.before.before.before.before.before.before.before.head.ensures ∙ c.before.before.before.before.before.v.given.1) c.before.before.before.if1.false c.before.before.if2.false c.before.if3.false c.if4.true)
+    list_stop _ Code.Room 0 _ _ _ _ _ _ _ _ (no_coefficients a.limit (rooms_of a.counts.now a.starts.now a.deltas.now a.coefficients.now) a.list.now c.before.before.before.before.before.v.given.0.0 (sym c.before.before.before.before.before.before.before.head.ensures ∙ c.before.before.before.before.before.v.given.1) c.before.before.before.if1.false c.before.before.if2.false c.before.if3.false c.if4.true)
 
 sub-rest : tie.Need-overflow-sub-rest
-sub-rest c = omega (arith, ap length (next-is c.before.before.before.before.before.before.before.before.before.before.before.args.list.now c.before.before.before.before.before.v.given.0.0 (sym c.before.before.before.before.before.before.before.head.ensures ∙ c.before.before.before.before.before.v.given.1)))
+sub-rest c = omega (arith, ap length (next_is c.before.before.before.before.before.before.before.before.before.before.before.args.list.now c.before.before.before.before.before.v.given.0.0 (sym c.before.before.before.before.before.before.before.head.ensures ∙ c.before.before.before.before.before.v.given.1)))
 
 part-rest-start : tie.Need-slice-bounds-rest-start
-part-rest-start c = omega (arith, ap length (next-is c.before.before.before.before.before.before.before.before.before.before.before.args.list.now c.before.before.before.before.before.v.given.0.0 (sym c.before.before.before.before.before.before.before.head.ensures ∙ c.before.before.before.before.before.v.given.1)))
+part-rest-start c = omega (arith, ap length (next_is c.before.before.before.before.before.before.before.before.before.before.before.args.list.now c.before.before.before.before.before.v.given.0.0 (sym c.before.before.before.before.before.before.before.head.ensures ∙ c.before.before.before.before.before.v.given.1)))
 
 part-rest-end : tie.Need-slice-bounds-rest-end
 part-rest-end c = search rules
@@ -87,7 +87,7 @@ sub-read-rest c =
     let v = c.before.before.before.before.before.before.before.before.before.before.before.before.v.given.0.0 in
     let g = c.before.before.before.before.read-starts in
     let rest = take (length a.list.now - 1) (drop 1 a.list.now) in
-    read-long a.limit (rooms_of a.counts.now a.starts.now a.deltas.now a.coefficients.now) a.list.now rest v (sym c.before.before.before.before.before.before.before.before.before.before.before.before.before.before.head.ensures ∙ c.before.before.before.before.before.before.before.before.before.before.before.before.v.given.1) c.before.before.before.before.before.before.before.before.before.before.if1.false c.before.before.before.before.before.before.before.before.before.if2.false c.before.before.before.before.before.before.before.before.if3.false c.before.before.before.before.before.before.before.if4.false (part-tail 1 a.list.now)
+    read_long a.limit (rooms_of a.counts.now a.starts.now a.deltas.now a.coefficients.now) a.list.now rest v (sym c.before.before.before.before.before.before.before.before.before.before.before.before.before.before.head.ensures ∙ c.before.before.before.before.before.before.before.before.before.before.before.before.v.given.1) c.before.before.before.before.before.before.before.before.before.before.if1.false c.before.before.before.before.before.before.before.before.before.if2.false c.before.before.before.before.before.before.before.before.if3.false c.before.before.before.before.before.before.before.if4.false (part_tail 1 a.list.now)
     a.starts.now g.new.1.1.1.0 (rw c.enum-told2.given.1 at g.ensures)
 
 part-read-rest-start : tie.Need-slice-bounds-read-rest-start
@@ -108,7 +108,7 @@ returns-6 c =
     let v = c.before.before.before.before.before.before.before.before.before.before.before.before.before.v.given.0.0 in
     let g = c.before.before.before.before.before.read-starts in
     let rest = take (length a.list.now - 1) (drop 1 a.list.now) in
-    list-stop _ c.before.c.given.0.0 c.before.c.given.0.1.0 _ _ _ _ _ _ _ _ (read-starts-stop a.limit (rooms_of a.counts.now a.starts.now a.deltas.now a.coefficients.now) a.list.now rest v (sym c.before.before.before.before.before.before.before.before.before.before.before.before.before.before.before.head.ensures ∙ c.before.before.before.before.before.before.before.before.before.before.before.before.before.v.given.1) c.before.before.before.before.before.before.before.before.before.before.before.if1.false c.before.before.before.before.before.before.before.before.before.before.if2.false c.before.before.before.before.before.before.before.before.before.if3.false c.before.before.before.before.before.before.before.before.if4.false (part-tail 1 a.list.now)
+    list_stop _ c.before.c.given.0.0 c.before.c.given.0.1.0 _ _ _ _ _ _ _ _ (read_starts_stop a.limit (rooms_of a.counts.now a.starts.now a.deltas.now a.coefficients.now) a.list.now rest v (sym c.before.before.before.before.before.before.before.before.before.before.before.before.before.before.before.head.ensures ∙ c.before.before.before.before.before.before.before.before.before.before.before.before.before.v.given.1) c.before.before.before.before.before.before.before.before.before.before.before.if1.false c.before.before.before.before.before.before.before.before.before.before.if2.false c.before.before.before.before.before.before.before.before.before.if3.false c.before.before.before.before.before.before.before.before.if4.false (part_tail 1 a.list.now)
     a.starts.now g.new.1.1.1.0 c.before.c.given.0.0 c.before.c.given.0.1.0 (rw c.before.c.given.1 at g.ensures))
 
 same-length-2 : tie.Need-same-length-2
@@ -129,8 +129,8 @@ returns-7 c =
     let v = c.before.before.before.before.before.before.before.before.before.before.before.before.before.before.before.before.before.before.before.before.before.v.given.0.0 in
     let g = c.before.before.before.before.before.before.before.before.before.before.before.before.before.read-starts in
     let rest = take (length a.list.now - 1) (drop 1 a.list.now) in
-    let t = c.before.before.before.before.read-rest in read-after a.limit (rooms_of a.counts.now a.starts.now a.deltas.now a.coefficients.now) a.list.now rest v (sym c.before.before.before.before.before.before.before.before.before.before.before.before.before.before.before.before.before.before.before.before.before.before.before.head.ensures ∙ c.before.before.before.before.before.before.before.before.before.before.before.before.before.before.before.before.before.before.before.before.before.v.given.1) c.before.before.before.before.before.before.before.before.before.before.before.before.before.before.before.before.before.before.before.if1.false c.before.before.before.before.before.before.before.before.before.before.before.before.before.before.before.before.before.before.if2.false c.before.before.before.before.before.before.before.before.before.before.before.before.before.before.before.before.before.if3.false c.before.before.before.before.before.before.before.before.before.before.before.before.before.before.before.before.if4.false (part-tail 1 a.list.now)
-    a.starts.now g.new.1.1.1.0 (rw c.before.before.before.before.before.before.before.before.before.enum-told2.given.1 at g.ensures) (take (length rest - 2 * (v + 1)) (drop (2 * (v + 1)) rest)) (part-tail (2 * (v + 1)) rest) t.result a.counts.now t.new.1.1.1.1.0 a.deltas.now t.new.1.1.1.1.1.0 a.coefficients.now t.new.1.1.1.1.1.1.0 t.ensures
+    let t = c.before.before.before.before.read-rest in read_after a.limit (rooms_of a.counts.now a.starts.now a.deltas.now a.coefficients.now) a.list.now rest v (sym c.before.before.before.before.before.before.before.before.before.before.before.before.before.before.before.before.before.before.before.before.before.before.before.head.ensures ∙ c.before.before.before.before.before.before.before.before.before.before.before.before.before.before.before.before.before.before.before.before.before.v.given.1) c.before.before.before.before.before.before.before.before.before.before.before.before.before.before.before.before.before.before.before.if1.false c.before.before.before.before.before.before.before.before.before.before.before.before.before.before.before.before.before.before.if2.false c.before.before.before.before.before.before.before.before.before.before.before.before.before.before.before.before.before.if3.false c.before.before.before.before.before.before.before.before.before.before.before.before.before.before.before.before.if4.false (part_tail 1 a.list.now)
+    a.starts.now g.new.1.1.1.0 (rw c.before.before.before.before.before.before.before.before.before.enum-told2.given.1 at g.ensures) (take (length rest - 2 * (v + 1)) (drop (2 * (v + 1)) rest)) (part_tail (2 * (v + 1)) rest) t.result a.counts.now t.new.1.1.1.1.0 a.deltas.now t.new.1.1.1.1.1.0 a.coefficients.now t.new.1.1.1.1.1.1.0 t.ensures
 
 pub read-list-spec : {M : Type 1} → statement M
 read-list-spec =

@@ -7,8 +7,8 @@ use mir.Syntax.{w32}
 use mir.Facts.{to_z-of_z}
 use borrow.Author.Rules.{rules}
 use Rattle.codes.specs.declared.Code.{Code}
-use Rattle.list.proofs.Buffers.{part-tail, next-is}
-use Rattle.read_list.proofs.Whole.{rest-stop, after-short, after_stop, after-trail, after-done}
+use Rattle.list.proofs.Buffers.{part_tail, next_is}
+use Rattle.read_list.proofs.Whole.{rest_stop, after_short, after_stop, after_trail, after_done}
 use Rattle.read_list.proofs.read_rest.Statement.{statement}
 use Rattle.read_list.proofs.read_rest.Tie as tie
 
@@ -24,16 +24,16 @@ enum_told c = search rules
 returns : tie.Need-returns
 returns c =
     let a = c.before.before.before.before.before.args in
-    rest-stop _ Code.Short a.total _ _ _ _ _ _ (after-short a.total a.limit (length a.deltas.now) a.s a.list.now (sym c.before.before.head.ensures ∙ c.enum_told.given.1))
+    rest_stop _ Code.Short a.total _ _ _ _ _ _ (after_short a.total a.limit (length a.deltas.now) a.s a.list.now (sym c.before.before.head.ensures ∙ c.enum_told.given.1))
 
 unpack-signed-requires : tie.Need-unpack-signed-requires
 unpack-signed-requires c κs = search rules
 
 sub-rest : tie.Need-overflow-sub-rest
-sub-rest c = omega (arith, ap length (next-is c.before.before.before.before.before.before.before.args.list.now c.before.before.u.given.0.0 (sym c.before.before.before.before.head.ensures ∙ c.before.before.u.given.1)))
+sub-rest c = omega (arith, ap length (next_is c.before.before.before.before.before.before.before.args.list.now c.before.before.u.given.0.0 (sym c.before.before.before.before.head.ensures ∙ c.before.before.u.given.1)))
 
 part-rest-start : tie.Need-slice-bounds-rest-start
-part-rest-start c = omega (arith, ap length (next-is c.before.before.before.before.before.before.before.args.list.now c.before.before.u.given.0.0 (sym c.before.before.before.before.head.ensures ∙ c.before.before.u.given.1)))
+part-rest-start c = omega (arith, ap length (next_is c.before.before.before.before.before.before.before.args.list.now c.before.before.u.given.0.0 (sym c.before.before.before.before.head.ensures ∙ c.before.before.u.given.1)))
 
 part-rest-end : tie.Need-slice-bounds-rest-end
 part-rest-end c = search rules
@@ -79,7 +79,7 @@ returns-2 c =
     let a = c.before.before.before.before.before.before.before.before.before.before.before.before.before.before.before.before.before.before.before.before.args in
     let g = c.before.before.before.before.before.before.before.before.read-splines in
     let rest = take (length a.list.now - 1) (drop 1 a.list.now) in
-    rest-stop _ Code.Trail _ _ _ _ _ _ _ (after-trail a.total a.limit (length a.deltas.now) a.s a.list.now rest c.before.before.before.before.before.before.before.before.before.before.before.before.before.before.before.u.given.0.0 (sym c.before.before.before.before.before.before.before.before.before.before.before.before.before.before.before.before.before.head.ensures ∙ c.before.before.before.before.before.before.before.before.before.before.before.before.before.before.before.u.given.1) (part-tail 1 a.list.now)
+    rest_stop _ Code.Trail _ _ _ _ _ _ _ (after_trail a.total a.limit (length a.deltas.now) a.s a.list.now rest c.before.before.before.before.before.before.before.before.before.before.before.before.before.before.before.u.given.0.0 (sym c.before.before.before.before.before.before.before.before.before.before.before.before.before.before.before.before.before.head.ensures ∙ c.before.before.before.before.before.before.before.before.before.before.before.before.before.before.before.u.given.1) (part_tail 1 a.list.now)
     a.counts.now g.new.1.1.1.1.0 a.deltas.now g.new.1.1.1.1.1.0 a.coefficients.now g.new.1.1.1.1.1.1.0 c.before.before.n.given.0.0 (rw c.before.before.n.given.1 at g.ensures) (omega arith))
 
 same-length-4 : tie.Need-same-length-4
@@ -96,7 +96,7 @@ returns-3 c =
     let a = c.before.before.before.before.before.before.before.before.before.before.before.before.before.before.before.before.before.before.before.args in
     let g = c.before.before.before.before.before.before.before.read-splines in
     let rest = take (length a.list.now - 1) (drop 1 a.list.now) in
-    rest-stop _ c.before.c.given.0.0 c.before.c.given.0.1.0 _ _ _ _ _ _ (after_stop a.total a.limit (length a.deltas.now) a.s a.list.now rest c.before.before.before.before.before.before.before.before.before.before.before.before.before.before.u.given.0.0 (sym c.before.before.before.before.before.before.before.before.before.before.before.before.before.before.before.before.head.ensures ∙ c.before.before.before.before.before.before.before.before.before.before.before.before.before.before.u.given.1) (part-tail 1 a.list.now)
+    rest_stop _ c.before.c.given.0.0 c.before.c.given.0.1.0 _ _ _ _ _ _ (after_stop a.total a.limit (length a.deltas.now) a.s a.list.now rest c.before.before.before.before.before.before.before.before.before.before.before.before.before.before.u.given.0.0 (sym c.before.before.before.before.before.before.before.before.before.before.before.before.before.before.before.before.head.ensures ∙ c.before.before.before.before.before.before.before.before.before.before.before.before.before.before.u.given.1) (part_tail 1 a.list.now)
     a.counts.now g.new.1.1.1.1.0 a.deltas.now g.new.1.1.1.1.1.0 a.coefficients.now g.new.1.1.1.1.1.1.0 c.before.c.given.0.0 c.before.c.given.0.1.0 (rw c.before.c.given.1 at g.ensures))
 
 same-length-7 : tie.Need-same-length-7
@@ -114,7 +114,7 @@ returns-4 c =
     let a = c.before.before.before.before.before.before.before.before.before.before.before.before.before.before.before.before.before.before.before.before.args in
     let g = c.before.before.before.before.before.before.before.before.read-splines in
     let rest = take (length a.list.now - 1) (drop 1 a.list.now) in
-    rw z (after-done a.total a.limit (length a.deltas.now) a.s a.list.now rest c.before.before.before.before.before.before.before.before.before.before.before.before.before.before.before.u.given.0.0 (sym c.before.before.before.before.before.before.before.before.before.before.before.before.before.before.before.before.before.head.ensures ∙ c.before.before.before.before.before.before.before.before.before.before.before.before.before.before.before.u.given.1) (part-tail 1 a.list.now)
+    rw z (after_done a.total a.limit (length a.deltas.now) a.s a.list.now rest c.before.before.before.before.before.before.before.before.before.before.before.before.before.before.before.u.given.0.0 (sym c.before.before.before.before.before.before.before.before.before.before.before.before.before.before.before.before.before.head.ensures ∙ c.before.before.before.before.before.before.before.before.before.before.before.before.before.before.before.u.given.1) (part_tail 1 a.list.now)
     a.counts.now g.new.1.1.1.1.0 a.deltas.now g.new.1.1.1.1.1.0 a.coefficients.now g.new.1.1.1.1.1.1.0 c.before.before.n.given.0.0 (rw c.before.before.n.given.1 at g.ensures) (omega arith))
 
 pub read-rest-spec : {M : Type 1} → statement M

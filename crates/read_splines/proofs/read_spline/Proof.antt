@@ -5,8 +5,8 @@ use native.Mathlib.Omega.{arith}
 use borrow.Author.Rules.{rules}
 use lib.ListN.{length, take, drop}
 use Rattle.codes.specs.declared.Code.{Code}
-use Rattle.list.proofs.Buffers.{part-tail, next-is}
-use Rattle.read_splines.proofs.Splines.{spline-stop, spline-short, spline-over, spline-room, spline-deltas-stop, spline-after, spline-coefficients-stop, spline-done}
+use Rattle.list.proofs.Buffers.{part_tail, next_is}
+use Rattle.read_splines.proofs.Splines.{spline_stop, spline_short, spline_over, spline_room, spline_deltas_stop, spline_after, spline_coefficients_stop, spline_done}
 use Rattle.read_splines.proofs.read_spline.Statement.{statement}
 use Rattle.read_splines.proofs.read_spline.Tie as tie
 
@@ -22,7 +22,7 @@ enum_told c = search rules
 returns : tie.Need-returns
 returns c =
     let a = c.before.before.before.before.args in
-    spline-stop _ Code.Short a.total _ _ _ _ (spline-short a.total a.left (length a.deltas.now) a.list.now (cc))
+    spline_stop _ Code.Short a.total _ _ _ _ (spline_short a.total a.left (length a.deltas.now) a.list.now (cc))
 
 sub-place : tie.Need-overflow-sub-place
 sub-place c = search rules
@@ -30,8 +30,8 @@ sub-place c = search rules
 returns-2 : tie.Need-returns-2
 returns-2 c =
     let a = c.before.before.before.before.before.before.args in
-    spline-stop _ Code.Points (a.total - length a.list.now) _ _ _ _
-    (spline-over a.total a.left (length a.deltas.now) a.list.now c.before.before.n.given.0.0 (cc) (omega arith))
+    spline_stop _ Code.Points (a.total - length a.list.now) _ _ _ _
+    (spline_over a.total a.left (length a.deltas.now) a.list.now c.before.before.n.given.0.0 (cc) (omega arith))
 
 cast-cells : tie.Need-overflow-cast-cells
 cast-cells c = search rules
@@ -45,14 +45,14 @@ sub-place-2 c = search rules
 returns-3 : tie.Need-returns-3
 returns-3 c =
     let a = c.before.before.before.before.before.before.before.args in
-    spline-stop _ Code.Room (a.total - length a.list.now) _ _ _ _
-    (spline-room a.total a.left (length a.deltas.now) a.list.now c.before.before.before.n.given.0.0 (cc) (omega arith) (omega arith))
+    spline_stop _ Code.Room (a.total - length a.list.now) _ _ _ _
+    (spline_room a.total a.left (length a.deltas.now) a.list.now c.before.before.before.n.given.0.0 (cc) (omega arith) (omega arith))
 
 sub-after : tie.Need-overflow-sub-after
-sub-after c = omega (arith, ap length (next-is c.before.before.before.before.before.before.before.args.list.now c.before.before.before.n.given.0.0 (cc)))
+sub-after c = omega (arith, ap length (next_is c.before.before.before.before.before.before.before.args.list.now c.before.before.before.n.given.0.0 (cc)))
 
 part-after-start : tie.Need-slice-bounds-after-start
-part-after-start c = omega (arith, ap length (next-is c.before.before.before.before.before.before.before.args.list.now c.before.before.before.n.given.0.0 (cc)))
+part-after-start c = omega (arith, ap length (next_is c.before.before.before.before.before.before.before.args.list.now c.before.before.before.n.given.0.0 (cc)))
 
 part-after-end : tie.Need-slice-bounds-after-end
 part-after-end c = search rules
@@ -79,7 +79,7 @@ sub-read-coefficients c =
     let after = take (length a.list.now - 1) (drop 1 a.list.now) in
     let step = c.before.before.before.read-deltas in
     let done = rw c.enum-told2.given.1 at step.ensures in
-    spline-after a.total a.left (length a.deltas.now) a.list.now after n (cc) (omega arith) (omega arith) (part-tail 1 a.list.now) a.deltas.now step.new.1.1.1.0 done
+    spline_after a.total a.left (length a.deltas.now) a.list.now after n (cc) (omega arith) (omega arith) (part_tail 1 a.list.now) a.deltas.now step.new.1.1.1.0 done
 
 part-read-coefficients-start : tie.Need-slice-bounds-read-coefficients-start
 part-read-coefficients-start c =
@@ -88,7 +88,7 @@ part-read-coefficients-start c =
     let after = take (length a.list.now - 1) (drop 1 a.list.now) in
     let step = c.before.before.before.read-deltas in
     let done = rw c.enum-told2.given.1 at step.ensures in
-    omega (arith, spline-after a.total a.left (length a.deltas.now) a.list.now after n (cc) (omega arith) (omega arith) (part-tail 1 a.list.now) a.deltas.now step.new.1.1.1.0 done)
+    omega (arith, spline_after a.total a.left (length a.deltas.now) a.list.now after n (cc) (omega arith) (omega arith) (part_tail 1 a.list.now) a.deltas.now step.new.1.1.1.0 done)
 
 part-read-coefficients-end : tie.Need-slice-bounds-read-coefficients-end
 part-read-coefficients-end c = search rules
@@ -111,8 +111,8 @@ returns-4 c =
     let n = c.before.before.before.before.before.before.before.before.before.before.n.given.0.0 in
     let after = take (length a.list.now - 1) (drop 1 a.list.now) in
     let step = c.before.before.before.before.read-deltas in
-    spline-stop _ c.before.c.given.0.0 c.before.c.given.0.1.0 _ _ _ _
-    (spline-deltas-stop a.total a.left (length a.deltas.now) a.list.now after n (cc) (omega arith) (omega arith) (part-tail 1 a.list.now) a.deltas.now step.new.1.1.1.0 _ _ (rw c.before.c.given.1 at step.ensures))
+    spline_stop _ c.before.c.given.0.0 c.before.c.given.0.1.0 _ _ _ _
+    (spline_deltas_stop a.total a.left (length a.deltas.now) a.list.now after n (cc) (omega arith) (omega arith) (part_tail 1 a.list.now) a.deltas.now step.new.1.1.1.0 _ _ (rw c.before.c.given.1 at step.ensures))
 
 same-length-2 : tie.Need-same-length-2
 same-length-2 c = search rules
@@ -128,8 +128,8 @@ returns-5 c =
     let step = c.before.before.before.before.before.before.before.before.before.before.read-deltas in
     let done = rw c.before.before.before.before.before.before.before.enum-told2.given.1 at step.ensures in
     let last = c.before.before.before.before.read-coefficients in
-    spline-stop _ c.before.c2.given.0.0 c.before.c2.given.0.1.0 _ _ _ _
-    (spline-coefficients-stop a.total a.left (length a.deltas.now) a.list.now after n (cc) (omega arith) (omega arith) (part-tail 1 a.list.now) a.deltas.now step.new.1.1.1.0 done (take (length after - 2 * n) (drop (2 * n) after)) (part-tail (2 * n) after) a.coefficients.now last.new.1.1.1.0 _ _ (rw c.before.c2.given.1 at last.ensures))
+    spline_stop _ c.before.c2.given.0.0 c.before.c2.given.0.1.0 _ _ _ _
+    (spline_coefficients_stop a.total a.left (length a.deltas.now) a.list.now after n (cc) (omega arith) (omega arith) (part_tail 1 a.list.now) a.deltas.now step.new.1.1.1.0 done (take (length after - 2 * n) (drop (2 * n) after)) (part_tail (2 * n) after) a.coefficients.now last.new.1.1.1.0 _ _ (rw c.before.c2.given.1 at last.ensures))
 
 same-length-4 : tie.Need-same-length-4
 same-length-4 c = search rules
@@ -145,7 +145,7 @@ returns-6 c =
     let step = c.before.before.before.before.before.before.before.before.before.read-deltas in
     let done = rw c.before.before.before.before.before.before.enum-told2.given.1 at step.ensures in
     let last = c.before.before.before.read-coefficients in
-    spline-done a.total a.left (length a.deltas.now) a.list.now after n (cc) (omega arith) (omega arith) (part-tail 1 a.list.now) a.deltas.now step.new.1.1.1.0 done (take (length after - 2 * n) (drop (2 * n) after)) (part-tail (2 * n) after) a.coefficients.now last.new.1.1.1.0 (rw c.enum-told3.given.1 at last.ensures)
+    spline_done a.total a.left (length a.deltas.now) a.list.now after n (cc) (omega arith) (omega arith) (part_tail 1 a.list.now) a.deltas.now step.new.1.1.1.0 done (take (length after - 2 * n) (drop (2 * n) after)) (part_tail (2 * n) after) a.coefficients.now last.new.1.1.1.0 (rw c.enum-told3.given.1 at last.ensures)
 
 pub read-spline-spec : {M : Type 1} → statement M
 read-spline-spec =

@@ -2,7 +2,7 @@
 use Prim.Native.Nat.{◌-◌}
 use native.Mathlib.Omega.{arith}
 use borrow.Author.Rules.{rules}
-use Rattle.read_splines.proofs.Splines.{Going, going_start, going-stop, going_done, going-long, going-left, going-turn}
+use Rattle.read_splines.proofs.Splines.{Going, going_start, going_stop, going_done, going_long, going_left, going_turn}
 use Rattle.read_splines.proofs.read_splines.Statement.{statement}
 use Rattle.read_splines.proofs.read_splines.Tie as tie
 
@@ -61,7 +61,7 @@ returns c =
     let a = c.before.before.before.before.before.before.before.before.before.before.before.before.args in
     let v = c.before.before.before.before.before.before.before.before.before.loop in
     let one = c.before.before.before.before.before.read-spline in
-    going-stop a.list.now a.total a.limit a.s a.counts.now a.deltas.now a.coefficients.now
+    going_stop a.list.now a.total a.limit a.s a.counts.now a.deltas.now a.coefficients.now
     v.counts v.deltas v.coefficients v.rest.now v.left v.i v.d v.k v.invariant (omega arith) (omega arith) (omega arith) one.new.1.1.1.0 one.new.1.1.1.1.0 c.before.c.given.0.0 c.before.c.given.0.1.0 (rw c.before.c.given.1 at one.ensures) _ _ _
 
 enum-known-n : tie.Need-enum-known-n invariant-loop decreases-loop
@@ -90,7 +90,7 @@ sub-rest c =
     let a = c.before.before.before.before.before.before.before.before.before.before.before.before.args in
     let v = c.before.before.before.before.before.before.before.before.before.loop in
     let one = c.before.before.before.before.before.read-spline in
-    going-long a.list.now a.total a.limit a.s a.counts.now a.deltas.now a.coefficients.now
+    going_long a.list.now a.total a.limit a.s a.counts.now a.deltas.now a.coefficients.now
     v.counts v.deltas v.coefficients v.rest.now v.left v.i v.d v.k v.invariant (omega arith) (omega arith) (omega arith) one.new.1.1.1.0 one.new.1.1.1.1.0 c.before.n.given.0.0 (rw c.before.n.given.1 at one.ensures)
 
 part-rest-start : tie.Need-slice-bounds-rest-start invariant-loop decreases-loop
@@ -104,7 +104,7 @@ sub-left c =
     let a = c.before.before.before.before.before.before.before.before.before.before.before.before.before.args in
     let v = c.before.before.before.before.before.before.before.before.before.before.loop in
     let one = c.before.before.before.before.before.before.read-spline in
-    going-left a.list.now a.total a.limit a.s a.counts.now a.deltas.now a.coefficients.now
+    going_left a.list.now a.total a.limit a.s a.counts.now a.deltas.now a.coefficients.now
     v.counts v.deltas v.coefficients v.rest.now v.left v.i v.d v.k v.invariant (omega arith) (omega arith) (omega arith) one.new.1.1.1.0 one.new.1.1.1.1.0 c.before.before.n.given.0.0 (rw c.before.before.n.given.1 at one.ensures)
 
 add-d : tie.Need-overflow-add-d invariant-loop decreases-loop
@@ -124,7 +124,7 @@ loop-again c =
     let a = c.before.before.before.before.before.before.before.before.before.before.before.before.before.args in
     let v = c.before.before.before.before.before.before.before.before.before.before.loop in
     let one = c.before.before.before.before.before.before.read-spline in
-    going-turn a.list.now a.total a.limit a.s a.counts.now a.deltas.now a.coefficients.now
+    going_turn a.list.now a.total a.limit a.s a.counts.now a.deltas.now a.coefficients.now
     v.counts v.deltas v.coefficients v.rest.now v.left v.i v.d v.k v.invariant (omega arith) (omega arith) (omega arith) one.new.1.1.1.0 one.new.1.1.1.1.0 c.before.before.n.given.0.0 (rw c.before.before.n.given.1 at one.ensures)
 
 sub-points : tie.Need-overflow-sub-points invariant-loop decreases-loop

@@ -6,7 +6,7 @@ use lib.Dec.{leb}
 use lib.IntN.{ℤ, nat_abs}
 use mir.Syntax.{w64}
 use mir.Facts.{to_z-of_z}
-use Rattle.list.specs.List.{posLimit}
+use Rattle.list.specs.List.{pos_limit}
 use Rattle.read_steps.proofs.far.Statement.{statement}
 use Rattle.read_steps.proofs.far.Tie as tie
 
@@ -20,7 +20,7 @@ returns : tie.Need-returns
 returns c =
     let a = c.before.before in
     let x = to_z-of_z {w = w64} {z = a.args.x} a.ranges.x in
-    let p : leb posLimit (nat_abs a.args.x) ≡ true = sym (ap (λ (z : ℤ). leb posLimit (nat_abs z)) x) ∙ sym c.before.is-far.ensures ∙ c.if1.true in
+    let p : leb pos_limit (nat_abs a.args.x) ≡ true = sym (ap (λ (z : ℤ). leb pos_limit (nat_abs z)) x) ∙ sym c.before.is-far.ensures ∙ c.if1.true in
     rw p
 
 returns-2 : tie.Need-returns-2
@@ -28,7 +28,7 @@ returns-2 c =
     let a = c.before.before.before in
     let x = to_z-of_z {w = w64} {z = a.args.x} a.ranges.x in
     let y = to_z-of_z {w = w64} {z = a.args.y} a.ranges.y in
-    let p : leb posLimit (nat_abs a.args.x) ≡ false = sym (ap (λ (z : ℤ). leb posLimit (nat_abs z)) x) ∙ sym c.before.before.is-far.ensures ∙ c.before.if1.false in
+    let p : leb pos_limit (nat_abs a.args.x) ≡ false = sym (ap (λ (z : ℤ). leb pos_limit (nat_abs z)) x) ∙ sym c.before.before.is-far.ensures ∙ c.before.if1.false in
     rw (c.is-far2.ensures, y, p)
 
 pub far-spec : {M : Type 1} → statement M

@@ -4,7 +4,7 @@ use mir.Syntax.{w32, w64}
 use mir.Val.{SFits}
 use lib.IntN.{ℤ, ◌+ℤ◌}
 use mir.Facts.{to_z-of_z}
-use Rattle.read_steps.proofs.Numbers.{sum-mag}
+use Rattle.read_steps.proofs.Numbers.{sum_mag}
 use Rattle.read_steps.proofs.moved.Statement.{statement}
 use Rattle.read_steps.proofs.moved.Tie as tie
 
@@ -15,13 +15,13 @@ add-result : tie.Need-overflow-add-result
 add-result c =
     let d : SFits w64 c.args.by = record { sfits = omega (arith, c.ranges.by.sfits) } in
     rw (to_z-of_z {w = w64} {z = c.args.last} c.ranges.last, to_z-of_z {w = w32} {z = c.args.by} c.ranges.by, to_z-of_z {w = w64} {z = c.args.by} d)
-    (record { sfits = omega (arith, sum-mag c.args.last c.args.by, c.ranges.by.sfits) })
+    (record { sfits = omega (arith, sum_mag c.args.last c.args.by, c.ranges.by.sfits) })
 
 returns : tie.Need-returns
 returns c =
     let d : SFits w64 c.args.by = record { sfits = omega (arith, c.ranges.by.sfits) } in
     rw (to_z-of_z {w = w64} {z = c.args.last} c.ranges.last, to_z-of_z {w = w32} {z = c.args.by} c.ranges.by, to_z-of_z {w = w64} {z = c.args.by} d)
-    (to_z-of_z {w = w64} {z = c.args.last +ℤ c.args.by} (record { sfits = omega (arith, sum-mag c.args.last c.args.by, c.ranges.by.sfits) }))
+    (to_z-of_z {w = w64} {z = c.args.last +ℤ c.args.by} (record { sfits = omega (arith, sum_mag c.args.last c.args.by, c.ranges.by.sfits) }))
 
 pub moved-spec : {M : Type 1} → statement M
 moved-spec = tie.close (tie.spec cast-result add-result returns)

@@ -6,20 +6,20 @@ use borrow.Author.Rules.{rules}
 use lib.ListN.{length, take, drop, length-set}
 use mir.Syntax.{w32}
 use mir.Facts.{to_z-of_z}
-use Rattle.list.specs.List.{onto, deltasIn}
+use Rattle.list.specs.List.{onto, deltas_in}
 use Rattle.codes.specs.declared.Code.{Code}
-use Rattle.read_steps.proofs.Turns.{keep_two, onto-none, filled-done, filled-stop, pair_is, deltas-short, deltas-wild, deltas-more}
+use Rattle.read_steps.proofs.Turns.{keep_two, onto_none, filled_done, filled_stop, pair_is, deltas_short, deltas_wild, deltas_more}
 use Rattle.read_steps.proofs.read_deltas.Statement.{statement}
 use Rattle.read_steps.proofs.read_deltas.Tie as tie
 
 abbrev invariant-loop : tie.invariant-loop
-invariant-loop list total n out₀ rest₀ left₀ i₀ out rest left i = (i + 2 * left ≡ 2 * n) × (length out ≡ length out₀) × (length rest ≤ total) × (drop i out ≡ drop i out₀) × (deltasIn total n list ≡ onto (take i out) (deltasIn total left rest))
+invariant-loop list total n out₀ rest₀ left₀ i₀ out rest left i = (i + 2 * left ≡ 2 * n) × (length out ≡ length out₀) × (length rest ≤ total) × (drop i out ≡ drop i out₀) × (deltas_in total n list ≡ onto (take i out) (deltas_in total left rest))
 
 abbrev decreases-loop : tie.decreases-loop
 decreases-loop list total n out₀ rest₀ left₀ i₀ out rest left i = left
 
 loop-holds : tie.Need-loop-init invariant-loop decreases-loop
-loop-holds c = (omega arith, refl, omega arith, refl, onto-none _)
+loop-holds c = (omega arith, refl, omega arith, refl, onto_none _)
 
 two-requires : tie.Need-two-requires invariant-loop decreases-loop
 two-requires c κs = search rules
@@ -37,8 +37,8 @@ returns : tie.Need-returns invariant-loop decreases-loop
 returns c =
     let a = c.before.before.before.before.before.before.args in
     let v = c.before.before.before.before.loop in
-    filled-stop _ (take v.i v.out) _ _ Code.Short a.total
-    (v.invariant.4 ∙ rw (deltas-short a.total v.left v.rest.now (omega arith) (sym c.before.before.two.ensures ∙ c.enum_told.given.1)))
+    filled_stop _ (take v.i v.out) _ _ Code.Short a.total
+    (v.invariant.4 ∙ rw (deltas_short a.total v.left v.rest.now (omega arith) (sym c.before.before.two.ensures ∙ c.enum_told.given.1)))
 
 wild-requires : tie.Need-wild-requires invariant-loop decreases-loop
 wild-requires c κs = search rules
@@ -53,8 +53,8 @@ returns-2 : tie.Need-returns-2 invariant-loop decreases-loop
 returns-2 c =
     let a = c.before.before.before.before.before.before.before.before.before.args in
     let v = c.before.before.before.before.before.before.before.loop in
-    filled-stop _ (take v.i v.out) _ _ Code.Delta (a.total - length v.rest.now)
-    (v.invariant.4 ∙ rw (deltas-wild a.total v.left v.rest.now c.before.before.before.a.given.0.0 c.before.before.before.a.given.0.1.0 (omega arith) (sym c.before.before.before.before.before.two.ensures ∙ c.before.before.before.a.given.1) (sym c.before.wild.ensures ∙ c.if1.true)))
+    filled_stop _ (take v.i v.out) _ _ Code.Delta (a.total - length v.rest.now)
+    (v.invariant.4 ∙ rw (deltas_wild a.total v.left v.rest.now c.before.before.before.a.given.0.0 c.before.before.before.a.given.0.1.0 (omega arith) (sym c.before.before.before.before.before.two.ensures ∙ c.before.before.before.a.given.1) (sym c.before.wild.ensures ∙ c.if1.true)))
 
 unpack-signed-requires : tie.Need-unpack-signed-requires invariant-loop decreases-loop
 unpack-signed-requires c κs = search rules
@@ -107,18 +107,18 @@ loop-again c =
       simp length-set v.invariant.1,
       omega (arith, c.rest.given.2),
       keep_two v.out a.out.now v.i _ _ v.invariant.3,
-      rw (zx, zy) (deltas-more a.total a.n v.left v.i a.list.now v.rest.now v.out x y v.invariant.4 (omega arith) (omega arith) (sym c.before.before.before.before.before.before.before.before.two.ensures ∙ c.before.before.before.before.before.before.a.given.1) (sym c.before.before.before.before.wild.ensures ∙ c.before.before.before.if1.false)),
+      rw (zx, zy) (deltas_more a.total a.n v.left v.i a.list.now v.rest.now v.out x y v.invariant.4 (omega arith) (omega arith) (sym c.before.before.before.before.before.before.before.before.two.ensures ∙ c.before.before.before.before.before.before.a.given.1) (sym c.before.before.before.before.wild.ensures ∙ c.before.before.before.if1.false)),
     )
 
 same-length-3 : tie.Need-same-length-3 invariant-loop decreases-loop
 same-length-3 c = c.before.loop.invariant.1
 
 returns-3 : tie.Need-returns-3 invariant-loop decreases-loop
-unfolding deltasIn
+unfolding deltas_in
 returns-3 c =
     let v = c.before.loop in
     let m : v.left ≡ 0 = omega arith in
-    filled-done _ _ _ v.rest.now v.i (v.invariant.4 ∙ rw m) v.invariant.3 (omega arith)
+    filled_done _ _ _ v.rest.now v.i (v.invariant.4 ∙ rw m) v.invariant.3 (omega arith)
 
 pub read-deltas-spec : {M : Type 1} → statement M
 read-deltas-spec =

@@ -3,8 +3,8 @@ use mathlib.Core.Path.{ap, sym, ◌∙◌}
 use native.Mathlib.Omega.{arith}
 use lib.ListN.{length}
 use borrow.Author.Rules.{rules}
-use Rattle.list.proofs.Buffers.{next-is}
-use Rattle.read_steps.proofs.Turns.{pair-none, pair_one, pair-both}
+use Rattle.list.proofs.Buffers.{next_is}
+use Rattle.read_steps.proofs.Turns.{pair_none, pair_one, pair_both}
 use Rattle.read_steps.proofs.two.Statement.{statement}
 use Rattle.read_steps.proofs.two.Tie as tie
 
@@ -18,13 +18,13 @@ enum_told : tie.Need-enum-told
 enum_told c = search rules
 
 returns : tie.Need-returns
-returns c = pair-none c.before.before.before.before.args.list.now (sym c.before.before.head.ensures ∙ c.enum_told.given.1)
+returns c = pair_none c.before.before.before.before.args.list.now (sym c.before.before.head.ensures ∙ c.enum_told.given.1)
 
 sub-head : tie.Need-overflow-sub-head
-sub-head c = omega (arith, ap length (next-is c.before.before.before.before.before.args.list.now c.before.a.given.0.0 (sym c.before.before.before.head.ensures ∙ c.before.a.given.1)))
+sub-head c = omega (arith, ap length (next_is c.before.before.before.before.before.args.list.now c.before.a.given.0.0 (sym c.before.before.before.head.ensures ∙ c.before.a.given.1)))
 
 part-head-start : tie.Need-slice-bounds-head-start
-part-head-start c = omega (arith, ap length (next-is c.before.before.before.before.before.args.list.now c.before.a.given.0.0 (sym c.before.before.before.head.ensures ∙ c.before.a.given.1)))
+part-head-start c = omega (arith, ap length (next_is c.before.before.before.before.before.args.list.now c.before.a.given.0.0 (sym c.before.before.before.head.ensures ∙ c.before.a.given.1)))
 
 part-head-end : tie.Need-slice-bounds-head-end
 part-head-end c = search rules
@@ -44,7 +44,7 @@ returns-2 c = pair_one c.before.before.before.before.before.before.before.before
 returns-3 : tie.Need-returns-3
 returns-3 c =
     let l = c.before.before.before.before.before.before.before.before.before.before.args.list.now in
-    pair-both l c.before.before.before.before.before.before.a.given.0.0 c.before.b.given.0.0 (sym c.before.before.before.before.before.before.before.before.head.ensures ∙ c.before.before.before.before.before.before.a.given.1) (sym c.before.before.before.head2.ensures ∙ c.before.b.given.1)
+    pair_both l c.before.before.before.before.before.before.a.given.0.0 c.before.b.given.0.0 (sym c.before.before.before.before.before.before.before.before.head.ensures ∙ c.before.before.before.before.before.before.a.given.1) (sym c.before.before.before.head2.ensures ∙ c.before.b.given.1)
 
 pub two-spec : {M : Type 1} → statement M
 two-spec =

@@ -3,7 +3,7 @@ use mathlib.Core.Path.{◌∙◌}
 use borrow.Author.Rules.{rules}
 use mir.Syntax.{w32}
 use mir.Facts.{to_z-of_z}
-use Rattle.reader.proofs.Whole.{read_done, read-refused}
+use Rattle.reader.proofs.Whole.{read_done, read_refused}
 use Rattle.reader.proofs.read.Statement.{statement}
 use Rattle.reader.proofs.read.Tie as tie
 
@@ -69,7 +69,7 @@ returns-2 c =
     let g = c.before.before.before.before.before.before.before.before.before.before.before.before.before.before.before.before.before.before.before.before.read-list in
     let k = c.before.before.before.before.before.before.before.before.before.before.before.before.c.given in
     let v = c.before.before.before.before.before.before.wipe2 in
-    read-refused a.configured a.pixels m.result m.ensures a.list.now
+    read_refused a.configured a.pixels m.result m.ensures a.list.now
     a.counts.now w.new.0 a.starts.now w.new.1.0 a.deltas.now w.new.1.1.0 a.coefficients.now w.new.1.1.1.0 w.ensures
     k.0.0 k.0.1.0 g.new.1.1.0 v.new.0 g.new.1.1.1.0 v.new.1.0 g.new.1.1.1.1.0 v.new.1.1.0
     g.new.1.1.1.1.1.0 v.new.1.1.1.0 (rw k.1 at g.ensures)

@@ -1,7 +1,7 @@
 -- `wipe`: four buffers, cleared one after the other.
 use lib.ListN.{length}
 use borrow.Author.Rules.{rules}
-use Rattle.list.proofs.Buffers.{zeros-f32}
+use Rattle.list.proofs.Buffers.{zeros_f32}
 use Rattle.reader.proofs.wipe.Statement.{statement}
 use Rattle.reader.proofs.wipe.Tie as tie
 
@@ -32,7 +32,7 @@ same-length-4 c = search rules
 returns : tie.Need-returns
 returns c = record {
   counts = c.before.before.before.before.before.before.before.before.before.before.before.before.clear-u32.ensures;
-  starts = zeros-f32 (length c.before.before.before.before.before.before.before.before.before.before.before.before.before.before.before.before.args.starts.now) c.before.before.before.before.before.before.before.before.clear-f32.ensures;
+  starts = zeros_f32 (length c.before.before.before.before.before.before.before.before.before.before.before.before.before.before.before.before.args.starts.now) c.before.before.before.before.before.before.before.before.clear-f32.ensures;
   deltas = c.before.before.before.before.clear-i32.ensures;
   coefficients = c.before.clear-i322.ensures;
 }

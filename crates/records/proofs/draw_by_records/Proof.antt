@@ -2,11 +2,11 @@
 use mathlib.Core.Path.{refl, sym, ◌∙◌}
 use native.Mathlib.Omega.{arith}
 use borrow.Author.Tests.{not-true, not-false}
-use Rattle.segments.specs.Segment.{segmentAt}
+use Rattle.segments.specs.Segment.{segment_at}
 use Rattle.draw.specs.Draw.{three}
-use Rattle.records.specs.Records.{isKnown}
+use Rattle.records.specs.Records.{is_known}
 use Rattle.alone.proofs.Alone.{not_known}
-use Rattle.records.proofs.Alone.{known_facts, in-16}
+use Rattle.records.proofs.Alone.{known_facts, in_16}
 use lib.ListN.{replicate}
 use borrow.Author.Rules.{rules}
 use Rattle.records.proofs.draw_by_records.Statement.{statement}
@@ -18,7 +18,7 @@ is-known-requires c κs = search rules
 returns : tie.Need-returns
 returns c =
     let A = c.before.before.before.before.before.before.args in
-    not_known (isKnown A.flat.now A.count A.i) (segmentAt A.flat.now A.i) A.y A.x0 A.n (three A.r0.now A.r1.now A.r2.now) (sym c.before.is_Known.ensures ∙ not-true _ c.if1.true)
+    not_known (is_known A.flat.now A.count A.i) (segment_at A.flat.now A.i) A.y A.x0 A.n (three A.r0.now A.r1.now A.r2.now) (sym c.before.is_Known.ensures ∙ not-true _ c.if1.true)
 
 mul-first : tie.Need-overflow-mul-first
 mul-first c = search rules
@@ -79,7 +79,7 @@ returns-2 c =
     let A = c.before.before.before.before.before.before.before.before.before.before.before.before.before.before.before.before.before.before.args in
     let e = sym c.before.before.before.before.before.before.before.before.before.before.before.before.before.is_Known.ensures ∙ not-false _ c.before.before.before.before.before.before.before.before.before.before.before.before.if1.false in
     c.before.before.before.before.before.before.draw-in-16.ensures
-    ∙ in-16 A.flat.now (replicate 16 0) A.count A.i _ A.y A.x0 A.n (three A.r0.now A.r1.now A.r2.now) refl e (omega arith) (omega arith)
+    ∙ in_16 A.flat.now (replicate 16 0) A.count A.i _ A.y A.x0 A.n (three A.r0.now A.r1.now A.r2.now) refl e (omega arith) (omega arith)
 
 pub draw-by-records-spec : {M : Type 1} → statement M
 draw-by-records-spec =

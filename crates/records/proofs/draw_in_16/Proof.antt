@@ -56,7 +56,7 @@ use Rattle.draw.specs.declared.DrawAnswer.{DrawAnswer}
 use Rattle.draw.specs.Draw.{three, leaves}
 use Rattle.draw.specs.contracts.DrawAnswer as D
 use Rattle.draw.proofs.DrawAnswer.TheLaws as D'
-use Rattle.records.specs.Records.{zeroRecord, recordsOf, drawRecordOf}
+use Rattle.records.specs.Records.{zero_record, records_of, draw_record_of}
 use Rattle.flat_records.specs.contracts.zero_record as zero
 use Rattle.flat_records.proofs.zero_record.Symbol as zero_def
 use Rattle.flat_records.proofs.zero_record.Symbol.{name as #flat-records·zero-record}
@@ -139,10 +139,10 @@ module _ {M : Type 1} {𝓤 : Ura M} (𝓛 : Logic 𝓤) (mem' : Memory → SPro
   open 𝓛 use {H, A}
 
   abbrev zs : List SegmentRecord
-  zs = replicate 16 zeroRecord
+  zs = replicate 16 zero_record
 
   abbrev ws : List SegmentRecord
-  ws = recordsOf xr.now ur.now c 16
+  ws = records_of xr.now ur.now c 16
 
   abbrev x : Arg
   x = (xr, (ur, (c, (i, (y, (x0, (n, (c₀, (c₁, (c₂, tt))))))))))
@@ -155,7 +155,7 @@ module _ {M : Type 1} {𝓤 : Ura M} (𝓛 : Logic 𝓤) (mem' : Memory → SPro
 
   -- what is said of an answer and of the last lists of the channels
   abbrev Drawn : DrawAnswer → List Float → List Float → List Float → Type 0
-  Drawn r z₀ z₁ z₂ = leaves r (three z₀ z₁ z₂) ≡ drawRecordOf ws i y x0 n (three c₀.now c₁.now c₂.now)
+  Drawn r z₀ z₁ z₂ = leaves r (three z₀ z₁ z₂) ≡ draw_record_of ws i y x0 n (three c₀.now c₁.now c₂.now)
 
   abbrev Flat : Fml
   Flat = (ShrSlice (named 0) κ f32).own_val xr (slice xr ∷ [])
@@ -181,8 +181,8 @@ module _ {M : Type 1} {𝓤 : Ura M} (𝓛 : Logic 𝓤) (mem' : Memory → SPro
   asked-zero : ent 𝓤 (emp 𝓤) ((Zero 𝓛 mem' run).pre to-zero)
   asked-zero = qed 𝓛 [] ∵ nothing ! $ nothing ! $ join ! $ frame ! $ done !
 
-  said-zero : (r : SegmentRecord) → ent 𝓤 (ensured 𝓛 zero.ended (zero.clauses 𝓛 mem' run) tt tt tt r) (fact 𝓤 (r ≡ zeroRecord))
-  said-zero r = ex_e 𝓤 _ (λ us. snd∗ 𝓤 (sem 𝓛 (lasts zero.ended tt tt us)) (fact 𝓤 (r ≡ zeroRecord)))
+  said-zero : (r : SegmentRecord) → ent 𝓤 (ensured 𝓛 zero.ended (zero.clauses 𝓛 mem' run) tt tt tt r) (fact 𝓤 (r ≡ zero_record))
+  said-zero r = ex_e 𝓤 _ (λ us. snd∗ 𝓤 (sem 𝓛 (lasts zero.ended tt tt us)) (fact 𝓤 (r ≡ zero_record)))
 
   -- ---- `fill_records` and `draw_record`: the array lies at l, and is lent for ν under the name δ
   module _ (l : ℕ) where
@@ -233,11 +233,11 @@ module _ {M : Type 1} {𝓤 : Ura M} (𝓛 : Logic 𝓤) (mem' : Memory → SPro
         -- [the tokens of flat and owners; what they own; what the channels own; their tokens; _23; …; _0; …]: `zero_record`
         use0 𝓛 (raw ((Zero 𝓛 mem' run).pre to-zero)) asked-zero $ calls_at ! fm (Zero 𝓛 mem' run) known-zero to-zero (no_more !) (λ w₀.
         use1 𝓛 (later (some (λ (r : SegmentRecord). (‵ ftrue ⊛ ‵ ((T.the_row).own_val r (w₀ ∷ []))) ⊛ raw (ensured 𝓛 zero.ended (zero.clauses 𝓛 mem' run) tt tt tt r)))) (id⊢ 𝓤 _) $ await ! tt $ pick ! (λ r₀.
-        split ! $ move ! (1 ∷ []) $ use1 𝓛 (raw (fact 𝓤 (r₀ ≡ zeroRecord))) (said-zero r₀) $ heard ! (r₀ ≡ zeroRecord) (λ e₀. split ! $ drop ! $ rewrite ! 0 (λ (s : SegmentRecord). ‵ ((T.the_row).own_val s (w₀ ∷ []))) e₀ refl $
-        peeks ! T.the_row (Is T.the_row) (shows 𝓛 T.the_row) zeroRecord (w₀ ∷ []) (λ is₀.
-        land ! (from ! (stop !)) (init ! 29 refl ((LL.lawful T.the_type T'.the_laws 𝓛).typed zeroRecord (w₀ ∷ []) is₀).0) $
+        split ! $ move ! (1 ∷ []) $ use1 𝓛 (raw (fact 𝓤 (r₀ ≡ zero_record))) (said-zero r₀) $ heard ! (r₀ ≡ zero_record) (λ e₀. split ! $ drop ! $ rewrite ! 0 (λ (s : SegmentRecord). ‵ ((T.the_row).own_val s (w₀ ∷ []))) e₀ refl $
+        peeks ! T.the_row (Is T.the_row) (shows 𝓛 T.the_row) zero_record (w₀ ∷ []) (λ is₀.
+        land ! (from ! (stop !)) (init ! 29 refl ((LL.lawful T.the_type T'.the_laws 𝓛).typed zero_record (w₀ ∷ []) is₀).0) $
         -- the array of 16 times that record, and its place and count
-        use1 𝓛 (‵ ((Array T.the_row 16).own_val zs (array_val (replicate 16 w₀) ∷ []))) (Array-repeat 𝓛 T.the_row (LL.copy T.the_type T'.the_copy 𝓛) 16 zeroRecord w₀) $
+        use1 𝓛 (‵ ((Array T.the_row 16).own_val zs (array_val (replicate 16 w₀) ∷ []))) (Array-repeat 𝓛 T.the_row (LL.copy T.the_type T'.the_copy 𝓛) 16 zero_record w₀) $
         peeks ! (Array T.the_row 16) (Is (Array T.the_row 16)) (shows 𝓛 (Array T.the_row 16)) zs (array_val (replicate 16 w₀) ∷ []) (λ is_a.
         assigns ! (rep ! 16 (load ! (from ! (stop !)) (look ! 29 refl))) (from ! (stop !)) (init ! 27 refl ((Array-Lawful 𝓛 T.the_row (LL.lawful T.the_type T'.the_laws 𝓛) 16).typed zs (array_val (replicate 16 w₀) ∷ []) is_a).0) $
         assigns ! (addr ! (from ! (stop !))) (from ! (stop !)) (init ! 23 refl (tt, tt)) $

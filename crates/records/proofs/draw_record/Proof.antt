@@ -46,7 +46,7 @@ use Rattle.draw.specs.declared.DrawAnswer.{DrawAnswer}
 use Rattle.draw.specs.Draw.{three, leaves}
 use Rattle.draw.specs.contracts.DrawAnswer as D
 use Rattle.draw.proofs.DrawAnswer.TheLaws as D'
-use Rattle.records.specs.Records.{withoutOwner, zeroRecord, drawAlone}
+use Rattle.records.specs.Records.{without_owner, zero_record, draw_alone}
 use Rattle.records.specs.contracts.segment_at as seg
 use Rattle.records.proofs.segment_at.Symbol as seg-def
 use Rattle.records.proofs.segment_at.Symbol.{name as #records·segment-at}
@@ -108,11 +108,11 @@ module _ {M : Type 1} {𝓤 : Ura M} (𝓛 : Logic 𝓤) (mem : Memory → SProp
   known = ltb i (length xr.now)
 
   abbrev elem : SegmentRecord
-  elem = get_or xr.now i zeroRecord
+  elem = get_or xr.now i zero_record
 
   -- what is said of an answer and of the last lists of the channels
   abbrev Drawn : DrawAnswer → List Float → List Float → List Float → Type 0
-  Drawn r z₀ z₁ z₂ = leaves r (three z₀ z₁ z₂) ≡ drawAlone known (withoutOwner elem) y x0 n (three c₀.now c₁.now c₂.now)
+  Drawn r z₀ z₁ z₂ = leaves r (three z₀ z₁ z₂) ≡ draw_alone known (without_owner elem) y x0 n (three c₀.now c₁.now c₂.now)
 
   abbrev Recs : Fml
   Recs = (ShrSlice (named 0) κ T.the_row).own_val xr (slice xr ∷ [])

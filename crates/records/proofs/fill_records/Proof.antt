@@ -54,8 +54,8 @@ use denote.Triple.Table.{entered, cited}
 use denote.Triple.Walked.{says, Stays, stay_slice, stay_none, stay_none_slice, walk_of, AllGo, Goes-slice, Goes-none, Goes-none_slice, Walks, ends_at, walked, walk_Meets}
 use denote.Exit.{yes}
 use Rattle.flat_records.specs.declared.SegmentRecord.{SegmentRecord}
-use Rattle.records.specs.Records.{zeroRecord, recordOf}
-use Rattle.records.proofs.Fills.{fills, length-fills, fills-all}
+use Rattle.records.specs.Records.{zero_record, record_of}
+use Rattle.records.proofs.Fills.{fills, length_fills, fills_all}
 use Rattle.flat_records.specs.contracts.SegmentRecord as T
 use Rattle.flat_records.proofs.SegmentRecord.TheLaws as T'
 use Rattle.flat_records.specs.contracts.record_of as record_of
@@ -104,7 +104,7 @@ module _ {M : Type 1} {𝓤 : Ura M} (𝓛 : Logic 𝓤) (mem : Memory → SProp
   n = length ys
 
   abbrev g : ℕ → SegmentRecord
-  g = recordOf xr.now ur.now c
+  g = record_of xr.now ur.now c
 
   -- the records where i of them are set
   abbrev ls : ℕ → List SegmentRecord
@@ -150,10 +150,10 @@ module _ {M : Type 1} {𝓤 : Ura M} (𝓛 : Logic 𝓤) (mem : Memory → SProp
   exits : Room T.the_row n → ent 𝓤 (⋆ 𝓛 (‵ (fobs γ ((coded_holeys T.the_row).code (heres T.the_row (ls n)))) ∷ ‵ (fbor κ' (Held T.the_row (length (ls n)) b o γ)) ∷ ‵ (flft κ' q') ∷ ‵ (flft κ q) ∷ ‵ Flat ∷ ‵ (flft κo qo) ∷ ‵ Owners ∷ [])) (Post vunit)
   exits room =
       qed 𝓛 (‵ (fobs γ ((coded_holeys T.the_row).code (heres T.the_row (ls n)))) ∷ ‵ (fbor κ' (Held T.the_row (length (ls n)) b o γ)) ∷ ‵ (flft κ' q') ∷ ‵ (flft κ q) ∷ ‵ Flat ∷ ‵ (flft κo qo) ∷ ‵ Owners ∷ []) ∵
-      suffices ! _ (ends_at 𝓛 f.ended stayed (f.clauses 𝓛 mem run) (((κ, (κo, (κ', tt))), (q, (qo, (q', tt))), tt, x, at), tt) vunit tt (tt, (tt, (tt, (ls n, tt)))) (tt, (tt, (tt, (length-fills g n ys, tt))))) $ says ! (fills-all g zeroRecord ys) $
+      suffices ! _ (ends_at 𝓛 f.ended stayed (f.clauses 𝓛 mem run) (((κ, (κo, (κ', tt))), (q, (qo, (q', tt))), tt, x, at), tt) vunit tt (tt, (tt, (tt, (ls n, tt)))) (tt, (tt, (tt, (length_fills g n ys, tt))))) $ says ! (fills_all g zero_record ys) $
       nothing ! $ move ! (3 ∷ 0 ∷ []) $ join ! $ move ! (5 ∷ 0 ∷ []) $ join ! $ move ! (3 ∷ 0 ∷ []) $ join ! $ frame ! $
       -- [obs; the borrow; what the flat slice owns; what the slice of owners owns]
-      fjoin ! $ pure_i ! (mut_slice_at T.the_row (record { ref_ptr = (b, o); ghost_name = γ; now = ls n }) at.1.1.1.0) (tt, (tt, tt)) (ap (λ (m : ℕ). slice_val (b, o) m ∷ []) (sym (length-fills g n ys)), subst (Room T.the_row) (sym (length-fills g n ys)) room) $ fjoin ! $
+      fjoin ! $ pure_i ! (mut_slice_at T.the_row (record { ref_ptr = (b, o); ghost_name = γ; now = ls n }) at.1.1.1.0) (tt, (tt, tt)) (ap (λ (m : ℕ). slice_val (b, o) m ∷ []) (sym (length_fills g n ys)), subst (Room T.the_row) (sym (length_fills g n ys)) room) $ fjoin ! $
       nothing ! $ move ! (1 ∷ 0 ∷ []) $ fjoin ! $ owned ! usize (Is usize) (uint_Makes 𝓛 w64) c _ (refl, c-fits) $ fjoin ! $ move ! (2 ∷ 0 ∷ []) $ fjoin ! $ move ! (1 ∷ 0 ∷ []) $ fjoin ! $ frame ! $
       feq_i ! (List Val) (vunit ∷ []) (vunit ∷ []) refl $ done !
 
@@ -211,7 +211,7 @@ module _ {M : Type 1} {𝓤 : Ura M} (𝓛 : Logic 𝓤) (mem : Memory → SProp
         assigns ! (bin ! (load ! (from ! (stop !)) (look ! 5 refl)) (lit ! tt) (scaled_Fits i n size small room.1)) (from ! (stop !)) (store ! 6 refl (tt, scaled_Fits i n size small room.1)) $
         assigns ! (bin ! (load ! (from ! (fld ! refl (stop !))) (look_in ! 10 (sub ! 0 refl (whole !)))) (load ! (from ! (stop !)) (look ! 6 refl)) tt) (from ! (stop !)) (init ! 9 refl (tt, tt)) $
         rewrite ! 9 (λ (p : ℕ). ‵ (fat full_share ty_ptr l₉ 0 (vptr b p))) (sym (place_is size o i)) refl $
-        move ! (4 ∷ []) $ elem_out ! T.the_row (Is T.the_row) (shows 𝓛 T.the_row) (LL.vals T.the_type T'.the_laws) (LL.tells T.the_type T'.the_laws) full_share (ls i) i zeroRecord b o within (λ _.
+        move ! (4 ∷ []) $ elem_out ! T.the_row (Is T.the_row) (shows 𝓛 T.the_row) (LL.vals T.the_type T'.the_laws) (LL.tells T.the_type T'.the_laws) full_share (ls i) i zero_record b o within (λ _.
         -- [records[i]; what it owns; the others; what the record owns; the tokens; what owners owns; what flat owns; _5; _6; _7; _8; _9; …]
         assigns ! (of_opd ! (load ! (from ! (stop !)) (look ! 10 refl))) (from ! (hop ! (look ! 11 refl) (stop !))) (store_raw ! 0 refl ((LL.lawful T.the_type T'.the_laws 𝓛).typed (g i) (w ∷ []) is).0) $
         move ! (1 ∷ []) $ drop ! $ move ! (0 ∷ 2 ∷ 1 ∷ []) $ elem_put ! T.the_row full_share (ls i) i (g i) (w ∷ []) b o within $
@@ -222,7 +222,7 @@ module _ {M : Type 1} {𝓤 : Ura M} (𝓛 : Logic 𝓤) (mem : Memory → SProp
         move ! (1 ∷ []) $ split ! $ move ! (1 ∷ []) $ split ! $ keep ! (3 ∷ 6 ∷ 7 ∷ 8 ∷ 9 ∷ 10 ∷ 2 ∷ 5 ∷ 0 ∷ 4 ∷ 11 ∷ 12 ∷ 13 ∷ 14 ∷ 15 ∷ 16 ∷ 17 ∷ 18 ∷ 19 ∷ 20 ∷ 21 ∷ 22 ∷ 23 ∷ 24 ∷ 25 ∷ 26 ∷ 27 ∷ 28 ∷ []) $ by ! k)))))
       where
         within : i < length (ls i)
-        within = subst (λ (m : ℕ). i < m) (sym (length-fills g i ys)) small
+        within = subst (λ (m : ℕ). i < m) (sym (length_fills g i ys)) small
 
         next_fits : i + 1 < 2 ^ 64
         next_fits = subst (λ (j : ℕ). j < 2 ^ 64) (sym (one_more i)) (lt_of_le_of_lt small room.0)
@@ -237,7 +237,7 @@ module _ {M : Type 1} {𝓤 : Ura M} (𝓛 : Logic 𝓤) (mem : Memory → SProp
         rewrite ! 3 (λ (t : Bool). ‵ (fat full_share ty_bool l₇ 0 (vbool t))) (le-ltb n n (le_refl n)) refl $
         leaves_loop ! (load ! (from ! (stop !)) (look ! 3 refl)) $ exec ! C Λ En mir_of.t-3 (at_ret En Post) $
         assigns ! (of_opd ! (unit_lit !)) (from ! (stop !)) (init ! 14 refl (tt, tt)) $
-        move ! (0 ∷ 15 ∷ 16 ∷ 17 ∷ []) $ closes_slice ! tt T.the_row ys (ls n) (length-fills g n ys) b o $
+        move ! (0 ∷ 15 ∷ 16 ∷ 17 ∷ []) $ closes_slice ! tt T.the_row ys (ls n) (length_fills g n ys) b o $
         -- [obs; the borrow; its token; _5; _6; _7; room for _8; room for _9; flat's token; what flat owns; owners' token; what owners owns; _4; _3; _2; _1; _0; and that each local dies]
         returns ! (look ! 16 refl) $ forget ! 3 refl $ forget ! 4 refl $ forget ! 5 refl $ forget ! 12 refl $ forget ! 13 refl $ forget ! 14 refl $ forget ! 15 refl $ forget ! 16 refl $
         move ! (16 ∷ 17 ∷ []) $ free1 ! $ move ! (15 ∷ 16 ∷ []) $ free1 ! $ move ! (14 ∷ 15 ∷ []) $ free1 ! $ move ! (13 ∷ 14 ∷ []) $ free1 ! $ move ! (12 ∷ 13 ∷ []) $ free1 ! $

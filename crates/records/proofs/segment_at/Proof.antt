@@ -42,7 +42,7 @@ use denote.Triple.Table.{entered, cited}
 use denote.Triple.Walked.{says, Stays, stay_none_slice, stay_none, walk_of, AllGo, Goes-none_slice, Goes-none, Walks, ends_at, walked, walk_Meets}
 use denote.Exit.{yes}
 use Rattle.flat_records.specs.declared.SegmentRecord.{SegmentRecord}
-use Rattle.records.specs.Records.{zeroRecord}
+use Rattle.records.specs.Records.{zero_record}
 use Rattle.flat_records.specs.contracts.SegmentRecord as T
 use Rattle.flat_records.proofs.SegmentRecord.TheLaws as T'
 use Rattle.flat_records.specs.contracts.zero_record as zero
@@ -83,7 +83,7 @@ module _ {M : Type 1} {𝓤 : Ura M} (𝓛 : Logic 𝓤) (mem : Memory → SProp
   x = (record { ref_ptr = (b, o); now = ys }, (i, tt))
 
   abbrev elem : SegmentRecord
-  elem = get_or ys i zeroRecord
+  elem = get_or ys i zero_record
 
   abbrev at : List Val × (List Val × Unit {0})
   at = (slice_val (b, o) (length ys) ∷ [], (vint w64 i ∷ [], tt))
@@ -108,8 +108,8 @@ module _ {M : Type 1} {𝓤 : Ura M} (𝓛 : Logic 𝓤) (mem : Memory → SProp
   asked : ent 𝓤 (emp 𝓤) ((Zero 𝓛 mem run).pre to-zero)
   asked = qed 𝓛 [] ∵ nothing ! $ nothing ! $ join ! $ frame ! $ done !
 
-  said : (r : SegmentRecord) → ent 𝓤 (ensured 𝓛 zero.ended (zero.clauses 𝓛 mem run) tt tt tt r) (fact 𝓤 (r ≡ zeroRecord))
-  said r = ex_e 𝓤 _ (λ ws. snd∗ 𝓤 (sem 𝓛 (lasts zero.ended tt tt ws)) (fact 𝓤 (r ≡ zeroRecord)))
+  said : (r : SegmentRecord) → ent 𝓤 (ensured 𝓛 zero.ended (zero.clauses 𝓛 mem run) tt tt tt r) (fact 𝓤 (r ≡ zero_record))
+  said r = ex_e 𝓤 _ (λ ws. snd∗ 𝓤 (sem 𝓛 (lasts zero.ended tt tt ws)) (fact 𝓤 (r ≡ zero_record)))
 
   module _ (C : Calls 𝓤 H) (Λ : Loops 𝓤 H) (fm : FmC 𝓤 H 𝓛.laws C) (known : Triple 𝓤 (C #flat-records·zero-record) (Zero 𝓛 mem run)) where
     walk : Room T.the_row (length ys) → i < 2 ^ 64 → ent 𝓤 (on_entry 𝓛 f.signature (κ, tt) (q, tt) x at)
@@ -132,11 +132,11 @@ module _ {M : Type 1} {𝓤 : Ura M} (𝓛 : Logic 𝓤) (mem : Memory → SProp
         rewrite ! 6 (λ (p : ℕ). ‵ (fat full_share ty_ptr l₆ 0 (vptr b p))) (sym (place_is size o i)) refl $
         fsplit ! $ drop ! $ fsplit ! $ drop ! $
         looks_slice ! tt T.the_row (Is T.the_row) (shows 𝓛 T.the_row) (LL.vals T.the_type T'.the_laws) (LL.tells T.the_type T'.the_laws) (LL.copy T.the_type T'.the_copy 𝓛) ys b o (λ q'.
-        elem_out ! T.the_row (Is T.the_row) (shows 𝓛 T.the_row) (LL.vals T.the_type T'.the_laws) (LL.tells T.the_type T'.the_laws) q' ys i zeroRecord b o (ltb→lt i (length ys) held) (λ is.
+        elem_out ! T.the_row (Is T.the_row) (shows 𝓛 T.the_row) (LL.vals T.the_type T'.the_laws) (LL.tells T.the_type T'.the_laws) q' ys i zero_record b o (ltb→lt i (length ys) held) (λ is.
         -- [records[i]; what it owns; the others; what shuts; the fractured borrow; what the slice owns; what i owns; _7; …; _6; …; _5; …; _4; …; _3; …; _2; …; _1; …; _0; …]
         assigns ! (of_opd ! (load ! (from ! (hop ! (look ! 9 refl) (stop !))) (look_raw ! 0 refl))) (from ! (stop !)) (init ! 7 refl ((LL.lawful T.the_type T'.the_laws 𝓛).typed elem (mach elem ∷ []) is).0) $
         assigns ! (of_opd ! (load ! (from ! (stop !)) (look ! 7 refl))) (from ! (stop !)) (init ! 21 refl ((LL.lawful T.the_type T'.the_laws 𝓛).typed elem (mach elem ∷ []) is).0) $
-        elem_back ! T.the_row q' ys i zeroRecord (mach elem ∷ []) b o (ltb→lt i (length ys) held) $ shuts_slice ! tt T.the_row q' ys b o $
+        elem_back ! T.the_row q' ys i zero_record (mach elem ∷ []) b o (ltb→lt i (length ys) held) $ shuts_slice ! tt T.the_row q' ys b o $
         -- [the token; the fractured borrow; what the slice owns; what i owns; _7; …; _0; …]
         returns_within ! Post refl (look ! 18 refl) $ forget ! 4 refl $ forget ! 6 refl $ forget ! 8 refl $ forget ! 10 refl $ forget ! 12 refl $ forget ! 14 refl $ forget ! 16 refl $ forget ! 18 refl $
         move ! (18 ∷ 19 ∷ []) $ free1 ! $ move ! (16 ∷ 17 ∷ []) $ free1 ! $ move ! (14 ∷ 15 ∷ []) $ free1 ! $ move ! (12 ∷ 13 ∷ []) $ free1 ! $ move ! (10 ∷ 11 ∷ []) $ free1 ! $ move ! (8 ∷ 9 ∷ []) $ free1 ! $ move ! (6 ∷ 7 ∷ []) $ free1 ! $ move ! (4 ∷ 5 ∷ []) $ free1 ! $ free0 ! $
@@ -145,13 +145,13 @@ module _ {M : Type 1} {𝓤 : Ura M} (𝓛 : Logic 𝓤) (mem : Memory → SProp
         (λ failed. skips ! $ exec ! C Λ ((T'.mir, l₀) ∷ (recs, l₁) ∷ (ty_int w64, l₂) ∷ (ty_int w64, l₃) ∷ (ty_bool, l₄) ∷ (ty_int w64, l₅) ∷ (ty_ptr, l₆) ∷ (T'.mir, l₇) ∷ []) mir_of.t-4 (at_ret ((T'.mir, l₀) ∷ (recs, l₁) ∷ (ty_int w64, l₂) ∷ (ty_int w64, l₃) ∷ (ty_bool, l₄) ∷ (ty_int w64, l₅) ∷ (ty_ptr, l₆) ∷ (T'.mir, l₇) ∷ []) Post) $
         drop ! $ use0 𝓛 (raw ((Zero 𝓛 mem run).pre to-zero)) asked $ calls_at ! fm (Zero 𝓛 mem run) known to-zero (no_more !) (λ w.
         use1 𝓛 (later (some (λ (r : SegmentRecord). (‵ ftrue ⊛ ‵ ((T.the_row).own_val r (w ∷ []))) ⊛ raw (ensured 𝓛 zero.ended (zero.clauses 𝓛 mem run) tt tt tt r)))) (id⊢ 𝓤 _) $ await ! tt $ pick ! (λ r.
-        split ! $ move ! (1 ∷ []) $ use1 𝓛 (raw (fact 𝓤 (r ≡ zeroRecord))) (said r) $ heard ! (r ≡ zeroRecord) (λ e. split ! $ drop ! $
+        split ! $ move ! (1 ∷ []) $ use1 𝓛 (raw (fact 𝓤 (r ≡ zero_record))) (said r) $ heard ! (r ≡ zero_record) (λ e. split ! $ drop ! $
         peeks ! T.the_row (Is T.the_row) (shows 𝓛 T.the_row) r (w ∷ []) (λ is.
         -- [what the result owns; the token; what the slice owns; what i owns; _7; …; _0; …]
         land ! (from ! (stop !)) (init ! 18 refl ((LL.lawful T.the_type T'.the_laws 𝓛).typed r (w ∷ []) is).0) $
         returns ! (look ! 18 refl) $ forget ! 10 refl $ forget ! 12 refl $ forget ! 14 refl $ forget ! 16 refl $ forget ! 18 refl $
         move ! (18 ∷ 19 ∷ []) $ free1 ! $ move ! (16 ∷ 17 ∷ []) $ free1 ! $ move ! (14 ∷ 15 ∷ []) $ free1 ! $ move ! (12 ∷ 13 ∷ []) $ free1 ! $ move ! (10 ∷ 11 ∷ []) $ free1 ! $ move ! (8 ∷ 9 ∷ []) $ free1 ! $ move ! (6 ∷ 7 ∷ []) $ free1 ! $ move ! (4 ∷ 5 ∷ []) $ free1 ! $ free0 ! $
-        keep ! (1 ∷ 2 ∷ 3 ∷ 0 ∷ []) $ by ! (exits r w (e ∙ sym (get_or-eq_default ys zeroRecord (nltb→le i (length ys) failed)))))))))))))))))
+        keep ! (1 ∷ 2 ∷ 3 ∷ 0 ∷ []) $ by ! (exits r w (e ∙ sym (get_or-eq_default ys zero_record (nltb→le i (length ys) failed)))))))))))))))))
 
 module _ {M : Type 1} {𝓤 : Ura M} (𝓛 : Logic 𝓤) (mem : Memory → SProp 𝓤) (run : Routine → Fun 𝓤) where
   open 𝓛 use {H}

@@ -4,7 +4,7 @@ use Prim.Native.Nat.{ℕ, ◌-◌}
 use native.Mathlib.Omega.{arith}
 use lib.ListN.{length, get_or}
 use borrow.Author.Rules.{rules}
-use Rattle.stored.proofs.Begun.{no_true, Begun, begun-none, begun_more, begun-long}
+use Rattle.stored.proofs.Begun.{no_true, Begun, begun_none, begun_more, begun_long}
 use Rattle.replay_build.proofs.begin_owners.Statement.{statement}
 use Rattle.replay_build.proofs.begin_owners.Tie as tie
 
@@ -15,7 +15,7 @@ abbrev decreases-loop : tie.decreases-loop
 decreases-loop owners words i₀ i = length words - i
 
 loop-holds : tie.Need-loop-init invariant-loop decreases-loop
-loop-holds c = begun-none _ _ _ _
+loop-holds c = begun_none _ _ _ _
 
 returns : tie.Need-returns invariant-loop decreases-loop
 returns c = λ e. absurd (no_true e)
@@ -52,7 +52,7 @@ loop-again c =
 returns-3 : tie.Need-returns-3 invariant-loop decreases-loop
 returns-3 c =
     let l = c.before.loop in
-    λ e. record { long = begun-long _ _ _ _ l.i l.invariant (omega arith); same = λ k h. l.invariant.same k (omega arith) }
+    λ e. record { long = begun_long _ _ _ _ l.i l.invariant (omega arith); same = λ k h. l.invariant.same k (omega arith) }
 
 pub begin-owners-spec : {M : Type 1} → statement M
 begin-owners-spec =

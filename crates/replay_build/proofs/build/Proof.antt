@@ -1,5 +1,5 @@
 -- The parts of the words are where the first of them say.
-use Rattle.replay_build.proofs.Building.{case-agrees}
+use Rattle.replay_build.proofs.Building.{case_agrees}
 use borrow.Author.Rules.{rules}
 use Rattle.stored.proofs.Begun.{no_true}
 use Rattle.replay_build.proofs.build.Statement.{statement}
@@ -95,7 +95,7 @@ is-built-from-requires c κs = search rules
 returns-3 : tie.Need-returns-3
 returns-3 c =
     let A = c.before.before.before.before.before.before.before.before.before.before.before.before.before.args in
-    λ e. case-agrees A.input.now A.output.now c.before.before.before.before.before.before.before.before.count.ensures.0 c.before.before.before.before.before.before.count2.ensures.0 (c.is-built-from.ensures e)
+    λ e. case_agrees A.input.now A.output.now c.before.before.before.before.before.before.before.before.count.ensures.0 c.before.before.before.before.before.before.count2.ensures.0 (c.is-built-from.ensures e)
 
 pub build-spec : {M : Type 1} → statement M
 build-spec =

@@ -2,8 +2,8 @@
 use mathlib.Core.Path.{refl, ◌∙◌}
 use mir.Syntax.{w32}
 use mir.Facts.{to_z-of_z}
-use Rattle.dequantize.specs.Judge.{descriptionOf}
-use Rattle.replay_build.proofs.Building.{image-is, built-agrees}
+use Rattle.dequantize.specs.Judge.{description_of}
+use Rattle.replay_build.proofs.Building.{image_is, built_agrees}
 use borrow.Author.Rules.{rules}
 use Rattle.replay_build.proofs.is_built.Statement.{statement}
 use Rattle.replay_build.proofs.is_built.Tie as tie
@@ -82,7 +82,7 @@ returns c =
     let A = c.before.before.before.before.before.before.before.before.before.before.before.before.before.before.before.before.before.before.before.before.before.before.before.before.before.before.before.before.before.before.before.before.before.args in
     let input = A.input.now in
     let word = c.before.before.before.before.before.before.before.before.before.before.before.before.before.before.before.before.before.before.before.before.before.before.before.before.before.before.before.signed_word in
-    λ e. built-agrees input A.output.now (descriptionOf A.counts.now A.starts.now A.deltas.now A.coefficients.now) c.before.before.before.before.before.before.before.before.before.before.before.before.build.ensures (image-is input A.output.now (to_z-of_z {w = w32} {z = word.result} (record { sfits = word.type-inv }) ∙ word.ensures) c.before.before.before.before.before.before.before.before.before.before.before.before.before.before.before.before.before.before.before.before.before.before.before.before.before.float.ensures c.before.before.before.before.before.before.before.before.before.before.before.before.before.before.before.before.before.before.before.before.before.before.before.float2.ensures) refl (c.is-answer.ensures e)
+    λ e. built_agrees input A.output.now (description_of A.counts.now A.starts.now A.deltas.now A.coefficients.now) c.before.before.before.before.before.before.before.before.before.before.before.before.build.ensures (image_is input A.output.now (to_z-of_z {w = w32} {z = word.result} (record { sfits = word.type-inv }) ∙ word.ensures) c.before.before.before.before.before.before.before.before.before.before.before.before.before.before.before.before.before.before.before.before.before.before.before.before.before.float.ensures c.before.before.before.before.before.before.before.before.before.before.before.before.before.before.before.before.before.before.before.before.before.before.before.float2.ensures) refl (c.is-answer.ensures e)
 
 pub is-built-spec : {M : Type 1} → statement M
 is-built-spec =

@@ -1,6 +1,6 @@
 -- The description is that of the words.
-use Rattle.stored.specs.Stored.{float_in, signedIn}
-use Rattle.replay_build.proofs.Building.{taken, words-agree}
+use Rattle.stored.specs.Stored.{float_in, signed_in}
+use Rattle.replay_build.proofs.Building.{taken, words_agree}
 use borrow.Author.Rules.{rules}
 use Rattle.stored.proofs.Begun.{no_true}
 use Rattle.replay_build.proofs.is_built_from.Statement.{statement}
@@ -48,7 +48,7 @@ array-share-prefix-seconds c = search rules
 slice-aggregate-is-built-2 : tie.Need-slice-aggregate-is-built-2
 slice-aggregate-is-built-2 c =
     let A = c.before.before.before.before.before.before.before.before.before.before.before.before.before.before.before.before.before.before.before.before.args in
-    let t = taken (signedIn A.deltas.now) 2048 _ _ c.before.before.before.before.before.before.signeds.ensures c.before.before.before.before.before.before.before.before.before.before.before.before.if2.false in
+    let t = taken (signed_in A.deltas.now) 2048 _ _ c.before.before.before.before.before.before.signeds.ensures c.before.before.before.before.before.before.before.before.before.before.before.before.if2.false in
     search (rules, t)
 
 array-share-prefix-factors : tie.Need-array-share-prefix-factors
@@ -57,7 +57,7 @@ array-share-prefix-factors c = search rules
 slice-aggregate-is-built-3 : tie.Need-slice-aggregate-is-built-3
 slice-aggregate-is-built-3 c =
     let A = c.before.before.before.before.before.before.before.before.before.before.before.before.before.before.before.before.before.before.before.before.before.args in
-    let t = taken (signedIn A.coefficients.now) 1024 _ _ c.before.before.before.before.signeds2.ensures c.before.before.before.before.before.before.before.before.before.before.before.before.if3.false in
+    let t = taken (signed_in A.coefficients.now) 1024 _ _ c.before.before.before.before.signeds2.ensures c.before.before.before.before.before.before.before.before.before.before.before.before.if3.false in
     search (rules, t)
 
 is-built-requires : tie.Need-is-built-requires
@@ -66,7 +66,7 @@ is-built-requires c κs = search rules
 returns-4 : tie.Need-returns-4
 returns-4 c =
     let A = c.before.before.before.before.before.before.before.before.before.before.before.before.before.before.before.before.before.before.before.before.before.before.args in
-    λ e. words-agree A.input.now A.output.now A.counts.now A.starts.now A.deltas.now A.coefficients.now c.before.before.before.before.before.before.before.before.before.before.before.floats2.ensures c.before.before.before.before.before.before.before.before.signeds.ensures c.before.before.before.before.before.signeds2.ensures (c.is-built.ensures e)
+    λ e. words_agree A.input.now A.output.now A.counts.now A.starts.now A.deltas.now A.coefficients.now c.before.before.before.before.before.before.before.before.before.before.before.floats2.ensures c.before.before.before.before.before.before.before.before.signeds.ensures c.before.before.before.before.before.signeds2.ensures (c.is-built.ensures e)
 
 pub is-built-from-spec : {M : Type 1} → statement M
 is-built-from-spec =

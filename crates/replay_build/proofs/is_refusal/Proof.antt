@@ -1,7 +1,7 @@
 -- The two words are the number and the place.
 use mathlib.Core.Path.{sym, ap, ◌∙◌}
 use borrow.Author.Tests.{eqb-true}
-use Rattle.stored.specs.Stored.{refusalWord}
+use Rattle.stored.specs.Stored.{refusal_word}
 use borrow.Author.Rules.{rules}
 use Rattle.stored.proofs.Begun.{no_true}
 use Rattle.replay_build.proofs.is_refusal.Statement.{statement}
@@ -29,7 +29,7 @@ shared-slice-read-result : tie.Need-shared-slice-read-result
 shared-slice-read-result c = search rules
 
 returns-3 : tie.Need-returns-3
-returns-3 c = λ e. record { size = c.before.before.before.before.before.before.if1.false; number = sym (c.before.refusal-word.ensures ∙ ap refusalWord c.before.before.number_of_lem.ensures) ∙ eqb-true _ _ e; at = sym c.before.before.before.before.count.ensures.0 ∙ c.before.before.before.if2.false }
+returns-3 c = λ e. record { size = c.before.before.before.before.before.before.if1.false; number = sym (c.before.refusal-word.ensures ∙ ap refusal_word c.before.before.number_of_lem.ensures) ∙ eqb-true _ _ e; at = sym c.before.before.before.before.count.ensures.0 ∙ c.before.before.before.if2.false }
 
 pub is-refusal-spec : {M : Type 1} → statement M
 is-refusal-spec =

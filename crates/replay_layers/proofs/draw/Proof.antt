@@ -1,7 +1,7 @@
 -- The parts of the words are where the first of them say.
 use lib.ListN.{get_or}
 use Rattle.stored.proofs.Begun.{no_true}
-use Rattle.replay_layers.proofs.Agreeing.{case-agrees}
+use Rattle.replay_layers.proofs.Agreeing.{case_agrees}
 use borrow.Author.Rules.{rules}
 use Rattle.replay_layers.proofs.draw.Statement.{statement}
 use Rattle.replay_layers.proofs.draw.Tie as tie
@@ -142,7 +142,7 @@ returns-4 : tie.Need-returns-4
 returns-4 c =
     let A = c.before.before.before.before.before.before.before.before.before.before.before.before.before.before.before.before.before.before.before.before.before.before.before.before.before.before.before.before.args in
     let input = A.input.now in
-    λ e. case-agrees input A.output.now (get_or input 3 0) (get_or input 4 0) (get_or input 5 0) c.before.before.before.before.before.before.before.before.before.before.before.before.before.before.before.before.before.before.before.before.before.before.before.count.ensures.0 c.before.before.before.before.before.before.before.before.before.before.before.before.before.before.before.before.before.before.before.before.before.count2.ensures.0 c.before.before.before.before.before.before.before.before.before.before.before.before.before.before.before.before.before.before.before.count3.ensures.0 c.before.before.before.before.before.before.before.before.before.before.before.before.floats.ensures (c.draws.ensures e)
+    λ e. case_agrees input A.output.now (get_or input 3 0) (get_or input 4 0) (get_or input 5 0) c.before.before.before.before.before.before.before.before.before.before.before.before.before.before.before.before.before.before.before.before.before.before.before.count.ensures.0 c.before.before.before.before.before.before.before.before.before.before.before.before.before.before.before.before.before.before.before.before.before.count2.ensures.0 c.before.before.before.before.before.before.before.before.before.before.before.before.before.before.before.before.before.before.before.count3.ensures.0 c.before.before.before.before.before.before.before.before.before.before.before.before.floats.ensures (c.draws.ensures e)
 
 pub draw-spec : {M : Type 1} → statement M
 draw-spec =

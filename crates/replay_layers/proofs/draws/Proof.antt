@@ -1,7 +1,7 @@
 -- The channels are those of the words, and agree as they are left.
 use Rattle.draw.specs.Draw.{table_of}
 use Rattle.stored.proofs.Begun.{no_true}
-use Rattle.replay_layers.proofs.Agreeing.{from-channels, drawn-agrees}
+use Rattle.replay_layers.proofs.Agreeing.{from_channels, drawn_agrees}
 use borrow.Author.Rules.{rules}
 use Rattle.replay_layers.proofs.draws.Statement.{statement}
 use Rattle.replay_layers.proofs.draws.Tie as tie
@@ -108,8 +108,8 @@ returns c = λ e. absurd (no_true e)
 returns-2 : tie.Need-returns-2
 returns-2 c =
     let A = c.before.before.before.before.before.before.before.before.before.before.before.before.before.before.before.before.before.before.before.before.before.before.before.before.before.before.before.before.before.before.before.before.args in
-    λ e. drawn-agrees (table_of A.segments.now A.segment-count A.entries.now A.entry-count A.row-starts.now A.height) A.y A.x0 A.n A.before.now A.after.now
-    (from-channels A.n A.before.now c.before.before.before.before.before.before.before.before.before.before.before.before.before.before.before.before.before.before.before.before.before.before.before.before.floats.ensures c.before.before.before.before.before.before.before.before.before.before.before.before.before.before.before.before.before.before.before.before.floats2.ensures c.before.before.before.before.before.before.before.before.before.before.before.before.before.before.before.before.floats3.ensures) c.before.before.before.before.before.before.before.before.before.draw.ensures (c.channels-agree.ensures e)
+    λ e. drawn_agrees (table_of A.segments.now A.segment_count_lem A.entries.now A.entry_count_lem A.row-starts.now A.height) A.y A.x0 A.n A.before.now A.after.now
+    (from_channels A.n A.before.now c.before.before.before.before.before.before.before.before.before.before.before.before.before.before.before.before.before.before.before.before.before.before.before.before.floats.ensures c.before.before.before.before.before.before.before.before.before.before.before.before.before.before.before.before.before.before.before.before.floats2.ensures c.before.before.before.before.before.before.before.before.before.before.before.before.before.before.before.before.floats3.ensures) c.before.before.before.before.before.before.before.before.before.draw.ensures (c.channels-agree.ensures e)
 
 pub draws-spec : {M : Type 1} → statement M
 draws-spec =

@@ -1,6 +1,6 @@
 -- The eight cells are the segment's floats.
 use Rattle.stored.proofs.Begun.{no_true}
-use Rattle.replay_layers.proofs.Agreeing.{made-agrees}
+use Rattle.replay_layers.proofs.Agreeing.{made_agrees}
 use borrow.Author.Rules.{rules}
 use Rattle.replay_layers.proofs.is_made.Statement.{statement}
 use Rattle.replay_layers.proofs.is_made.Tie as tie
@@ -81,7 +81,7 @@ begin-f32-requires : tie.Need-begin-f32-requires
 begin-f32-requires c κs = search rules
 
 returns-5 : tie.Need-returns-5
-returns-5 c = λ e. made-agrees c.before.before.before.before.before.before.before.before.before.before.before.before.before.before.before.before.before.before.before.before.before.before.before.before.before.args.segment c.before.before.before.before.before.before.before.before.before.before.before.before.before.before.before.before.before.before.before.before.before.before.before.before.before.args.output.now c.before.before.before.before.put.ensures (c.begin-f32.ensures e)
+returns-5 c = λ e. made_agrees c.before.before.before.before.before.before.before.before.before.before.before.before.before.before.before.before.before.before.before.before.before.before.before.before.before.args.segment c.before.before.before.before.before.before.before.before.before.before.before.before.before.before.before.before.before.before.before.before.before.before.before.before.before.args.output.now c.before.before.before.before.put.ensures (c.begin-f32.ensures e)
 
 pub is-made-spec : {M : Type 1} → statement M
 is-made-spec =

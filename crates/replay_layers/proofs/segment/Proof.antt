@@ -1,6 +1,6 @@
 -- The floats are those of the words.
 use Rattle.stored.proofs.Begun.{no_true}
-use Rattle.replay_layers.proofs.Agreeing.{segment-agrees}
+use Rattle.replay_layers.proofs.Agreeing.{segment_agrees}
 use borrow.Author.Rules.{rules}
 use Rattle.replay_layers.proofs.segment.Statement.{statement}
 use Rattle.replay_layers.proofs.segment.Tie as tie
@@ -45,7 +45,7 @@ is-added-requires : tie.Need-is-added-requires
 is-added-requires c κs = search rules
 
 returns-2 : tie.Need-returns-2
-returns-2 c = λ e. segment-agrees c.before.before.before.before.before.before.before.before.before.args.input.now c.before.before.before.before.before.before.before.before.before.args.output.now _ c.before.before.before.before.floats.ensures c.before.add-segment.ensures (c.is-added.ensures e)
+returns-2 c = λ e. segment_agrees c.before.before.before.before.before.before.before.before.before.args.input.now c.before.before.before.before.before.before.before.before.before.args.output.now _ c.before.before.before.before.floats.ensures c.before.add-segment.ensures (c.is-added.ensures e)
 
 pub segment-spec : {M : Type 1} → statement M
 segment-spec =

@@ -1,6 +1,6 @@
 -- The row is that of the first 32 words, and the sum that of the definition.
 use Rattle.stored.proofs.Begun.{no_true}
-use Rattle.replay_layers.proofs.Agreeing.{transform-agrees}
+use Rattle.replay_layers.proofs.Agreeing.{transform_agrees}
 use borrow.Author.Rules.{rules}
 use Rattle.replay_layers.proofs.transform.Statement.{statement}
 use Rattle.replay_layers.proofs.transform.Tie as tie
@@ -31,7 +31,7 @@ is-only-float-requires c κs = search rules
 
 returns-2 : tie.Need-returns-2
 returns-2 c =
-    λ e. transform-agrees c.before.before.before.before.before.before.before.before.before.before.before.args.input.now c.before.before.before.before.before.before.before.before.before.before.before.args.output.now _ c.before.sums_at.ensures c.before.before.all-rows.ensures c.before.before.before.before.floats.ensures c.before.before.before.before.before.before.float.ensures (c.is-only-float.ensures e).1
+    λ e. transform_agrees c.before.before.before.before.before.before.before.before.before.before.before.args.input.now c.before.before.before.before.before.before.before.before.before.before.before.args.output.now _ c.before.sums_at.ensures c.before.before.all-rows.ensures c.before.before.before.before.floats.ensures c.before.before.before.before.before.before.float.ensures (c.is-only-float.ensures e).1
 
 pub transform-spec : {M : Type 1} → statement M
 transform-spec =

@@ -1,6 +1,6 @@
 -- The path is that of the words, and the cells are what the walk leaves.
 use Rattle.stored.proofs.Begun.{no_true}
-use Rattle.replay_layers.proofs.Agreeing.{path-is, taken, long-enough, walk-agrees}
+use Rattle.replay_layers.proofs.Agreeing.{path_is, taken, long_enough, walk_agrees}
 use borrow.Author.Rules.{rules}
 use Rattle.replay_layers.proofs.walk.Statement.{statement}
 use Rattle.replay_layers.proofs.walk.Tie as tie
@@ -29,7 +29,7 @@ slice-aggregate-walk-2 : tie.Need-slice-aggregate-walk-2
 slice-aggregate-walk-2 c = search rules
 
 walk-requires : tie.Need-walk-requires
-walk-requires c κs = long-enough c.before.before.before.before.before.before.before.before.before.args.input.now _ 2 _ c.before.before.before.floats.ensures c.before.before.before.before.before.before.if1.false c.before.before.before.before.before.if2.false
+walk-requires c κs = long_enough c.before.before.before.before.before.before.before.before.before.args.input.now _ 2 _ c.before.before.before.floats.ensures c.before.before.before.before.before.before.if1.false c.before.before.before.before.before.if2.false
 
 enum_told : tie.Need-enum-told
 enum_told c = search rules
@@ -53,7 +53,7 @@ returns-5 : tie.Need-returns-5
 returns-5 c =
     let A = c.before.before.before.before.before.before.before.before.before.before.before.before.before.before.before.before.before.args in
     let w = c.before.before.before.before.before.before.before.walk.ensures in
-    λ e. walk-agrees A.input.now A.output.now (path-is A.input.now c.before.before.before.before.before.before.before.before.before.before.before.floats.ensures) w.0 c.before.before.before.before.k.given.1 w.1 c.before.before.if3.false (c.begin-f32.ensures e)
+    λ e. walk_agrees A.input.now A.output.now (path_is A.input.now c.before.before.before.before.before.before.before.before.before.before.before.floats.ensures) w.0 c.before.before.before.before.k.given.1 w.1 c.before.before.if3.false (c.begin-f32.ensures e)
 
 pub walk-spec : {M : Type 1} → statement M
 walk-spec =

@@ -2,7 +2,7 @@
 use Prim.Native.Nat.{◌/◌}
 use native.Mathlib.Omega.{arith}
 use lib.ListN.{length}
-use Rattle.replay_splines.proofs.Agreeing.{first-deltas, one_fewer}
+use Rattle.replay_splines.proofs.Agreeing.{first_deltas, one_fewer}
 use borrow.Author.Rules.{rules}
 use Rattle.stored.proofs.Begun.{no_true}
 use Rattle.replay_splines.proofs.curve.Statement.{statement}
@@ -43,7 +43,7 @@ array-share-prefix-deltas c = search rules
 
 slice-aggregate-is-curve : tie.Need-slice-aggregate-is-curve
 slice-aggregate-is-curve c =
-    let t = first-deltas (length c.before.before.before.before.before.before.before.before.before.before.before.before.args.input.now / 2) _ c.before.before.double-deltas.ensures (omega (arith, c.before.before.before.before.before.before.before.before.if2.false)) in
+    let t = first_deltas (length c.before.before.before.before.before.before.before.before.before.before.before.before.args.input.now / 2) _ c.before.before.double-deltas.ensures (omega (arith, c.before.before.before.before.before.before.before.before.if2.false)) in
     search (rules, t)
 
 is-curve-requires : tie.Need-is-curve-requires

@@ -1,5 +1,5 @@
 -- The parts of the words are where the number of points says.
-use Rattle.replay_splines.proofs.Agreeing.{taken, case-agrees}
+use Rattle.replay_splines.proofs.Agreeing.{taken, case_agrees}
 use Prim.Native.Nat.{◌*◌}
 use native.Mathlib.Omega.{arith}
 use borrow.Author.Rules.{rules}
@@ -84,7 +84,7 @@ is-dequantized-from-requires c κs = search rules
 returns-4 : tie.Need-returns-4
 returns-4 c =
     let A = c.before.before.before.before.before.before.before.before.before.before.before.before.before.before.before.before.before.before.args in
-    λ e. case-agrees A.input.now A.output.now c.before.before.before.before.before.before.before.before.before.before.before.before.before.count.ensures.0 c.before.before.before.before.before.before.before.before.signeds.ensures c.before.before.before.before.signeds2.ensures (c.is-dequantized-from.ensures e)
+    λ e. case_agrees A.input.now A.output.now c.before.before.before.before.before.before.before.before.before.before.before.before.before.count.ensures.0 c.before.before.before.before.before.before.before.before.signeds.ensures c.before.before.before.before.signeds2.ensures (c.is-dequantized-from.ensures e)
 
 pub dequantize-spec : {M : Type 1} → statement M
 dequantize-spec =

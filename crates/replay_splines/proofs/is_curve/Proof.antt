@@ -1,6 +1,6 @@
 -- The start decides.
 use mathlib.Core.Path.{sym, ◌∙◌}
-use Rattle.control_points.proofs.Starts.{start-valid}
+use Rattle.control_points.proofs.Starts.{start_valid}
 use borrow.Author.Rules.{rules}
 use Rattle.stored.proofs.Begun.{no_true}
 use Rattle.replay_splines.proofs.is_curve.Statement.{statement}
@@ -16,7 +16,7 @@ enum-known-start : tie.Need-enum-known-start
 enum-known-start c = search rules
 
 is-curve-from-requires : tie.Need-is-curve-from-requires
-is-curve-from-requires c κs = (start-valid _ _ _ (sym c.before.before.before.starting-point.ensures ∙ c.before.start.given.1), c.before.before.before.before.before.before.requires)
+is-curve-from-requires c κs = (start_valid _ _ _ (sym c.before.before.before.starting-point.ensures ∙ c.before.start.given.1), c.before.before.before.before.before.before.requires)
 
 returns : tie.Need-returns
 returns c = λ e. absurd (no_true e)

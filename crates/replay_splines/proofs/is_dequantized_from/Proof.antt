@@ -1,5 +1,5 @@
 -- The numbers are those of the words.
-use Rattle.replay_splines.proofs.Agreeing.{numbers-agree}
+use Rattle.replay_splines.proofs.Agreeing.{numbers_agree}
 use borrow.Author.Rules.{rules}
 use Rattle.replay_splines.proofs.is_dequantized_from.Statement.{statement}
 use Rattle.replay_splines.proofs.is_dequantized_from.Tie as tie
@@ -28,7 +28,7 @@ is-dequantized-requires c κs = search rules
 returns : tie.Need-returns
 returns c =
     let A = c.before.before.before.before.before.before.before.before.before.args in
-    λ e. numbers-agree A.input.now A.output.now A.deltas.now A.coefficients.now c.before.before.before.before.float.ensures c.before.before.float2.ensures c.before.before.before.before.before.before.given-of.ensures c.before.dequantize.ensures (c.is-dequantized.ensures e)
+    λ e. numbers_agree A.input.now A.output.now A.deltas.now A.coefficients.now c.before.before.before.before.float.ensures c.before.before.float2.ensures c.before.before.before.before.before.before.given-of.ensures c.before.dequantize.ensures (c.is-dequantized.ensures e)
 
 pub is-dequantized-from-spec : {M : Type 1} → statement M
 is-dequantized-from-spec =

@@ -1,7 +1,7 @@
 -- The double deltas were traced, so that their path may be had.
 use mathlib.Core.Path.{sym, ◌∙◌}
-use Rattle.control_points.proofs.Walks.{traced-walk}
-use Rattle.replay_splines.proofs.Agreeing.{path-agrees}
+use Rattle.control_points.proofs.Walks.{traced_walk}
+use Rattle.replay_splines.proofs.Agreeing.{path_agrees}
 use borrow.Author.Rules.{rules}
 use Rattle.stored.proofs.Begun.{no_true}
 use Rattle.replay_splines.proofs.is_path.Statement.{statement}
@@ -20,7 +20,7 @@ slice-aggregate-curve : tie.Need-slice-aggregate-curve
 slice-aggregate-curve c = search rules
 
 curve-requires : tie.Need-curve-requires
-curve-requires c κs = traced-walk _ _ _ _ c.before.before.before.before.before.requires (sym c.before.before.before.trace.ensures ∙ c.before.enum-told2.given.1)
+curve-requires c κs = traced_walk _ _ _ _ c.before.before.before.before.before.requires (sym c.before.before.before.trace.ensures ∙ c.before.enum-told2.given.1)
 
 enum-told-3 : tie.Need-enum-told-3
 enum-told-3 c = search rules
@@ -47,7 +47,7 @@ returns-4 : tie.Need-returns-4
 returns-4 c =
     let A = c.before.before.before.before.before.before.before.before.before.before.before.before.before.args in
     let w = c.before.before.before.before.before.before.before.curve.ensures in
-    λ e. path-agrees A.start A.deltas.now A.output.now w.0 c.before.before.before.before.k.given.1 w.1 c.before.before.if1.false (c.begin-f32.ensures e)
+    λ e. path_agrees A.start A.deltas.now A.output.now w.0 c.before.before.before.before.k.given.1 w.1 c.before.before.if1.false (c.begin-f32.ensures e)
 
 pub is-path-spec : {M : Type 1} → statement M
 is-path-spec =

@@ -28,7 +28,7 @@ returns-2 c =
     let p = c.before.before.before.before.before.before.before.args.point in
     let x = to_z-of_z {w = w32} {z = p.x} (record { sfits = c.before.before.before.before.before.before.struct_told.given.0.1 }) in
     let y = to_z-of_z {w = w32} {z = p.y} (record { sfits = c.before.before.struct-told2.given.1.0.1 }) in
-    λ e. record { x-is = sym (rw x at c.before.before.before.before.before.nearest-i32-to-f32.ensures) ∙ c.before.before.before.before.is-float.ensures (not-false _ c.before.before.before.if1.false); y-is = sym (rw y at c.before.nearest-i32-to-f322.ensures) ∙ c.is-float2.ensures e }
+    λ e. record { x_is = sym (rw x at c.before.before.before.before.before.nearest-i32-to-f32.ensures) ∙ c.before.before.before.before.is-float.ensures (not-false _ c.before.before.before.if1.false); y_is = sym (rw y at c.before.nearest-i32-to-f322.ensures) ∙ c.is-float2.ensures e }
 
 pub is-point-spec : {M : Type 1} → statement M
 is-point-spec =

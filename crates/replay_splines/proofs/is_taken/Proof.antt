@@ -1,6 +1,6 @@
 -- The control points and the rest agree.
 use borrow.Author.Tests.{not-false}
-use Rattle.replay_splines.proofs.Agreeing.{taken-agrees}
+use Rattle.replay_splines.proofs.Agreeing.{taken_agrees}
 use borrow.Author.Rules.{rules}
 use Rattle.stored.proofs.Begun.{no_true}
 use Rattle.replay_splines.proofs.is_taken.Statement.{statement}
@@ -58,7 +58,7 @@ is-finished-requires : tie.Need-is-finished-requires
 is-finished-requires c κs = search rules
 
 returns-4 : tie.Need-returns-4
-returns-4 c = λ e. taken-agrees _ _ _ _ _ c.before.before.before.before.before.before.count.ensures.0 (c.before.before.before.points-agree-from.ensures (not-false _ c.before.before.if3.false)) (c.is-finished.ensures e)
+returns-4 c = λ e. taken_agrees _ _ _ _ _ c.before.before.before.before.before.before.count.ensures.0 (c.before.before.before.points-agree-from.ensures (not-false _ c.before.before.if3.false)) (c.is-finished.ensures e)
 
 pub is-taken-spec : {M : Type 1} → statement M
 is-taken-spec =

@@ -4,22 +4,22 @@ use mathlib.Core.Bool.{true}
 use Prim.Native.Nat.{◌-◌, ◌/◌}
 use native.Mathlib.Omega.{arith}
 use lib.ListN.{length}
-use Rattle.control_points.specs.ControlPoints.{validPointPos}
+use Rattle.control_points.specs.ControlPoints.{valid_point_pos}
 use borrow.Author.Tests.{not-false}
-use Rattle.replay_splines.proofs.Agreeing.{led-length, Led, led-none, led-more, led-all}
+use Rattle.replay_splines.proofs.Agreeing.{led_length, Led, led_none, led_more, led_all}
 use borrow.Author.Rules.{rules}
 use Rattle.stored.proofs.Begun.{no_true}
 use Rattle.replay_splines.proofs.points_agree.Statement.{statement}
 use Rattle.replay_splines.proofs.points_agree.Tie as tie
 
 abbrev invariant-loop : tie.invariant-loop
-invariant-loop start deltas limit points k₀ k = Led limit start deltas points k × (validPointPos start ≡ true)
+invariant-loop start deltas limit points k₀ k = Led limit start deltas points k × (valid_point_pos start ≡ true)
 
 abbrev decreases-loop : tie.decreases-loop
 decreases-loop start deltas limit points k₀ k = length points / 2 - k
 
 loop-holds : tie.Need-loop-init invariant-loop decreases-loop
-loop-holds c = (led-none _ _ _ _, c.before.requires)
+loop-holds c = (led_none _ _ _ _, c.before.requires)
 
 returns : tie.Need-returns invariant-loop decreases-loop
 returns c = λ e. absurd (no_true e)
@@ -30,7 +30,7 @@ mul-leads-to c = search rules
 slice-aggregate-leads-to : tie.Need-slice-aggregate-leads-to invariant-loop decreases-loop
 slice-aggregate-leads-to c =
     let l = c.before.before.before.loop in
-    let t = led-length c.before.before.before.before.before.args.deltas.now l.k c.before.if1.false in
+    let t = led_length c.before.before.before.before.before.args.deltas.now l.k c.before.if1.false in
     search (rules, t)
 
 mul-leads-to-2 : tie.Need-overflow-mul-leads-to-2 invariant-loop decreases-loop
@@ -69,10 +69,10 @@ loop-less c = omega arith
 loop-again : tie.Need-loop-preserved invariant-loop decreases-loop
 loop-again c =
     let l = c.before.before.before.before.before.before.before.loop in
-    (led-more _ _ _ _ l.k l.invariant.0 (omega arith) (c.before.leads-to.ensures (not-false _ c.if2.false)), l.invariant.1)
+    (led_more _ _ _ _ l.k l.invariant.0 (omega arith) (c.before.leads-to.ensures (not-false _ c.if2.false)), l.invariant.1)
 
 returns-3 : tie.Need-returns-3 invariant-loop decreases-loop
-returns-3 c = λ e. led-all _ _ _ _ c.before.loop.k c.before.loop.invariant.0 (omega arith)
+returns-3 c = λ e. led_all _ _ _ _ c.before.loop.k c.before.loop.invariant.0 (omega arith)
 
 pub points-agree-spec : {M : Type 1} → statement M
 points-agree-spec =

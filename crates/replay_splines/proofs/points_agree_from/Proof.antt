@@ -1,6 +1,6 @@
 -- The start decides.
 use mathlib.Core.Path.{sym, ◌∙◌}
-use Rattle.control_points.proofs.Starts.{start-valid}
+use Rattle.control_points.proofs.Starts.{start_valid}
 use Rattle.replay_splines.proofs.Agreeing.{from_start}
 use borrow.Author.Rules.{rules}
 use Rattle.stored.proofs.Begun.{no_true}
@@ -17,7 +17,7 @@ enum-known-start : tie.Need-enum-known-start
 enum-known-start c = search rules
 
 points-agree-requires : tie.Need-points-agree-requires
-points-agree-requires c κs = start-valid _ _ _ (sym c.before.before.before.starting-point.ensures ∙ c.before.start.given.1)
+points-agree-requires c κs = start_valid _ _ _ (sym c.before.before.before.starting-point.ensures ∙ c.before.start.given.1)
 
 returns : tie.Need-returns
 returns c = λ e. absurd (no_true e)

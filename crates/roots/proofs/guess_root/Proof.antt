@@ -13,7 +13,7 @@ use mir.Val.{Fits, hbits}
 use mir.Facts.{to_z_pos}
 use Rattle.numbers.proofs.Zero.{yes}
 use Rattle.numbers.proofs.Units.{castable}
-use Rattle.roots.proofs.Roots.{product-fits}
+use Rattle.roots.proofs.Roots.{product_fits}
 use Rattle.roots.proofs.guess_root.Statement.{statement}
 use Rattle.roots.proofs.guess_root.Tie as tie
 
@@ -42,7 +42,7 @@ mul-if2 : tie.Need-overflow-mul-if2
 mul-if2 c = go _
   where
     go : (b : ℕ) → Fits w64 (b % 16777216 * (b % 16777216))
-    go b = omega (arith, product-fits (b % 16777216) (omega arith))
+    go b = omega (arith, product_fits (b % 16777216) (omega arith))
 
 add-result : tie.Need-overflow-add-result
 add-result c = search rules

@@ -5,29 +5,29 @@ use Prim.Native.Nat.{zero, suc}
 use borrow.Author.Rules.{rules}
 use lib.Dec.{T, T_not}
 use lib.Ieee.{Float, nan, inf, fin, binary32, of_bits, div, lt}
-use Rattle.numbers.proofs.Zero.{yes, no, null, over, under, not-under, zero-not-under, above}
-use Rattle.roots.specs.Root.{sqrtOf}
+use Rattle.numbers.proofs.Zero.{yes, no, null, over, under, not_under, zero_not_under, above}
+use Rattle.roots.specs.Root.{sqrt_of}
 use Rattle.roots.proofs.root.Statement.{statement}
 use Rattle.roots.proofs.root.Tie as tie
 
-endless : (x : Float) → T (lt null x) → T (not (lt x (inf false))) → x ≡ sqrtOf binary32 x
-unfolding lt sqrtOf
+endless : (x : Float) → T (lt null x) → T (not (lt x (inf false))) → x ≡ sqrt_of binary32 x
+unfolding lt sqrt_of
 endless nan a b = absurd a
 endless (inf true) a b = absurd a
 endless (inf false) a b = refl
 endless (fin s m e) a b = absurd b
 
-negative : (x : Float) → T (lt x null) → nan ≡ sqrtOf binary32 x
-unfolding lt sqrtOf
+negative : (x : Float) → T (lt x null) → nan ≡ sqrt_of binary32 x
+unfolding lt sqrt_of
 negative nan a = absurd a
 negative (inf true) a = refl
 negative (inf false) a = absurd a
-negative (fin s zero e) a = absurd (zero-not-under s e a)
-negative (fin false (suc m) e) a = absurd (not-under (suc m) e a)
+negative (fin s zero e) a = absurd (zero_not_under s e a)
+negative (fin false (suc m) e) a = absurd (not_under (suc m) e a)
 negative (fin true (suc m) e) a = refl
 
-rest : (x : Float) → T (not (lt null x)) → T (not (lt x null)) → x ≡ sqrtOf binary32 x
-unfolding lt sqrtOf
+rest : (x : Float) → T (not (lt null x)) → T (not (lt x null)) → x ≡ sqrt_of binary32 x
+unfolding lt sqrt_of
 rest nan a b = refl
 rest (inf true) a b = absurd b
 rest (inf false) a b = refl

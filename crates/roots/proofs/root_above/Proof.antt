@@ -9,8 +9,8 @@ use lib.Dec.{lit≤}
 use lib.IntN.{pos}
 use lib.Ieee.{Float, binary32, mul, of_int}
 use Rattle.numbers.proofs.Units.{castable}
-use Rattle.roots.specs.Root.{nearestRoot}
-use Rattle.roots.proofs.Laid.{tOf, z-lo, z-hi, exact, n-hi, small-enough, w-hi, rooted}
+use Rattle.roots.specs.Root.{nearest_root}
+use Rattle.roots.proofs.Laid.{t_of, z_lo, z_hi, exact, n_hi, small_enough, w_hi, rooted}
 use Rattle.roots.proofs.root_above.Statement.{statement}
 use Rattle.roots.proofs.root_above.Tie as tie
 
@@ -24,10 +24,10 @@ abbrev e : tie.After-split-f32 → ℕ
 e c = c.split-f32.result.e
 
 low : (c : tie.After-split-f32) → 40 ≤ count_leading_zeros 64 (m c)
-low c = z-lo (x c) (m c) (e c) c.split-f32.ensures
+low c = z_lo (x c) (m c) (e c) c.split-f32.ensures
 
 high : (c : tie.After-split-f32) → count_leading_zeros 64 (m c) ≤ 63
-high c = z-hi (x c) (m c) (e c) c.split-f32.ensures
+high c = z_hi (x c) (m c) (e c) c.split-f32.ensures
 
 split-f32-requires : tie.Need-split-f32-requires
 split-f32-requires c κs = search rules
@@ -52,26 +52,26 @@ shl-nearest-root c = omega (arith, high c)
 
 -- the number whose root is taken
 abbrev n : tie.After-split-f32 → ℕ
-n c = m c * 2 ^ tOf (e c) (count_leading_zeros 64 (m c))
+n c = m c * 2 ^ t_of (e c) (count_leading_zeros 64 (m c))
 
-n-is : (c : tie.After-split-f32) → n c % 2 ^ 64 ≡ n c
-n-is c = exact (x c) (m c) (e c) c.split-f32.ensures
+n_is : (c : tie.After-split-f32) → n c % 2 ^ 64 ≡ n c
+n_is c = exact (x c) (m c) (e c) c.split-f32.ensures
 
 nearest-root-requires : tie.Need-nearest-root-requires
-nearest-root-requires c κs = subst (λ (k : ℕ). k < 281474976710656) (sym (n-is c)) (n-hi (x c) (m c) (e c) c.split-f32.ensures)
+nearest-root-requires c κs = subst (λ (k : ℕ). k < 281474976710656) (sym (n_is c)) (n_hi (x c) (m c) (e c) c.split-f32.ensures)
 
-q-is : (c : tie.After-nearest-root) → c.nearest-root.result ≡ nearestRoot (n c.before)
-q-is c = c.nearest-root.ensures ∙ ap nearestRoot (n-is c.before)
+q-is : (c : tie.After-nearest-root) → c.nearest-root.result ≡ nearest_root (n c.before)
+q-is c = c.nearest-root.ensures ∙ ap nearest_root (n_is c.before)
 
 int-to-float-result : tie.Need-int-to-float-result
 int-to-float-result c =
     let s = c.before.before in
-    castable binary32 c.before.nearest-root.result (subst (λ (k : ℕ). k ≤ 16777216) (sym (q-is c.before)) (small-enough (x s) (m s) (e s) s.split-f32.ensures))
+    castable binary32 c.before.nearest-root.result (subst (λ (k : ℕ). k ≤ 16777216) (sym (q-is c.before)) (small_enough (x s) (m s) (e s) s.split-f32.ensures))
 
 scale-requires : tie.Need-scale-requires
 scale-requires c κs =
     let s = c.before.before in
-    lt_of_lt_of_le (w-hi (x s) (m s) (e s) s.split-f32.ensures) (lit≤ tt)
+    lt_of_lt_of_le (w_hi (x s) (m s) (e s) s.split-f32.ensures) (lit≤ tt)
 
 returns : tie.Need-returns
 returns c =

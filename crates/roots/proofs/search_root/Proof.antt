@@ -4,7 +4,7 @@ use Prim.Native.Nat.{ℕ, ◌+◌, ◌-◌, ◌*◌, ◌/◌, ◌≤◌, ◌<◌
 use native.Mathlib.Omega.{arith}
 use mir.Syntax.{w64}
 use mir.Val.{Fits}
-use Rattle.roots.proofs.Roots.{product-fits}
+use Rattle.roots.proofs.Roots.{product_fits}
 use Rattle.roots.proofs.search_root.Statement.{statement}
 use Rattle.roots.proofs.search_root.Tie as tie
 
@@ -29,7 +29,7 @@ add-mid c = omega arith
 mul-if1 : tie.Need-overflow-mul-if1 invariant-loop decreases-loop
 mul-if1 c =
     let l = c.before.loop in
-    go ((l.lo + (l.hi - l.lo) / 2) * (l.lo + (l.hi - l.lo) / 2)) (product-fits (l.lo + (l.hi - l.lo) / 2) (omega arith))
+    go ((l.lo + (l.hi - l.lo) / 2) * (l.lo + (l.hi - l.lo) / 2)) (product_fits (l.lo + (l.hi - l.lo) / 2) (omega arith))
   where
     go : (p : ℕ) → p ≤ 281474976710656 → Fits w64 p
     go p h = omega arith

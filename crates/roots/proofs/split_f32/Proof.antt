@@ -8,9 +8,9 @@ use lib.Bits.{bit_and, and_mask, mask_lt}
 use lib.Ieee.{binary32, fits, to_bits}
 use mir.Syntax.{w64}
 use mir.Val.{Fits}
-use Rattle.numbers.proofs.Zero.{yes, positive-is}
+use Rattle.numbers.proofs.Zero.{yes, positive_is}
 use Rattle.to_f32.specs.Digits.{Split}
-use Rattle.to_f32.proofs.Pattern.{low-split, high-split}
+use Rattle.to_f32.proofs.Pattern.{low_split, high_split}
 use Rattle.roots.proofs.split_f32.Statement.{statement}
 use Rattle.roots.proofs.split_f32.Tie as tie
 
@@ -18,7 +18,7 @@ held : (c : tie.Start) → T (fits binary32 c.args.x)
 held c = yes c.well-formed.0.1
 
 float-to-bits-b : tie.Need-float-to-bits-b
-float-to-bits-b c = positive-is c.args.x c.requires
+float-to-bits-b c = positive_is c.args.x c.requires
 
 narrow : (b : ℕ) → Fits w64 (bit_and b 8388607)
 narrow b = go (bit_and b 8388607) (mask_lt b 23)
@@ -44,12 +44,12 @@ sub-t10 c = search rules
 returns : tie.Need-returns
 returns c =
     let x = c.before.args.x in
-    subst (λ (d : ℕ). Split binary32 x d 0) (sym (and_mask (to_bits binary32 x) 23)) (low-split binary32 x (held c.before) c.before.requires c.if1.true)
+    subst (λ (d : ℕ). Split binary32 x d 0) (sym (and_mask (to_bits binary32 x) 23)) (low_split binary32 x (held c.before) c.before.requires c.if1.true)
 
 returns-2 : tie.Need-returns-2
 returns-2 c =
     let x = c.before.args.x in
-    subst (λ (d : ℕ). Split binary32 x (d + 8388608) (to_bits binary32 x / 8388608 - 1)) (sym (and_mask (to_bits binary32 x) 23)) (high-split binary32 x (held c.before) c.before.requires c.if1.false)
+    subst (λ (d : ℕ). Split binary32 x (d + 8388608) (to_bits binary32 x / 8388608 - 1)) (sym (and_mask (to_bits binary32 x) 23)) (high_split binary32 x (held c.before) c.before.requires c.if1.false)
 
 pub split-f32-spec : {M : Type 1} → statement M
 split-f32-spec = tie.close (tie.spec float-to-bits-b cast-t7 cast-t8 add-t9 sub-t10 returns returns-2)

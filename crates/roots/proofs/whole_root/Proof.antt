@@ -5,7 +5,7 @@ use native.Mathlib.Omega.{arith}
 use borrow.Author.Rules.{rules}
 use mir.Syntax.{w64}
 use mir.Val.{Fits}
-use Rattle.roots.proofs.Roots.{product-fits}
+use Rattle.roots.proofs.Roots.{product_fits}
 use Rattle.roots.proofs.whole_root.Statement.{statement}
 use Rattle.roots.proofs.whole_root.Tie as tie
 
@@ -13,7 +13,7 @@ guess-root-requires : tie.Need-guess-root-requires
 guess-root-requires c κs = search rules
 
 mul-if1 : tie.Need-overflow-mul-if1
-mul-if1 c = go (c.guess-root.result * c.guess-root.result) (product-fits c.guess-root.result (le_of_lt c.guess-root.ensures))
+mul-if1 c = go (c.guess-root.result * c.guess-root.result) (product_fits c.guess-root.result (le_of_lt c.guess-root.ensures))
   where
     go : (p : ℕ) → p ≤ 281474976710656 → Fits w64 p
     go p h = omega arith

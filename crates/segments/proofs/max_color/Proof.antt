@@ -1,5 +1,5 @@
 -- `max_color` meets its contract: its calls' results, put in one after another.
-use Rattle.segments.specs.Segment.{maxColor}
+use Rattle.segments.specs.Segment.{max_color}
 use borrow.Author.Rules.{rules}
 use Rattle.segments.proofs.max_color.Statement.{statement}
 use Rattle.segments.proofs.max_color.Tie as tie
@@ -26,7 +26,7 @@ top-requires-3 : tie.Need-top-requires-3
 top-requires-3 c κs = search rules
 
 returns : tie.Need-returns
-unfolding maxColor
+unfolding max_color
 returns c =
     rw (
       c.top3.ensures,

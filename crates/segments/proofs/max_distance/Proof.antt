@@ -3,8 +3,8 @@ use mathlib.Core.Path.{◌≡◌, refl}
 use lib.Ieee.{of_bits, to_bits, of_int, add, sub, mul, div, lt, neg}
 use Rattle.numbers.specs.Arith.{f}
 use Rattle.to_f32.specs.Narrow.{narrow}
-use Rattle.approximations.specs.Ln.{lnOf, lnAbove, lnAt}
-use Rattle.segments.specs.Segment.{maxDistance}
+use Rattle.approximations.specs.Ln.{ln_of, ln_above, ln_at}
+use Rattle.segments.specs.Segment.{max_distance}
 use borrow.Author.Rules.{rules}
 use Rattle.segments.proofs.max_distance.Statement.{statement}
 use Rattle.segments.proofs.max_distance.Tie as tie
@@ -19,12 +19,12 @@ root-requires : tie.Need-root-requires
 root-requires c κs = search rules
 
 -- the code's literal
-ln-tenth : lnOf (f 0x3dcccccd) ≡ neg (f 0x40135d8e)
-unfolding lnOf lnAbove lnAt narrow of_bits to_bits of_int add sub mul div lt neg
+ln-tenth : ln_of (f 0x3dcccccd) ≡ neg (f 0x40135d8e)
+unfolding ln_of ln_above ln_at narrow of_bits to_bits of_int add sub mul div lt neg
 ln-tenth = refl
 
 returns : tie.Need-returns
-unfolding maxDistance
+unfolding max_distance
 returns c = rw (c.root.ensures, c.before.ln.ensures, c.before.before.distance-exp.ensures, ln-tenth)
 
 pub max-distance-spec : {M : Type 1} → statement M

@@ -4,24 +4,24 @@ use Prim.Native.Nat.{◌-◌, ◌<◌, ◌≤◌, zero-le}
 use native.Mathlib.Omega.{arith}
 use lib.ListN.{length, get_or, length-set}
 use lib.Ieee.{nan}
-use Rattle.shade.specs.Edit.{edit, firstCells}
-use Rattle.shade.specs.Shade.{shadedByIntensity}
-use Rattle.shade.proofs.Edits.{edit-none, edit-all, stored}
+use Rattle.shade.specs.Edit.{edit, first_cells}
+use Rattle.shade.specs.Shade.{shaded_by_intensity}
+use Rattle.shade.proofs.Edits.{edit_none, edit_all, stored}
 use Rattle.shade.proofs.add.Statement.{statement}
 use Rattle.shade.proofs.add.Tie as tie
 
 abbrev invariant-loop : tie.invariant-loop
 invariant-loop segment locals r0₀ r1₀ r2₀ k₀ r0 r1 r2 k =
     (k ≤ length r0₀) × (length r0₀ ≤ 32) × (length r0 ≡ length r0₀) × (length r1 ≡ length r0₀) × (length r2 ≡ length r0₀)
-    × (r0 ≡ edit (firstCells k (λ j v. shadedByIntensity segment (get_or locals j nan) 0 v)) r0₀)
-    × (r1 ≡ edit (firstCells k (λ j v. shadedByIntensity segment (get_or locals j nan) 1 v)) r1₀)
-    × (r2 ≡ edit (firstCells k (λ j v. shadedByIntensity segment (get_or locals j nan) 2 v)) r2₀)
+    × (r0 ≡ edit (first_cells k (λ j v. shaded_by_intensity segment (get_or locals j nan) 0 v)) r0₀)
+    × (r1 ≡ edit (first_cells k (λ j v. shaded_by_intensity segment (get_or locals j nan) 1 v)) r1₀)
+    × (r2 ≡ edit (first_cells k (λ j v. shaded_by_intensity segment (get_or locals j nan) 2 v)) r2₀)
 
 abbrev decreases-loop : tie.decreases-loop
 decreases-loop segment locals r0₀ r1₀ r2₀ k₀ r0 r1 r2 k = length r0₀ - k
 
 loop-holds : tie.Need-loop-init invariant-loop decreases-loop
-loop-holds c = (zero-le, c.requires.0, refl, c.requires.1, c.requires.2, edit-none _ _, edit-none _ _, edit-none _ _)
+loop-holds c = (zero-le, c.requires.0, refl, c.requires.1, c.requires.2, edit_none _ _, edit_none _ _, edit_none _ _)
 
 mul-local : tie.Need-overflow-mul-local invariant-loop decreases-loop
 mul-local c =
@@ -104,7 +104,7 @@ loop-less c =
     omega (arith, c.before.before.before.before.before.before.before.loop-test.true, l.invariant.0, l.invariant.2)
 
 loop-again : tie.Need-loop-preserved invariant-loop decreases-loop
-unfolding shadedByIntensity
+unfolding shaded_by_intensity
 loop-again c =
     let S = c.before.before.before.before.before.before.before.before.before in
     let l = c.before.before.before.before.before.before.before.before.loop in
@@ -133,7 +133,7 @@ returns c =
     let S = c.before.before in
     let l = c.before.loop in
     let h : length S.args.r0.now ≤ l.k = omega (arith, c.loop-test.false, l.invariant.2) in
-    (l.invariant.5 ∙ edit-all _ _ _ h, (l.invariant.6 ∙ edit-all _ _ _ (omega (arith, h, S.requires.1)), l.invariant.7 ∙ edit-all _ _ _ (omega (arith, h, S.requires.2))))
+    (l.invariant.5 ∙ edit_all _ _ _ h, (l.invariant.6 ∙ edit_all _ _ _ (omega (arith, h, S.requires.1)), l.invariant.7 ∙ edit_all _ _ _ (omega (arith, h, S.requires.2))))
 
 pub add_spec : {M : Type 1} → statement M
 add_spec =

@@ -2,7 +2,7 @@
 use borrow.Author.Rules.{rules}
 use lib.Ieee.{of_bits}
 use Rattle.numbers.proofs.Zero.{yes}
-use Rattle.shade.proofs.Erfs.{erf-alike}
+use Rattle.shade.proofs.Erfs.{erf_alike}
 use Rattle.shade.proofs.erf.Statement.{statement}
 use Rattle.shade.proofs.erf.Tie as tie
 
@@ -17,7 +17,7 @@ turned-requires-2 c κs = search rules
 
 returns : tie.Need-returns
 unfolding of_bits
-returns c = erf-alike c.before.before.before.args.x _ _ _ (yes c.before.before.before.well-formed.0.1) c.before.before.turned.ensures c.before.erf-core.ensures c.turned2.ensures
+returns c = erf_alike c.before.before.before.args.x _ _ _ (yes c.before.before.before.well-formed.0.1) c.before.before.turned.ensures c.before.erf-core.ensures c.turned2.ensures
 
 pub erf-spec : {M : Type 1} → statement M
 erf-spec = tie.close (tie.spec turned-requires erf-core-requires turned-requires-2 returns)

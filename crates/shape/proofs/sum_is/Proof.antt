@@ -6,7 +6,7 @@ use borrow.Author.Rules.{rules}
 use borrow.Author.Tests.{ne_eqb}
 use lib.ListN.{length, drop}
 use Rattle.shape.specs.Shape.{points_of}
-use Rattle.shape.proofs.Shape.{sum-turn, sum-end, sum_left}
+use Rattle.shape.proofs.Shape.{sum_turn, sum_end, sum_left}
 use Rattle.shape.proofs.sum_is.Statement.{statement}
 use Rattle.shape.proofs.sum_is.Tie as tie
 
@@ -32,7 +32,7 @@ returns : tie.Need-returns invariant-loop decreases-loop
 returns c =
     let a = c.before.before.before.before.args in
     let v = c.before.before.before.loop in
-    sym (ne_eqb (points_of a.counts.now) a.points (λ e. omega (arith, sum-turn a.counts.now v.i (omega arith))))
+    sym (ne_eqb (points_of a.counts.now) a.points (λ e. omega (arith, sum_turn a.counts.now v.i (omega arith))))
 
 add-i : tie.Need-overflow-add-i invariant-loop decreases-loop
 add-i c = search rules
@@ -44,13 +44,13 @@ loop-again : tie.Need-loop-preserved invariant-loop decreases-loop
 loop-again c =
     let a = c.before.before.before.before.args in
     let v = c.before.before.before.loop in
-    omega (arith, sum-turn a.counts.now v.i (omega arith))
+    omega (arith, sum_turn a.counts.now v.i (omega arith))
 
 returns-2 : tie.Need-returns-2 invariant-loop decreases-loop
 returns-2 c =
     let a = c.before.before.args in
     let v = c.before.loop in
-    sum_left a.counts.now a.points v.left v.invariant.1 (rw (sum-end a.counts.now v.i (omega arith)) at v.invariant.2)
+    sum_left a.counts.now a.points v.left v.invariant.1 (rw (sum_end a.counts.now v.i (omega arith)) at v.invariant.2)
 
 pub sum-is-spec : {M : Type 1} → statement M
 sum-is-spec =

@@ -4,7 +4,7 @@ use mathlib.Core.Bool.{true, false}
 use native.Mathlib.Omega.{arith}
 use borrow.Author.Rules.{rules}
 use Rattle.desks.specs.Desks.{sight_of}
-use Rattle.singles.proofs.Singles.{hidden-kept, hidden-counts, shown-drawn, shown-counts}
+use Rattle.singles.proofs.Singles.{hidden_kept, hidden_counts, shown_drawn, shown_counts}
 use Rattle.singles.proofs.draw_shown.Statement.{statement}
 use Rattle.singles.proofs.draw_shown.Tie as tie
 
@@ -17,8 +17,8 @@ returns c =
     let s = sight_of A.owners.now A.splines A.bits.now A.desk in
     let t : c.before.hidden.result ≡ true = c.if1.true in
     let h = sym c.before.hidden.ensures ∙ t in (
-      omega (arith, hidden-counts s A.segments.now A.y A.x0 A.n A.i h),
-      (hidden-kept s A.segments.now A.y A.x0 A.n A.i 0 A.r0.now h, (hidden-kept s A.segments.now A.y A.x0 A.n A.i 1 A.r1.now h, hidden-kept s A.segments.now A.y A.x0 A.n A.i 2 A.r2.now h)),
+      omega (arith, hidden_counts s A.segments.now A.y A.x0 A.n A.i h),
+      (hidden_kept s A.segments.now A.y A.x0 A.n A.i 0 A.r0.now h, (hidden_kept s A.segments.now A.y A.x0 A.n A.i 1 A.r1.now h, hidden_kept s A.segments.now A.y A.x0 A.n A.i 2 A.r2.now h)),
     )
 
 draw-segment-requires : tie.Need-draw-segment-requires
@@ -40,10 +40,10 @@ returns-2 c =
     let t : c.before.before.before.before.before.before.before.before.before.before.before.hidden.result ≡ false = c.before.before.before.before.before.before.before.before.before.before.if1.false in
     let h = sym c.before.before.before.before.before.before.before.before.before.before.before.hidden.ensures ∙ t in
     let e = c.before.before.before.before.before.before.draw-segment.ensures in (
-      shown-counts s A.segments.now A.y A.x0 A.n A.i h e.0,
+      shown_counts s A.segments.now A.y A.x0 A.n A.i h e.0,
       (
-        shown-drawn s A.segments.now A.y A.x0 A.n A.i 0 _ _ h e.1.0,
-        (shown-drawn s A.segments.now A.y A.x0 A.n A.i 1 _ _ h e.1.1.0, shown-drawn s A.segments.now A.y A.x0 A.n A.i 2 _ _ h e.1.1.1),
+        shown_drawn s A.segments.now A.y A.x0 A.n A.i 0 _ _ h e.1.0,
+        (shown_drawn s A.segments.now A.y A.x0 A.n A.i 1 _ _ h e.1.1.0, shown_drawn s A.segments.now A.y A.x0 A.n A.i 2 _ _ h e.1.1.1),
       ),
     )
 

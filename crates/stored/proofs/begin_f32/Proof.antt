@@ -6,7 +6,7 @@ use lib.ListN.{length}
 use borrow.Author.Rules.{rules}
 use borrow.Author.Tests.{not-false}
 use Rattle.stored.specs.Stored.{float_in}
-use Rattle.stored.proofs.Begun.{no_true, Begun, begun-none, begun_more, begun-long}
+use Rattle.stored.proofs.Begun.{no_true, Begun, begun_none, begun_more, begun_long}
 use Rattle.stored.proofs.begin_f32.Statement.{statement}
 use Rattle.stored.proofs.begin_f32.Tie as tie
 
@@ -17,7 +17,7 @@ abbrev decreases-loop : tie.decreases-loop
 decreases-loop values words i₀ i = length words - i
 
 loop-holds : tie.Need-loop-init invariant-loop decreases-loop
-loop-holds c = begun-none _ _ _ _
+loop-holds c = begun_none _ _ _ _
 
 returns : tie.Need-returns invariant-loop decreases-loop
 returns c = λ e. absurd (no_true e)
@@ -54,7 +54,7 @@ loop-again c =
 returns-3 : tie.Need-returns-3 invariant-loop decreases-loop
 returns-3 c =
     let l = c.before.loop in
-    λ e. record { long = begun-long _ _ _ _ l.i l.invariant (omega arith); same = λ k h. l.invariant.same k (omega arith) }
+    λ e. record { long = begun_long _ _ _ _ l.i l.invariant (omega arith); same = λ k h. l.invariant.same k (omega arith) }
 
 pub begin-f32-spec : {M : Type 1} → statement M
 begin-f32-spec =

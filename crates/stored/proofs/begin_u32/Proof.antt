@@ -3,7 +3,7 @@ use Prim.Native.Nat.{ℕ, ◌-◌}
 use native.Mathlib.Omega.{arith}
 use lib.ListN.{length, get_or}
 use borrow.Author.Rules.{rules}
-use Rattle.stored.proofs.Begun.{no_true, Begun, begun-none, begun_more, begun-long}
+use Rattle.stored.proofs.Begun.{no_true, Begun, begun_none, begun_more, begun_long}
 use Rattle.stored.proofs.begin_u32.Statement.{statement}
 use Rattle.stored.proofs.begin_u32.Tie as tie
 
@@ -14,7 +14,7 @@ abbrev decreases-loop : tie.decreases-loop
 decreases-loop values words i₀ i = length words - i
 
 loop-holds : tie.Need-loop-init invariant-loop decreases-loop
-loop-holds c = begun-none _ _ _ _
+loop-holds c = begun_none _ _ _ _
 
 returns : tie.Need-returns invariant-loop decreases-loop
 returns c = λ e. absurd (no_true e)
@@ -48,7 +48,7 @@ loop-again c =
 returns-3 : tie.Need-returns-3 invariant-loop decreases-loop
 returns-3 c =
     let l = c.before.loop in
-    λ e. record { long = begun-long _ _ _ _ l.i l.invariant (omega arith); same = λ k h. l.invariant.same k (omega arith) }
+    λ e. record { long = begun_long _ _ _ _ l.i l.invariant (omega arith); same = λ k h. l.invariant.same k (omega arith) }
 
 pub begin-u32-spec : {M : Type 1} → statement M
 begin-u32-spec =

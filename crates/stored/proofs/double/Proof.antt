@@ -1,7 +1,7 @@
 -- `stored::double` meets its contract: the code's tests of a NaN are those of the pattern.
 use mathlib.Core.Path.{◌≡◌, refl, ◌∙◌}
 use lib.Ieee.{binary64, nan, div, of_bits}
-use Rattle.stored.proofs.Patterns.{plain, no-digits, others}
+use Rattle.stored.proofs.Patterns.{plain, no_digits, others}
 use borrow.Author.Rules.{rules}
 use Rattle.stored.proofs.double.Statement.{statement}
 use Rattle.stored.proofs.double.Tie as tie
@@ -13,7 +13,7 @@ returns : tie.Need-returns
 returns c = search rules
 
 float-from-bits-result-2 : tie.Need-float-from-bits-result-2
-float-from-bits-result-2 c = no-digits binary64 _ c.if2.true
+float-from-bits-result-2 c = no_digits binary64 _ c.if2.true
 
 returns-2 : tie.Need-returns-2
 returns-2 c = search rules

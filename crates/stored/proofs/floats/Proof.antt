@@ -4,7 +4,7 @@ use Prim.Native.Nat.{◌-◌}
 use native.Mathlib.Omega.{arith}
 use lib.ListN.{length}
 use borrow.Author.Rules.{rules}
-use Rattle.dequantize.proofs.Tables.{Filling, filling-none, filling-more, filling-all}
+use Rattle.dequantize.proofs.Tables.{Filling, filling_none, filling_more, filling_all}
 use Rattle.stored.specs.Stored.{float_in}
 use Rattle.stored.proofs.floats.Statement.{statement}
 use Rattle.stored.proofs.floats.Tie as tie
@@ -16,7 +16,7 @@ abbrev decreases-loop : tie.decreases-loop
 decreases-loop words out₀ i₀ out i = length out₀ - i
 
 loop-holds : tie.Need-loop-init invariant-loop decreases-loop
-loop-holds c = filling-none _ _ _ refl
+loop-holds c = filling_none _ _ _ refl
 
 float-at-requires : tie.Need-float-at-requires invariant-loop decreases-loop
 float-at-requires c κs = search rules
@@ -34,13 +34,13 @@ loop-less : tie.Need-loop-smaller invariant-loop decreases-loop
 loop-less c = omega arith
 
 loop-again : tie.Need-loop-preserved invariant-loop decreases-loop
-loop-again c = filling-more _ c.before.before.loop.i c.before.before.loop.invariant (omega (arith, c.before.before.loop.invariant.size)) c.Float-at.ensures
+loop-again c = filling_more _ c.before.before.loop.i c.before.before.loop.invariant (omega (arith, c.before.before.loop.invariant.size)) c.Float-at.ensures
 
 same_length : tie.Need-same-length invariant-loop decreases-loop
 same_length c = c.before.loop.invariant.size
 
 returns : tie.Need-returns invariant-loop decreases-loop
-returns c = filling-all _ c.before.loop.i c.before.loop.invariant (omega (arith, c.before.loop.invariant.size))
+returns c = filling_all _ c.before.loop.i c.before.loop.invariant (omega (arith, c.before.loop.invariant.size))
 
 pub floats-spec : {M : Type 1} → statement M
 floats-spec =

@@ -6,19 +6,19 @@ use lib.ListN.{length}
 use mir.Syntax.{w32}
 use mir.Facts.{to_z-of_z}
 use borrow.Author.Rules.{rules}
-use Rattle.dequantize.proofs.Tables.{Filling, filling-none, filling-more, filling-all}
-use Rattle.stored.specs.Stored.{signedIn}
+use Rattle.dequantize.proofs.Tables.{Filling, filling_none, filling_more, filling_all}
+use Rattle.stored.specs.Stored.{signed_in}
 use Rattle.stored.proofs.signeds.Statement.{statement}
 use Rattle.stored.proofs.signeds.Tie as tie
 
 abbrev invariant-loop : tie.invariant-loop
-invariant-loop words out₀ i₀ out i = Filling (signedIn words) (length out₀) out i
+invariant-loop words out₀ i₀ out i = Filling (signed_in words) (length out₀) out i
 
 abbrev decreases-loop : tie.decreases-loop
 decreases-loop words out₀ i₀ out i = length out₀ - i
 
 loop-holds : tie.Need-loop-init invariant-loop decreases-loop
-loop-holds c = filling-none _ _ _ refl
+loop-holds c = filling_none _ _ _ refl
 
 signed-at-requires : tie.Need-signed-at-requires invariant-loop decreases-loop
 signed-at-requires c κs = search rules
@@ -36,13 +36,13 @@ loop-less : tie.Need-loop-smaller invariant-loop decreases-loop
 loop-less c = omega arith
 
 loop-again : tie.Need-loop-preserved invariant-loop decreases-loop
-loop-again c = filling-more _ c.before.before.loop.i c.before.before.loop.invariant (omega (arith, c.before.before.loop.invariant.size)) (to_z-of_z {w = w32} {z = c.signed-at.result} (record { sfits = c.signed-at.type-inv }) ∙ c.signed-at.ensures)
+loop-again c = filling_more _ c.before.before.loop.i c.before.before.loop.invariant (omega (arith, c.before.before.loop.invariant.size)) (to_z-of_z {w = w32} {z = c.signed-at.result} (record { sfits = c.signed-at.type-inv }) ∙ c.signed-at.ensures)
 
 same_length : tie.Need-same-length invariant-loop decreases-loop
 same_length c = c.before.loop.invariant.size
 
 returns : tie.Need-returns invariant-loop decreases-loop
-returns c = filling-all _ c.before.loop.i c.before.loop.invariant (omega (arith, c.before.loop.invariant.size))
+returns c = filling_all _ c.before.loop.i c.before.loop.invariant (omega (arith, c.before.loop.invariant.size))
 
 pub signeds-spec : {M : Type 1} → statement M
 signeds-spec =

@@ -5,15 +5,15 @@ use native.Mathlib.Omega.{arith}
 use borrow.Author.Rules.{rules}
 use lib.ListN.{length}
 use lib.Seq.{length-take-le}
-use Rattle.walk.specs.Walk.{walkRoom}
+use Rattle.walk.specs.Walk.{walk_room}
 use Rattle.walk.proofs.Answers.{Taken, walked-got, walked_none}
-use Rattle.strand.proofs.Strands.{taken-segments}
+use Rattle.strand.proofs.Strands.{taken_segments}
 use Rattle.strand.proofs.draw_path.Statement.{statement}
 use Rattle.strand.proofs.draw_path.Tie as tie
 
 -- the walk that was taken
 taken : (e : tie.After-known-told)
-    → Taken (walkRoom (length e.before.before.before.before.before.before.before.before.before.before.args.walk.now)) e.before.before.before.before.before.before.before.before.before.before.args.path.now e.before.before.before.before.before.walk.new.1.0 e.before.n.given.0.0
+    → Taken (walk_room (length e.before.before.before.before.before.before.before.before.before.before.args.walk.now)) e.before.before.before.before.before.before.before.before.before.before.args.path.now e.before.before.before.before.before.walk.new.1.0 e.before.n.given.0.0
 taken e = walked-got _ _ _ _ _ (sym e.before.n.given.1 ∙ e.before.before.before.before.before.walk.ensures.0) e.before.before.before.before.before.walk.ensures.1
 
 -- it lies inside the buffer
@@ -50,7 +50,7 @@ same_length c = search rules
 returns : tie.Need-returns
 returns c =
     let s = c.before.before.before.before.before.before.before.before.before in
-    rw (walked_none (walkRoom (length s.args.walk.now)) s.args.path.now (sym c.enum_told.given.1 ∙ c.before.before.before.before.walk.ensures.0)) (refl, tt)
+    rw (walked_none (walk_room (length s.args.walk.now)) s.args.path.now (sym c.enum_told.given.1 ∙ c.before.before.before.before.walk.ensures.0)) (refl, tt)
 
 same-length-2 : tie.Need-same-length-2
 same-length-2 c = search rules
@@ -62,7 +62,7 @@ returns-2 : tie.Need-returns-2
 returns-2 c =
     let e = c.before.before.before.before.before in
     let s = e.before.before.before.before.before.before.before.before.before.before.args in
-    rw (← taken-segments s.spline s.high-precision _ _ _ _ (taken e)) c.before.before.draw-walk.ensures
+    rw (← taken_segments s.spline s.high-precision _ _ _ _ (taken e)) c.before.before.draw-walk.ensures
 
 pub draw-path-spec : {M : Type 1} → statement M
 draw-path-spec =

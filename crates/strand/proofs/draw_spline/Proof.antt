@@ -5,17 +5,17 @@ use native.Mathlib.Omega.{arith}
 use borrow.Author.Rules.{rules}
 use lib.ListN.{length}
 use lib.Seq.{length-take-le}
-use Rattle.curve.specs.Curve.{pathRoom, pathOf}
-use Rattle.curve.proofs.Paths.{length-path}
+use Rattle.curve.specs.Curve.{path_room, path_of}
+use Rattle.curve.proofs.Paths.{length_path}
 use Rattle.curve.proofs.Answers.{OnFront, curved-got, curved-none}
-use Rattle.walk.specs.Walk.{walkRoom}
-use Rattle.strand.proofs.Strands.{strand-none, strand-drawn}
+use Rattle.walk.specs.Walk.{walk_room}
+use Rattle.strand.proofs.Strands.{strand_none, strand_drawn}
 use Rattle.strand.proofs.draw_spline.Statement.{statement}
 use Rattle.strand.proofs.draw_spline.Tie as tie
 
 -- the path that was drawn
 drawn : (e : tie.After-known-told)
-    → OnFront (pathRoom (length e.before.before.before.before.before.before.before.before.before.before.args.path.now)) (pathOf e.before.before.before.before.before.before.before.before.before.before.args.start e.before.before.before.before.before.before.before.before.before.before.args.deltas.now) e.before.before.before.before.before.curve.new.1.1.0 e.before.n.given.0.0
+    → OnFront (path_room (length e.before.before.before.before.before.before.before.before.before.before.args.path.now)) (path_of e.before.before.before.before.before.before.before.before.before.before.args.start e.before.before.before.before.before.before.before.before.before.before.args.deltas.now) e.before.before.before.before.before.curve.new.1.1.0 e.before.n.given.0.0
 drawn e = curved-got _ _ _ _ _ (sym e.before.n.given.1 ∙ e.before.before.before.before.before.curve.ensures.0) e.before.before.before.before.before.curve.ensures.1
 
 -- it lies inside the buffer
@@ -45,7 +45,7 @@ draw-path-requires c κs =
     let e = c.before.before.before in
     let s = e.before.before.before.before.before.before.before.before.before.before in
     let l = length-take-le (2 * e.before.n.given.0.0) e.before.before.before.before.before.curve.new.1.1.0 (fits e) in
-    (omega (arith, l, (drawn e).count, length-path s.args.start s.args.deltas.now), s.requires.1)
+    (omega (arith, l, (drawn e).count, length_path s.args.start s.args.deltas.now), s.requires.1)
 
 same_length : tie.Need-same-length
 same_length c = search rules
@@ -54,7 +54,7 @@ returns : tie.Need-returns
 returns c =
     let s = c.before.before.before.before.before.before.before.before.before.args in
     let h = curved-none _ _ (sym c.enum_told.given.1 ∙ c.before.before.before.before.curve.ensures.0) in
-    rw (strand-none _ (walkRoom (length s.walk.now)) _ _ s.spline s.high-precision h) (refl, tt)
+    rw (strand_none _ (walk_room (length s.walk.now)) _ _ s.spline s.high-precision h) (refl, tt)
 
 same-length-2 : tie.Need-same-length-2
 same-length-2 c = search rules
@@ -70,7 +70,7 @@ returns-2 c =
     let e = c.before.before.before.before.before.before.before.before in
     let s = e.before.before.before.before.before.before.before.before.before.before.args in
     let d = drawn e in
-    rw (← strand-drawn (pathRoom (length s.path.now)) (walkRoom (length s.walk.now)) s.start s.deltas.now s.spline s.high-precision (omega (arith, d.count, d.fits)) d.front)
+    rw (← strand_drawn (path_room (length s.path.now)) (walk_room (length s.walk.now)) s.start s.deltas.now s.spline s.high-precision (omega (arith, d.count, d.fits)) d.front)
     c.before.before.before.before.draw-path.ensures
 
 pub draw-spline-spec : {M : Type 1} → statement M

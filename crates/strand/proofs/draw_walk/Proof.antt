@@ -1,6 +1,6 @@
 -- `draw_walk`: by the length, no segments or those of all points.
 use borrow.Author.Rules.{rules}
-use Rattle.strand.proofs.Strands.{flat-none, flat-all, none_filled}
+use Rattle.strand.proofs.Strands.{flat_none, flat_all, none_filled}
 use Rattle.strand.proofs.draw_walk.Statement.{statement}
 use Rattle.strand.proofs.draw_walk.Tie as tie
 
@@ -22,7 +22,7 @@ length-of-requires c κs = search rules
 returns : tie.Need-returns
 returns c =
     let s = c.before.before.before.before.before in
-    none_filled _ _ _ _ (flat-none s.args.spline s.args.high-precision s.args.walk.now c.before.length-of.ensures c.if1.true) s.requires.2
+    none_filled _ _ _ _ (flat_none s.args.spline s.args.high-precision s.args.walk.now c.before.length-of.ensures c.if1.true) s.requires.2
 
 add-segments-from-points-requires : tie.Need-add-segments-from-points-requires
 add-segments-from-points-requires c κs = search rules
@@ -33,7 +33,7 @@ same_length c = search rules
 returns-2 : tie.Need-returns-2
 returns-2 c =
     let s = c.before.before.before.before.before.before.before.before.before in
-    rw (flat-all s.args.spline s.args.high-precision s.args.walk.now c.before.before.before.before.before.length-of.ensures c.before.before.before.before.if1.false) c.before.before.add-segments-from-points.ensures
+    rw (flat_all s.args.spline s.args.high-precision s.args.walk.now c.before.before.before.before.before.length-of.ensures c.before.before.before.before.if1.false) c.before.before.add-segments-from-points.ensures
 
 pub draw-walk-spec : {M : Type 1} → statement M
 draw-walk-spec =

@@ -1,7 +1,7 @@
 -- `draw_one`: the spline is dequantized again, and its start is a place, since it was accepted.
 use mathlib.Core.Path.{refl, sym, ◌∙◌}
 use borrow.Author.Rules.{rules}
-use Rattle.strand_at.proofs.Starts.{start-walk}
+use Rattle.strand_at.proofs.Starts.{start_walk}
 use Rattle.strand_at.proofs.draw_one.Statement.{statement}
 use Rattle.strand_at.proofs.draw_one.Tie as tie
 
@@ -41,7 +41,7 @@ enum-known-start c = search rules
 draw-spline-requires : tie.Need-draw-spline-requires
 draw-spline-requires c κs =
     let s = c.before.before.before.before.before.before.before.before.before.before.before.before.before.before in
-    (start-walk _ _ _ _ _ s.requires.3 _ c.before.before.before.before.before.before.starting-point.ensures c.before.before.before.before.start.given.1, s.requires.2)
+    (start_walk _ _ _ _ _ s.requires.3 _ c.before.before.before.before.before.before.starting-point.ensures c.before.before.before.before.start.given.1, s.requires.2)
 
 returns : tie.Need-returns
 returns c = rw (sym c.before.before.starting-point.ensures ∙ c.enum_told.given.1) (refl, tt)

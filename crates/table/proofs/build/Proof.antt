@@ -3,16 +3,16 @@ use mathlib.Core.Path.{◌≡◌, sym, ◌∙◌}
 use mir.Syntax.{w32}
 use mir.Facts.{to_z-of_z}
 use mir.Val.{to_z, of_z}
-use Rattle.dequantize.specs.Judge.{Description, descriptionOf}
+use Rattle.dequantize.specs.Judge.{Description, description_of}
 use Rattle.table.specs.Table.{BuildRooms, rooms_of, Setting, setting_of}
 use Rattle.verdict.proofs.Checks.{ready}
-use Rattle.table.proofs.Placing.{build-refused, build-painted}
+use Rattle.table.proofs.Placing.{build_refused, build_painted}
 use borrow.Author.Rules.{rules}
 use Rattle.table.proofs.build.Statement.{statement}
 use Rattle.table.proofs.build.Tie as tie
 
 abbrev described : tie.Start → Description
-described s = descriptionOf s.args.counts.now s.args.starts.now s.args.deltas.now s.args.coefficients.now
+described s = description_of s.args.counts.now s.args.starts.now s.args.deltas.now s.args.coefficients.now
 
 abbrev image : tie.Start → Setting
 image s = setting_of s.args.adjustment s.args.width s.args.height s.args.y-to-x s.args.y-to-b s.args.high-precision s.args.level10
@@ -66,7 +66,7 @@ returns : tie.Need-returns
 returns c =
     let s = c.before.before.before.before.before.before.before.before.before.before.before.before.before.before.before.before.before.before.before.before.before.before.before.before.before.before.before.before.before.before.before.before in
     c.before.before.before.before.before.before.before.before.before.before.before.before.refuse.ensures
-    ∙ build-refused (described s) (image s) (rooms s) (rw (signed s) at c.before.before.before.before.before.before.before.before.before.before.before.before.before.before.before.before.before.before.before.before.before.before.before.given-of.ensures) c.before.before.before.before.before.before.before.before.before.before.before.before.before.before.before.before.before.before.before.before.before.before.judge-all.ensures c.before.before.before.before.before.before.before.before.before.before.before.before.before.before.before.before.before.before.before.before.code.given.1
+    ∙ build_refused (described s) (image s) (rooms s) (rw (signed s) at c.before.before.before.before.before.before.before.before.before.before.before.before.before.before.before.before.before.before.before.before.before.before.before.given-of.ensures) c.before.before.before.before.before.before.before.before.before.before.before.before.before.before.before.before.before.before.before.before.before.before.judge-all.ensures c.before.before.before.before.before.before.before.before.before.before.before.before.before.before.before.before.before.before.before.before.code.given.1
 
 same-length-7 : tie.Need-same-length-7
 same-length-7 c = c.before.before.before.before.before.before.before.before.before.before.before.before.paint.auto.1.1.1.1.1.1.1.1.0
@@ -90,7 +90,7 @@ returns-2 : tie.Need-returns-2
 returns-2 c =
     let s = c.before.before.before.before.before.before.before.before.before.before.before.before.before.before.before.before.before.before.before.before.before.before.before.before.before.before.before.before.before.before.before.before in
     c.before.before.before.before.before.before.before.before.before.before.before.before.paint.ensures
-    ∙ build-painted (described s) (image s) (rooms s) (rw (signed s) at c.before.before.before.before.before.before.before.before.before.before.before.before.before.before.before.before.before.before.before.before.before.before.before.given-of.ensures) c.before.before.before.before.before.before.before.before.before.before.before.before.before.before.before.before.before.before.before.before.before.before.judge-all.ensures c.before.before.before.before.before.before.before.before.before.before.before.before.before.before.before.before.before.before.before.before.estimate.given.1
+    ∙ build_painted (described s) (image s) (rooms s) (rw (signed s) at c.before.before.before.before.before.before.before.before.before.before.before.before.before.before.before.before.before.before.before.before.before.before.before.given-of.ensures) c.before.before.before.before.before.before.before.before.before.before.before.before.before.before.before.before.before.before.before.before.before.before.judge-all.ensures c.before.before.before.before.before.before.before.before.before.before.before.before.before.before.before.before.before.before.before.before.estimate.given.1
 
 pub build-spec : {M : Type 1} → statement M
 build-spec =

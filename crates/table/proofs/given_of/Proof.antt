@@ -2,12 +2,12 @@
 use borrow.Author.Rules.{rules}
 use mir.Syntax.{w32}
 use mir.Facts.{to_z-of_z}
-use Rattle.table.proofs.Area.{area-fits}
+use Rattle.table.proofs.Area.{area_fits}
 use Rattle.table.proofs.given_of.Statement.{statement}
 use Rattle.table.proofs.given_of.Tie as tie
 
 mul-area : tie.Need-overflow-mul-area
-mul-area c = record { fits = area-fits c.args.width c.args.height c.well-formed.1.0.1 c.well-formed.1.1.0.1 }
+mul-area c = record { fits = area_fits c.args.width c.args.height c.well-formed.1.0.1 c.well-formed.1.1.0.1 }
 
 spline-area-limit-requires : tie.Need-spline-area-limit-requires
 spline-area-limit-requires c κs = search rules

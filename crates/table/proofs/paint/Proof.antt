@@ -2,18 +2,18 @@
 use mathlib.Core.Path.{sym, ◌∙◌}
 use native.Mathlib.Omega.{arith}
 use lib.ListN.{length}
-use Rattle.dequantize.specs.Judge.{descriptionOf}
-use Rattle.curve.specs.Curve.{pathRoom}
-use Rattle.walk.specs.Walk.{walkRoom}
-use Rattle.owners.specs.Owners.{ownedRoom}
-use Rattle.painting.specs.Painting.{Painted, paintOf}
-use Rattle.table.proofs.Placing.{painted-fits, refused_none, listed-all}
+use Rattle.dequantize.specs.Judge.{description_of}
+use Rattle.curve.specs.Curve.{path_room}
+use Rattle.walk.specs.Walk.{walk_room}
+use Rattle.owners.specs.Owners.{owned_room}
+use Rattle.painting.specs.Painting.{Painted, paint_of}
+use Rattle.table.proofs.Placing.{painted_fits, refused_none, listed_all}
 use borrow.Author.Rules.{rules}
 use Rattle.table.proofs.paint.Statement.{statement}
 use Rattle.table.proofs.paint.Tie as tie
 
 abbrev painted : tie.Start → Painted
-painted s = paintOf (descriptionOf s.args.counts.now s.args.starts.now s.args.deltas.now s.args.coefficients.now) s.args.given s.args.high-precision (pathRoom (length s.args.path.now)) (walkRoom (length s.args.walk.now)) (ownedRoom (length s.args.segments.now) (length s.args.owners.now))
+painted s = paint_of (description_of s.args.counts.now s.args.starts.now s.args.deltas.now s.args.coefficients.now) s.args.given s.args.high-precision (path_room (length s.args.path.now)) (walk_room (length s.args.walk.now)) (owned_room (length s.args.segments.now) (length s.args.owners.now))
 
 draw-all-requires : tie.Need-draw-all-requires
 draw-all-requires c κs = search rules
@@ -31,7 +31,7 @@ list-segments-requires : tie.Need-list-segments-requires
 list-segments-requires c κs =
     let s = c.before.before.before.before.before.before.before.before.before.before.before.before.before.before.before.before.before.before.before.before.before.before.before.before.before.before.before.before.before.before in
     let d = c.before.before.before.before.before.before.before.before.before.before.before.before.before.before.before.before.before.draw-all in
-    let f = painted-fits s.args.segments.now _ s.args.owners.now _ (painted s) d.ensures.1 c.before.before.before.before.before.before.before.count.given.0.0 (sym d.ensures.0 ∙ c.before.before.before.before.before.before.before.count.given.1) in
+    let f = painted_fits s.args.segments.now _ s.args.owners.now _ (painted s) d.ensures.1 c.before.before.before.before.before.before.before.count.given.0.0 (sym d.ensures.0 ∙ c.before.before.before.before.before.before.before.count.given.1) in
     (omega (arith, f.0, d.auto.1.1.1.1.1.1.1.1.0), omega (arith, f.1, d.auto.1.1.1.1.1.1.1.1.1.0), f.2, s.requires.2, s.requires.3)
 
 same_length : tie.Need-same-length
@@ -81,7 +81,7 @@ returns-2 : tie.Need-returns-2
 returns-2 c =
     let s = c.before.before.before.before.before.before.before.before.before.before.before.before.before.before.before.before.before.before.before.before.before.before.before.before.before.before.before.before.before.before.before.before.before.before.before.before.before.before.before.before.before.before.before in
     let d = c.before.before.before.before.before.before.before.before.before.before.before.before.before.before.before.before.before.before.before.before.before.before.before.before.before.before.before.before.before.before.draw-all in
-    listed-all s.args.path.now s.args.walk.now s.args.segments.now s.args.owners.now s.args.row-starts.now s.args.entries.now d.new.1.1.1.1.1.1.0 d.new.1.1.1.1.1.1.1.0 d.new.1.1.1.1.1.1.1.1.0 d.new.1.1.1.1.1.1.1.1.1.0 d.auto.1.1.1.1.1.1.0 d.auto.1.1.1.1.1.1.1.0 d.auto.1.1.1.1.1.1.1.1.0 d.auto.1.1.1.1.1.1.1.1.1.0
+    listed_all s.args.path.now s.args.walk.now s.args.segments.now s.args.owners.now s.args.row-starts.now s.args.entries.now d.new.1.1.1.1.1.1.0 d.new.1.1.1.1.1.1.1.0 d.new.1.1.1.1.1.1.1.1.0 d.new.1.1.1.1.1.1.1.1.1.0 d.auto.1.1.1.1.1.1.0 d.auto.1.1.1.1.1.1.1.0 d.auto.1.1.1.1.1.1.1.1.0 d.auto.1.1.1.1.1.1.1.1.1.0
     s.args.height s.args.estimate (painted s) c.before.before.before.before.before.before.before.before.before.before.before.before.before.before.before.before.before.before.before.before.count.given.0.0 c.before.before.before.before.before.before.before.before.before.before.before.before.list-segments.ensures d.ensures.1 (sym d.ensures.0 ∙ c.before.before.before.before.before.before.before.before.before.before.before.before.before.before.before.before.before.before.before.before.count.given.1)
 
 pub paint-spec : {M : Type 1} → statement M

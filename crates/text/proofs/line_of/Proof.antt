@@ -2,7 +2,7 @@
 use Prim.Native.Nat.{◌+◌, ◌-◌, ◌≤◌}
 use native.Mathlib.Omega.{arith}
 use borrow.Author.Rules.{rules}
-use Rattle.text.proofs.Lines.{LineLeft, line-begin, line-more, line-past, line-end}
+use Rattle.text.proofs.Lines.{LineLeft, line_begin, line_more, line_past, line_end}
 use Rattle.text.proofs.line_of.Statement.{statement}
 use Rattle.text.proofs.line_of.Tie as tie
 
@@ -13,10 +13,10 @@ abbrev decreases-loop : tie.decreases-loop
 decreases-loop text at line₀ i₀ line i = at - i
 
 loop-holds : tie.Need-loop-init invariant-loop decreases-loop
-loop-holds c = (search rules, line-begin c.before.args.text.now c.before.args.at)
+loop-holds c = (search rules, line_begin c.before.args.text.now c.before.args.at)
 
 returns : tie.Need-returns invariant-loop decreases-loop
-returns c = line-end c.if1.true c.before.before.loop.invariant.1
+returns c = line_end c.if1.true c.before.before.loop.invariant.1
 
 shared-slice-read-feed : tie.Need-shared-slice-read-feed invariant-loop decreases-loop
 shared-slice-read-feed c = search rules
@@ -34,10 +34,10 @@ loop-less : tie.Need-loop-smaller invariant-loop decreases-loop
 loop-less c = search rules
 
 loop-again : tie.Need-loop-preserved invariant-loop decreases-loop
-loop-again c = (omega arith, line-more c.before.before.before.loop-test.true c.before.before.if1.false c.feed.ensures.0 c.before.before.before.before.loop.invariant.1)
+loop-again c = (omega arith, line_more c.before.before.before.loop-test.true c.before.before.if1.false c.feed.ensures.0 c.before.before.before.before.loop.invariant.1)
 
 returns-2 : tie.Need-returns-2 invariant-loop decreases-loop
-returns-2 c = line-past c.loop-test.false c.before.loop.invariant.1
+returns-2 c = line_past c.loop-test.false c.before.loop.invariant.1
 
 pub line-of-spec : {M : Type 1} → statement M
 line-of-spec =

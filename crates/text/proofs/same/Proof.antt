@@ -3,7 +3,7 @@ use mathlib.Core.Path.{refl}
 use Prim.Native.Nat.{◌-◌, ◌≤◌}
 use lib.ListN.{length}
 use borrow.Author.Rules.{rules}
-use Rattle.text.proofs.Sameness.{SameLeft, same-short, same-differ, same_more, same_end}
+use Rattle.text.proofs.Sameness.{SameLeft, same_short, same_differ, same_more, same_end}
 use Rattle.text.proofs.same.Statement.{statement}
 use Rattle.text.proofs.same.Tie as tie
 
@@ -17,7 +17,7 @@ loop-holds : tie.Need-loop-init invariant-loop decreases-loop
 loop-holds c = (search rules, record { rest = refl })
 
 returns : tie.Need-returns invariant-loop decreases-loop
-returns c = same-short c.before.before.loop.invariant.1 c.before.loop-test.true c.if1.true
+returns c = same_short c.before.before.loop.invariant.1 c.before.loop-test.true c.if1.true
 
 read_a : tie.Need-shared-slice-read-if2 invariant-loop decreases-loop
 read_a c = search rules
@@ -26,7 +26,7 @@ read-b : tie.Need-shared-slice-read-if2-2 invariant-loop decreases-loop
 read-b c = search rules
 
 returns-2 : tie.Need-returns-2 invariant-loop decreases-loop
-returns-2 c = same-differ c.before.before.before.before.before.loop.invariant.1 c.before.before.before.before.loop-test.true c.before.before.before.if1.false c.if2.true
+returns-2 c = same_differ c.before.before.before.before.before.loop.invariant.1 c.before.before.before.before.loop-test.true c.before.before.before.if1.false c.if2.true
 
 add-i : tie.Need-overflow-add-i invariant-loop decreases-loop
 add-i c = search rules

@@ -1,7 +1,7 @@
 -- `text::turn` meets its contract: in each arm the step is known.
 use mathlib.Core.Path.{sym, ◌∙◌}
 use native.Mathlib.Omega.{arith}
-use Rattle.text.proofs.Reading.{turn-full, turn-ends, turn_on, turn-stranger, turn-great}
+use Rattle.text.proofs.Reading.{turn_full, turn_ends, turn_on, turn_stranger, turn_great}
 use borrow.Author.Rules.{rules}
 use Rattle.text.proofs.turn.Statement.{statement}
 use Rattle.text.proofs.turn.Tie as tie
@@ -16,7 +16,7 @@ enum-known-n : tie.Need-enum-known-n
 enum-known-n c = search rules
 
 returns : tie.Need-returns
-returns c = turn-full (sym c.before.before.before.before.step-on.ensures ∙ c.before.before.n.given.1) (omega arith)
+returns c = turn_full (sym c.before.before.before.before.step-on.ensures ∙ c.before.before.n.given.1) (omega arith)
 
 mul-values : tie.Need-overflow-mul-values
 mul-values c = search rules
@@ -40,13 +40,13 @@ same_length : tie.Need-same-length
 same_length c = search rules
 
 returns-3 : tie.Need-returns-3
-returns-3 c = turn-ends (sym c.before.before.before.before.step-on.ensures ∙ c.before.before.n.given.1) (omega arith)
+returns-3 c = turn_ends (sym c.before.before.before.before.step-on.ensures ∙ c.before.before.n.given.1) (omega arith)
 
 returns-4 : tie.Need-returns-4
-returns-4 c = turn-stranger (sym c.before.before.step-on.ensures ∙ c.enum_told.given.1)
+returns-4 c = turn_stranger (sym c.before.before.step-on.ensures ∙ c.enum_told.given.1)
 
 returns-5 : tie.Need-returns-5
-returns-5 c = turn-great (sym c.before.before.step-on.ensures ∙ c.enum-told2.given.1)
+returns-5 c = turn_great (sym c.before.before.step-on.ensures ∙ c.enum-told2.given.1)
 
 pub turn_spec : {M : Type 1} → statement M
 turn_spec =

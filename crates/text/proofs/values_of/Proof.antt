@@ -3,7 +3,7 @@ use Prim.Native.Nat.{◌+◌, ◌-◌, ◌≤◌}
 use native.Mathlib.Omega.{arith}
 use lib.ListN.{length}
 use borrow.Author.Rules.{rules}
-use Rattle.text.proofs.Reading.{Going, going-begin, going_on, going-stops, going_done}
+use Rattle.text.proofs.Reading.{Going, going_begin, going_on, going_stops, going_done}
 use Rattle.text.proofs.values_of.Statement.{statement}
 use Rattle.text.proofs.values_of.Tie as tie
 
@@ -14,7 +14,7 @@ abbrev decreases-loop : tie.decreases-loop
 decreases-loop text values₀ scan₀ held₀ i₀ values scan held i = length text + 1 - i
 
 loop-holds : tie.Need-loop-init invariant-loop decreases-loop
-loop-holds c = going-begin _ _
+loop-holds c = going_begin _ _
 
 byte-at-requires : tie.Need-byte-at-requires invariant-loop decreases-loop
 byte-at-requires c κs = search rules
@@ -29,7 +29,7 @@ same_length : tie.Need-same-length invariant-loop decreases-loop
 same_length c = search rules
 
 returns : tie.Need-returns invariant-loop decreases-loop
-returns c = going-stops c.before.before.before.before.before.before.before.before.before.loop.invariant (omega (arith, c.before.before.before.before.before.before.before.before.loop-test.true)) c.before.before.before.before.before.before.before.byte_at.ensures c.before.before.before.before.before.turn.ensures c.before.why.given.1
+returns c = going_stops c.before.before.before.before.before.before.before.before.before.loop.invariant (omega (arith, c.before.before.before.before.before.before.before.before.loop-test.true)) c.before.before.before.before.before.before.before.byte_at.ensures c.before.before.before.before.before.turn.ensures c.before.why.given.1
 
 enum-known-on : tie.Need-enum-known-on invariant-loop decreases-loop
 enum-known-on c = search rules

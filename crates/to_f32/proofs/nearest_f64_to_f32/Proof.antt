@@ -10,8 +10,8 @@ use lib.Ieee.Fits.{down_pos, and_l, and_i, round-fits}
 use lib.Ieee.Scale.{round_same}
 use lib.Ieee.Back.{round_whole, whole_unique}
 use lib.Ieee.Positive.{positive}
-use Rattle.numbers.proofs.Zero.{yes, no, null, over, under, zero_is, not-zero, above, flipped}
-use Rattle.numbers.proofs.Units.{neg-round}
+use Rattle.numbers.proofs.Zero.{yes, no, null, over, under, zero_is, not_zero, above, flipped}
+use Rattle.numbers.proofs.Units.{neg_round}
 use Rattle.to_f32.specs.Narrow.{narrow}
 use Rattle.to_f32.proofs.nearest_f64_to_f32.Statement.{statement}
 use Rattle.to_f32.proofs.nearest_f64_to_f32.Tie as tie
@@ -38,7 +38,7 @@ unfolding narrow neg
 minus nan p = absurd p
 minus (inf s) p = absurd p
 minus (fin false m e) p = absurd p
-minus (fin true m e) p = neg-round binary32 (m * up e) (down e)
+minus (fin true m e) p = neg_round binary32 (m * up e) (down e)
 
 -- a zero
 zero-fits : (x : Float) → T (fits binary64 x) → T (eq x null) → T (fits binary32 x && not (is_nan x))
@@ -46,7 +46,7 @@ unfolding fits is_nan eq
 zero-fits nan F a = absurd a
 zero-fits (inf s) F a = absurd a
 zero-fits (fin s zero e) F a = and_i (eqb (up e * down e) 1) true F tt
-zero-fits (fin s (suc m) e) F a = absurd (not-zero s m e a)
+zero-fits (fin s (suc m) e) F a = absurd (not_zero s m e a)
 
 zero-narrow : (x : Float) → T (fits binary64 x) → T (eq x null) → x ≡ narrow binary32 x
 unfolding narrow
@@ -58,7 +58,7 @@ zero-narrow (fin s zero e) F a =
     let is : round binary32 s n (down e) ≡ round binary32 s 0 1 = round_same binary32 s n (down e) 0 1 (down_pos e) (zero-lt-suc 0) (mul-one n ∙ z ∙ sym (zero-mul (down e))) in
     whole_unique binary32 (fin s 0 e) (round binary32 s 0 1) s 0 (and_l (fits binary32 (fin s 0 e)) (not (is_nan (fin s 0 e))) (zero-fits (fin s 0 e) F a)) (round-fits binary32 s 0 1) (refl, mul-one n ∙ z ∙ sym (zero-mul (down e))) (round_whole binary32 s 0 zero-le)
     ∙ sym is
-zero-narrow (fin s (suc m) e) F a = absurd (not-zero s m e a)
+zero-narrow (fin s (suc m) e) F a = absurd (not_zero s m e a)
 
 nan_is : (x : Float) → T (not (lt null x)) → T (not (lt x null)) → T (not (eq x null)) → nan ≡ narrow binary32 x
 unfolding lt narrow

@@ -5,7 +5,7 @@ use native.Mathlib.Omega.{arith}
 use borrow.Author.Rules.{rules}
 use lib.Count.{count_leading_zeros}
 use lib.Ieee.{binary32}
-use Rattle.numbers.proofs.Near.{Sized, sized, whole-64, few}
+use Rattle.numbers.proofs.Near.{Sized, sized, whole_64, few}
 use Rattle.numbers.proofs.Units.{castable}
 use Rattle.to_f32.proofs.nearest_u64_to_f32.Statement.{statement}
 use Rattle.to_f32.proofs.nearest_u64_to_f32.Tie as tie
@@ -44,7 +44,7 @@ returns-2 : tie.Need-returns-2
 returns-2 c =
     let s = c.before.before in
     let n = s.before.before.args.n in
-    rw s.shifted.ensures (whole-64 n (count_leading_zeros 64 n) (has s.before) c.scale.result c.scale.ensures.value)
+    rw s.shifted.ensures (whole_64 n (count_leading_zeros 64 n) (has s.before) c.scale.result c.scale.ensures.value)
 
 pub nearest-u64-to-f32-spec : {M : Type 1} → statement M
 nearest-u64-to-f32-spec = tie.close (tie.spec int-to-float-result sub-k shifted-requires int-to-float-result-2 add-scale scale-requires returns returns-2)

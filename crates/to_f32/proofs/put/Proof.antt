@@ -4,7 +4,7 @@ use Prim.Native.Nat.{ℕ, ◌≤◌}
 use borrow.Author.Rules.{rules}
 use lib.Ieee.{binary32}
 use Rattle.numbers.proofs.Units.{put, castable}
-use Rattle.to_f32.proofs.Narrowing.{kept-le}
+use Rattle.to_f32.proofs.Narrowing.{kept_le}
 use Rattle.to_f32.proofs.put.Statement.{statement}
 use Rattle.to_f32.proofs.put.Tie as tie
 
@@ -13,7 +13,7 @@ shifted-requires c κs = search rules
 
 -- the kept digits
 few : (c : tie.After-shifted) → c.shifted.result ≤ 16777216
-few c = subst (λ (z : ℕ). z ≤ 16777216) (sym c.shifted.ensures) (kept-le c.before.args.m c.before.args.k c.before.requires.0 c.before.requires.1.0)
+few c = subst (λ (z : ℕ). z ≤ 16777216) (sym c.shifted.ensures) (kept_le c.before.args.m c.before.args.k c.before.requires.0 c.before.requires.1.0)
 
 int-to-float-result : tie.Need-int-to-float-result
 int-to-float-result c = castable binary32 c.before.shifted.result (few c.before)

@@ -9,7 +9,7 @@ use lib.Dec.{lit<}
 use mir.Syntax.{w64}
 use mir.Val.{Fits}
 use lib.Ieee.Nearest.{closest}
-use Rattle.numbers.proofs.Shift.{below_half, above_half, at-half}
+use Rattle.numbers.proofs.Shift.{below_half, above_half, at_half}
 use Rattle.to_f32.proofs.shifted.Statement.{statement}
 use Rattle.to_f32.proofs.shifted.Tie as tie
 
@@ -73,7 +73,7 @@ returns-2 c =
 returns-3 : tie.Need-returns-3
 returns-3 c =
     let s = c.before.before in
-    at-half s.args.n (d s.args.k) (mod-lt s.args.n (d-pos s.args.k s.requires.1)) c.before.if1.false c.if2.false ∙ ap (closest s.args.n) (d-is s.args.k s.requires.1)
+    at_half s.args.n (d s.args.k) (mod-lt s.args.n (d-pos s.args.k s.requires.1)) c.before.if1.false c.if2.false ∙ ap (closest s.args.n) (d-is s.args.k s.requires.1)
 
 pub shifted-spec : {M : Type 1} → statement M
 shifted-spec = tie.close (tie.spec shl-d div-q rem-r sub-s add-result add-result-2 returns returns-2 returns-3)

@@ -2,8 +2,8 @@
 use mathlib.Core.Path.{sym, ◌∙◌}
 use native.Mathlib.Omega.{arith}
 use lib.ListN.{length, get_or}
-use Rattle.little.specs.Little.{numbersIn}
-use Rattle.trace2_judge.proofs.Laid.{laid-short, laid-header, laid-body}
+use Rattle.little.specs.Little.{numbers_in}
+use Rattle.trace2_judge.proofs.Laid.{laid_short, laid_header, laid_body}
 use borrow.Author.Rules.{rules}
 use Rattle.trace2_judge.proofs.judge_second.Statement.{statement}
 use Rattle.trace2_judge.proofs.judge_second.Tie as tie
@@ -11,7 +11,7 @@ use Rattle.trace2_judge.proofs.judge_second.Tie as tie
 returns : tie.Need-returns
 returns c =
     let a = c.before.before.args in
-    laid-short (get_or (numbersIn a.bytes.now) 8 0) (length a.bytes.now) (numbersIn a.bytes.now) (omega (arith, c.if1.true))
+    laid_short (get_or (numbers_in a.bytes.now) 8 0) (length a.bytes.now) (numbers_in a.bytes.now) (omega (arith, c.if1.true))
 
 number-at-requires : tie.Need-number-at-requires
 number-at-requires c κs = search rules
@@ -40,12 +40,12 @@ judge-body-requires c κs = search rules
 returns-2 : tie.Need-returns-2
 returns-2 c =
     let a = c.before.before.before.before.before.before.before.before.args in
-    laid-header (get_or (numbersIn a.bytes.now) 8 0) (length a.bytes.now) (numbersIn a.bytes.now) c.before.before.before.before.before.before.if1.false _ _ (sym c.before.before.before.judge-header.ensures ∙ c.before.c.given.1)
+    laid_header (get_or (numbers_in a.bytes.now) 8 0) (length a.bytes.now) (numbers_in a.bytes.now) c.before.before.before.before.before.before.if1.false _ _ (sym c.before.before.before.judge-header.ensures ∙ c.before.c.given.1)
 
 returns-3 : tie.Need-returns-3
 returns-3 c =
     let a = c.before.before.before.before.before.before.before.before.args in
-    c.judge-body.ensures ∙ laid-body (get_or (numbersIn a.bytes.now) 8 0) (length a.bytes.now) (numbersIn a.bytes.now) c.before.before.before.before.before.before.if1.false (sym c.before.before.before.judge-header.ensures ∙ c.before.enum_told.given.1)
+    c.judge-body.ensures ∙ laid_body (get_or (numbers_in a.bytes.now) 8 0) (length a.bytes.now) (numbers_in a.bytes.now) c.before.before.before.before.before.before.if1.false (sym c.before.before.before.judge-header.ensures ∙ c.before.enum_told.given.1)
 
 pub judge-second-spec : {M : Type 1} → statement M
 judge-second-spec =

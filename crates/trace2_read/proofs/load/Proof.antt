@@ -3,8 +3,8 @@ use mathlib.Core.Path.{ap, ◌∙◌}
 use mir.Syntax.{w32}
 use mir.Facts.{to_z-of_z}
 use Rattle.reader.specs.Read.{rooms_of}
-use Rattle.little.specs.Little.{signedIn}
-use Rattle.trace_load.proofs.Loads.{all-loaded}
+use Rattle.little.specs.Little.{signed_in}
+use Rattle.trace_load.proofs.Loads.{all_loaded}
 use borrow.Author.Rules.{rules}
 use Rattle.trace2_read.proofs.load.Statement.{statement}
 use Rattle.trace2_read.proofs.load.Tie as tie
@@ -50,8 +50,8 @@ returns c =
     let a = e.before.before.before.before.before.before.before.args in
     let z = to_z-of_z {w = w32} {z = e.signed.result} (record { sfits = e.signed.type-inv }) in
     let n = e.before.number-at3.ensures in
-    all-loaded 9 a.bytes.now (rooms_of a.counts.now a.starts.now a.deltas.now a.coefficients.now) _ _ _ _ _ _ _ _ _ _ _
-    e.before.before.before.before.before.before.before.requires e.before.before.before.number_at.ensures e.before.before.number-at2.ensures (z ∙ e.signed.ensures ∙ ap signedIn n) b.load-parts.ensures
+    all_loaded 9 a.bytes.now (rooms_of a.counts.now a.starts.now a.deltas.now a.coefficients.now) _ _ _ _ _ _ _ _ _ _ _
+    e.before.before.before.before.before.before.before.requires e.before.before.before.number_at.ensures e.before.before.number-at2.ensures (z ∙ e.signed.ensures ∙ ap signed_in n) b.load-parts.ensures
 
 pub load_spec : {M : Type 1} → statement M
 load_spec =

@@ -1,5 +1,5 @@
 -- `ninth` meets its contract: fewer than 36 bytes have no ninth number.
-use Rattle.trace2_read.proofs.Seconds.{no-ninth}
+use Rattle.trace2_read.proofs.Seconds.{no_ninth}
 use borrow.Author.Rules.{rules}
 use Rattle.trace2_read.proofs.ninth.Statement.{statement}
 use Rattle.trace2_read.proofs.ninth.Tie as tie
@@ -11,7 +11,7 @@ returns : tie.Need-returns
 returns c = search rules
 
 returns-2 : tie.Need-returns-2
-returns-2 c = no-ninth c.before.before.args.bytes.now c.if1.false
+returns-2 c = no_ninth c.before.before.args.bytes.now c.if1.false
 
 pub ninth-spec : {M : Type 1} → statement M
 ninth-spec = tie.close (tie.spec number-at-requires returns returns-2)

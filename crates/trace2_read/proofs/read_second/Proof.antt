@@ -1,7 +1,7 @@
 -- `read_second` meets its contract: the buffers are zero before the file is judged, and a file with no fault is loaded.
 use mathlib.Core.Path.{sym, ◌∙◌}
 use Rattle.reader.specs.Read.{rooms_of}
-use Rattle.trace2_read.proofs.Seconds.{loadable, read-refused, read_done}
+use Rattle.trace2_read.proofs.Seconds.{loadable, read_refused, read_done}
 use borrow.Author.Rules.{rules}
 use Rattle.trace2_read.proofs.read_second.Statement.{statement}
 use Rattle.trace2_read.proofs.read_second.Tie as tie
@@ -22,7 +22,7 @@ load-requires : tie.Need-load-requires
 load-requires c κs =
     let b = c.before.before.before.before.before.before in
     let w = b.before.before.before.before.before.before.before.wipe in
-    loadable (rooms_of w.new.0 w.new.1.0 w.new.1.1.0 w.new.1.1.1.0) b.before.before.before.before.before.before.before.before.before.before.before.before.before.before.before.args.bytes.now b.before.before.before.before.before.before.before.before.before.before.before.before.before.before.before.requires (sym b.judge-whole.ensures ∙ c.before.before.before.before.enum_told.given.1)
+    loadable (rooms_of w.new.0 w.new.1.0 w.new.1.1.0 w.new.1.1.1.0) b.before.before.before.before.before.before.before.before.before.before.before.before.before.before.before.args.bytes.now b.before.before.before.before.before.before.before.before.before.before.before.before.before.before.before.requires (sym b.judge_whole.ensures ∙ c.before.before.before.before.enum_told.given.1)
 
 same_length : tie.Need-same-length
 same_length c = search rules
@@ -41,7 +41,7 @@ returns c =
     let b = c.before.before.before in
     let w = b.before.before.before.before.before.before.before.wipe in
     let a = b.before.before.before.before.before.before.before.before.before.before.before.before.before.before.before.args in
-    read-refused a.bytes.now a.counts.now w.new.0 a.starts.now w.new.1.0 a.deltas.now w.new.1.1.0 a.coefficients.now w.new.1.1.1.0 w.ensures b.before.before.before.before.before.before.before.before.before.before.before.before.before.before.before.requires _ _ (sym b.judge-whole.ensures ∙ c.before.c.given.1)
+    read_refused a.bytes.now a.counts.now w.new.0 a.starts.now w.new.1.0 a.deltas.now w.new.1.1.0 a.coefficients.now w.new.1.1.1.0 w.ensures b.before.before.before.before.before.before.before.before.before.before.before.before.before.before.before.requires _ _ (sym b.judge_whole.ensures ∙ c.before.c.given.1)
 
 same-length-5 : tie.Need-same-length-5
 same-length-5 c = search rules
@@ -63,7 +63,7 @@ returns-2 c =
     let a = b.before.before.before.before.before.before.before.before.before.before.before.before.before.before.before.args in
     let g = l.load in
     read_done a.bytes.now a.counts.now w.new.0 a.starts.now w.new.1.0 a.deltas.now w.new.1.1.0 a.coefficients.now w.new.1.1.1.0 w.ensures b.before.before.before.before.before.before.before.before.before.before.before.before.before.before.before.requires g.result g.new.1.0 g.new.1.1.0 g.new.1.1.1.0 g.new.1.1.1.1.0
-    (sym b.judge-whole.ensures ∙ l.before.before.before.before.before.enum_told.given.1) g.ensures
+    (sym b.judge_whole.ensures ∙ l.before.before.before.before.before.enum_told.given.1) g.ensures
 
 pub read-second-spec : {M : Type 1} → statement M
 read-second-spec =

@@ -1,7 +1,7 @@
 -- `trace_read2` meets its contract: version 2 by its own steps with its ninth number, and any other file by `trace_read` with edition 1.
 use mathlib.Core.Path.{sym, ◌∙◌}
 use native.Mathlib.Omega.{arith}
-use Rattle.trace2_read.proofs.Seconds.{second_is, second-told, other-told}
+use Rattle.trace2_read.proofs.Seconds.{second_is, second_told, other_told}
 use borrow.Author.Rules.{rules}
 use Rattle.trace2_read.proofs.trace_read2.Statement.{statement}
 use Rattle.trace2_read.proofs.trace_read2.Tie as tie
@@ -39,7 +39,7 @@ same-length-4 c = search rules
 returns : tie.Need-returns
 returns c =
     let w = c.with-edition.ensures in
-    second-told _ _ c.with-edition.result _ _ _ _ _ _ w.0 w.1 (sym c.before.before.before.before.before.before.before.before.before.before.before.before.before.before.Says-second.ensures ∙ c.before.before.before.before.before.before.before.before.before.before.before.before.before.if1.true) c.before.before.before.before.before.before.before.before.before.before.before.before.ninth.ensures c.before.before.before.before.before.before.before.read-second.ensures
+    second_told _ _ c.with-edition.result _ _ _ _ _ _ w.0 w.1 (sym c.before.before.before.before.before.before.before.before.before.before.before.before.before.before.Says-second.ensures ∙ c.before.before.before.before.before.before.before.before.before.before.before.before.before.if1.true) c.before.before.before.before.before.before.before.before.before.before.before.before.ninth.ensures c.before.before.before.before.before.before.before.read-second.ensures
 
 same-length-5 : tie.Need-same-length-5
 same-length-5 c = search rules
@@ -56,7 +56,7 @@ same-length-8 c = search rules
 returns-2 : tie.Need-returns-2
 returns-2 c =
     let w = c.with-edition2.ensures in
-    other-told _ _ c.with-edition2.result _ _ _ _ _ _ w.0 w.1 (sym c.before.before.before.before.before.before.before.before.before.before.before.before.before.Says-second.ensures ∙ c.before.before.before.before.before.before.before.before.before.before.before.before.if1.false) (omega arith) c.before.before.before.before.before.before.before.trace-read.ensures
+    other_told _ _ c.with-edition2.result _ _ _ _ _ _ w.0 w.1 (sym c.before.before.before.before.before.before.before.before.before.before.before.before.before.Says-second.ensures ∙ c.before.before.before.before.before.before.before.before.before.before.before.before.if1.false) (omega arith) c.before.before.before.before.before.before.before.trace-read.ensures
 
 pub trace-read2-spec : {M : Type 1} → statement M
 trace-read2-spec =

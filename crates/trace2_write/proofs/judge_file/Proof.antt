@@ -1,7 +1,7 @@
 -- `judge_file` meets its contract: the shape, the edition, the version, then the rest.
 use mathlib.Core.Path.{sym, ◌∙◌}
 use borrow.Author.Tests.{not-true, not-false}
-use Rattle.trace2_write.proofs.Seconds.{file-shape, file-edition, file-version, file-rest}
+use Rattle.trace2_write.proofs.Seconds.{file_shape, file_edition, file_version, file_rest}
 use borrow.Author.Rules.{rules}
 use Rattle.trace2_write.proofs.judge_file.Statement.{statement}
 use Rattle.trace2_write.proofs.judge_file.Tie as tie
@@ -12,7 +12,7 @@ shape-good-requires c κs = search rules
 returns : tie.Need-returns
 returns c =
     let a = c.before.before.before.before.args in
-    file-shape a.version a.edition a.counts.now a.starts.now a.deltas.now a.coefficients.now (sym c.before.shape-good.ensures ∙ not-true _ c.if1.true)
+    file_shape a.version a.edition a.counts.now a.starts.now a.deltas.now a.coefficients.now (sym c.before.shape-good.ensures ∙ not-true _ c.if1.true)
 
 barred-requires : tie.Need-barred-requires
 barred-requires c κs = search rules
@@ -20,7 +20,7 @@ barred-requires c κs = search rules
 returns-2 : tie.Need-returns-2
 returns-2 c =
     let a = c.before.before.before.before.before.before.args in
-    file-edition a.version a.edition a.counts.now a.starts.now a.deltas.now a.coefficients.now (sym c.before.before.before.shape-good.ensures ∙ not-false _ c.before.before.if1.false) (sym c.before.barred.ensures ∙ c.if2.true)
+    file_edition a.version a.edition a.counts.now a.starts.now a.deltas.now a.coefficients.now (sym c.before.before.before.shape-good.ensures ∙ not-false _ c.before.before.if1.false) (sym c.before.barred.ensures ∙ c.if2.true)
 
 unknown-requires : tie.Need-unknown-requires
 unknown-requires c κs = search rules
@@ -28,7 +28,7 @@ unknown-requires c κs = search rules
 returns-3 : tie.Need-returns-3
 returns-3 c =
     let a = c.before.before.before.before.before.before.before.before.args in
-    file-version a.version a.edition a.counts.now a.starts.now a.deltas.now a.coefficients.now (sym c.before.before.before.before.before.shape-good.ensures ∙ not-false _ c.before.before.before.before.if1.false) (sym c.before.before.before.barred.ensures ∙ c.before.before.if2.false) (sym c.before.unknown.ensures ∙ c.if3.true)
+    file_version a.version a.edition a.counts.now a.starts.now a.deltas.now a.coefficients.now (sym c.before.before.before.before.before.shape-good.ensures ∙ not-false _ c.before.before.before.before.if1.false) (sym c.before.before.before.barred.ensures ∙ c.before.before.if2.false) (sym c.before.unknown.ensures ∙ c.if3.true)
 
 header-long-requires : tie.Need-header-long-requires
 header-long-requires c κs = search rules
@@ -40,7 +40,7 @@ returns-4 : tie.Need-returns-4
 returns-4 c =
     let a = c.before.before.before.before.before.before.before.before.before.before.args in
     c.judge.ensures
-    ∙ file-rest a.version a.edition a.counts.now a.starts.now a.deltas.now a.coefficients.now (sym c.before.before.before.before.before.before.before.shape-good.ensures ∙ not-false _ c.before.before.before.before.before.before.if1.false) (sym c.before.before.before.before.before.barred.ensures ∙ c.before.before.before.before.if2.false) (sym c.before.before.before.unknown.ensures ∙ c.before.before.if3.false) _ c.before.header-long.ensures.0
+    ∙ file_rest a.version a.edition a.counts.now a.starts.now a.deltas.now a.coefficients.now (sym c.before.before.before.before.before.before.before.shape-good.ensures ∙ not-false _ c.before.before.before.before.before.before.if1.false) (sym c.before.before.before.before.before.barred.ensures ∙ c.before.before.before.before.if2.false) (sym c.before.before.before.unknown.ensures ∙ c.before.before.if3.false) _ c.before.header-long.ensures.0
 
 pub judge-file-spec : {M : Type 1} → statement M
 judge-file-spec =

@@ -3,7 +3,7 @@ use mathlib.Core.Path.{sym, ◌∙◌}
 use mir.Syntax.{w32}
 use mir.Facts.{to_z-of_z}
 use lib.ListN.{length}
-use Rattle.trace2_write.proofs.Seconds.{plain-written}
+use Rattle.trace2_write.proofs.Seconds.{plain_written}
 use borrow.Author.Rules.{rules}
 use Rattle.trace2_write.proofs.trace_write2.Statement.{statement}
 use Rattle.trace2_write.proofs.trace_write2.Tie as tie
@@ -25,7 +25,7 @@ returns c =
     let a = c.before.before.before.before.before.before.before.before.before.args in
     let z = to_z-of_z {w = w32} {z = a.adjustment} c.before.before.before.before.before.before.before.before.before.ranges.adjustment in
     (rw z at c.before.before.trace-write.ensures)
-    ∙ plain-written a.counts.now a.starts.now a.deltas.now a.coefficients.now a.adjustment a.version a.edition (length a.bytes.now) (sym c.before.before.before.before.before.is_plain.ensures ∙ c.before.before.before.before.if1.true)
+    ∙ plain_written a.counts.now a.starts.now a.deltas.now a.coefficients.now a.adjustment a.version a.edition (length a.bytes.now) (sym c.before.before.before.before.before.is_plain.ensures ∙ c.before.before.before.before.if1.true)
 
 same-length-2 : tie.Need-same-length-2
 same-length-2 c = search rules

@@ -6,8 +6,8 @@ use mathlib.Core.List.{[], ◌∷◌}
 use Rattle.trace2.specs.Editions.{version2}
 use mir.Syntax.{w32}
 use mir.Facts.{to_z-of_z}
-use Rattle.trace_write.proofs.Puts.{file-put, size_is, half_is}
-use Rattle.trace2_write.proofs.Seconds.{judged-second, answer-fault, answer-room, answer-done}
+use Rattle.trace_write.proofs.Puts.{file_put, size_is, half_is}
+use Rattle.trace2_write.proofs.Seconds.{judged_second, answer_fault, answer_room, answer_done}
 use borrow.Author.Rules.{rules}
 use Rattle.trace2_write.proofs.write_second.Statement.{statement}
 use Rattle.trace2_write.proofs.write_second.Tie as tie
@@ -28,7 +28,7 @@ mul-size : tie.Need-overflow-mul-size
 mul-size c =
     let b = c.before.before.before.before.before.before.before.before.before.before in
     let a = b.args in
-    let j = judged-second a.version a.edition a.counts.now a.starts.now a.deltas.now a.coefficients.now b.requires (sym c.before.before.judge-file.ensures ∙ c.enum_told.given.1) in
+    let j = judged_second a.version a.edition a.counts.now a.starts.now a.deltas.now a.coefficients.now b.requires (sym c.before.before.judge-file.ensures ∙ c.enum_told.given.1) in
     record { fits = omega (arith, j.few, j.fewer, j.points) }
 
 mul-size-2 : tie.Need-overflow-mul-size-2
@@ -38,21 +38,21 @@ add-size : tie.Need-overflow-add-size
 add-size c =
     let b = c.before.before.before.before.before.before.before.before.before.before in
     let a = b.args in
-    let j = judged-second a.version a.edition a.counts.now a.starts.now a.deltas.now a.coefficients.now b.requires (sym c.before.before.judge-file.ensures ∙ c.enum_told.given.1) in
+    let j = judged_second a.version a.edition a.counts.now a.starts.now a.deltas.now a.coefficients.now b.requires (sym c.before.before.judge-file.ensures ∙ c.enum_told.given.1) in
     record { fits = omega (arith, j.few, j.fewer, j.points) }
 
 add-size-2 : tie.Need-overflow-add-size-2
 add-size-2 c =
     let b = c.before.before.before.before.before.before.before.before.before.before in
     let a = b.args in
-    let j = judged-second a.version a.edition a.counts.now a.starts.now a.deltas.now a.coefficients.now b.requires (sym c.before.before.judge-file.ensures ∙ c.enum_told.given.1) in
+    let j = judged_second a.version a.edition a.counts.now a.starts.now a.deltas.now a.coefficients.now b.requires (sym c.before.before.judge-file.ensures ∙ c.enum_told.given.1) in
     record { fits = omega (arith, j.few, j.fewer, j.points) }
 
 mul-size-3 : tie.Need-overflow-mul-size-3
 mul-size-3 c =
     let b = c.before.before.before.before.before.before.before.before.before.before in
     let a = b.args in
-    let j = judged-second a.version a.edition a.counts.now a.starts.now a.deltas.now a.coefficients.now b.requires (sym c.before.before.judge-file.ensures ∙ c.enum_told.given.1) in
+    let j = judged_second a.version a.edition a.counts.now a.starts.now a.deltas.now a.coefficients.now b.requires (sym c.before.before.judge-file.ensures ∙ c.enum_told.given.1) in
     record { fits = omega (arith, j.few, j.fewer, j.points) }
 
 same_length : tie.Need-same-length
@@ -62,27 +62,27 @@ returns : tie.Need-returns
 returns c =
     let b = c.before.before.before.before.before.before.before.before.before.before.before in
     let a = b.args in
-    answer-room a.counts.now a.starts.now a.deltas.now a.coefficients.now a.adjustment a.version a.edition (length a.bytes.now) b.requires (sym c.before.before.before.judge-file.ensures ∙ c.before.enum_told.given.1) c.before.before.before.before.before.before.clear-u8.new.0 c.before.before.before.before.before.before.clear-u8.ensures c.if1.true
+    answer_room a.counts.now a.starts.now a.deltas.now a.coefficients.now a.adjustment a.version a.edition (length a.bytes.now) b.requires (sym c.before.before.before.judge-file.ensures ∙ c.before.enum_told.given.1) c.before.before.before.before.before.before.clear-u8.new.0 c.before.before.before.before.before.before.clear-u8.ensures c.if1.true
 
 cast-put-header : tie.Need-overflow-cast-put-header
 cast-put-header c =
     let b = c.before.before.before.before.before.before.before.before.before.before.before.before in
     let a = b.args in
-    let j = judged-second a.version a.edition a.counts.now a.starts.now a.deltas.now a.coefficients.now b.requires (sym c.before.before.before.before.judge-file.ensures ∙ c.before.before.enum_told.given.1) in
+    let j = judged_second a.version a.edition a.counts.now a.starts.now a.deltas.now a.coefficients.now b.requires (sym c.before.before.before.before.judge-file.ensures ∙ c.before.before.enum_told.given.1) in
     record { fits = omega (arith, j.few, j.fewer, j.points) }
 
 cast-put-header-2 : tie.Need-overflow-cast-put-header-2
 cast-put-header-2 c =
     let b = c.before.before.before.before.before.before.before.before.before.before.before.before in
     let a = b.args in
-    let j = judged-second a.version a.edition a.counts.now a.starts.now a.deltas.now a.coefficients.now b.requires (sym c.before.before.before.before.judge-file.ensures ∙ c.before.before.enum_told.given.1) in
+    let j = judged_second a.version a.edition a.counts.now a.starts.now a.deltas.now a.coefficients.now b.requires (sym c.before.before.before.before.judge-file.ensures ∙ c.before.before.enum_told.given.1) in
     record { fits = omega (arith, j.few, j.fewer, j.points) }
 
 put-header-requires : tie.Need-put-header-requires
 put-header-requires c κs =
     let b = c.before.before.before.before.before.before.before.before.before.before.before.before in
     let a = b.args in
-    let j = judged-second a.version a.edition a.counts.now a.starts.now a.deltas.now a.coefficients.now b.requires (sym c.before.before.before.before.judge-file.ensures ∙ c.before.before.enum_told.given.1) in
+    let j = judged_second a.version a.edition a.counts.now a.starts.now a.deltas.now a.coefficients.now b.requires (sym c.before.before.before.before.judge-file.ensures ∙ c.before.before.enum_told.given.1) in
     let left = c.before.if1.false in
     (omega (arith, left), omega (arith, j.offsets, half_is 9 a.counts.now a.starts.now a.deltas.now a.coefficients.now j))
 
@@ -90,7 +90,7 @@ put-parts-requires : tie.Need-put-parts-requires
 put-parts-requires c κs =
     let b = c.before.before.before.before.before.before.before.before.before.before.before.before.before.before.before.before in
     let a = b.args in
-    let j = judged-second a.version a.edition a.counts.now a.starts.now a.deltas.now a.coefficients.now b.requires (sym c.before.before.before.before.before.before.before.before.judge-file.ensures ∙ c.before.before.before.before.before.before.enum_told.given.1) in
+    let j = judged_second a.version a.edition a.counts.now a.starts.now a.deltas.now a.coefficients.now b.requires (sym c.before.before.before.before.before.before.before.before.judge-file.ensures ∙ c.before.before.before.before.before.before.enum_told.given.1) in
     let room = c.before.before.before.before.before.if1.false in
     record {
       few = j.few;
@@ -110,7 +110,7 @@ returns-2 : tie.Need-returns-2
 returns-2 c =
     let b = c.before.before.before.before.before.before.before.before.before.before.before in
     let a = b.args in
-    answer-fault a.counts.now a.starts.now a.deltas.now a.coefficients.now a.adjustment a.version a.edition (length a.bytes.now) _ _ c.before.before.before.before.before.before.clear-u8.new.0 c.before.before.before.before.before.before.clear-u8.ensures (sym c.before.before.before.judge-file.ensures ∙ c.before.c.given.1)
+    answer_fault a.counts.now a.starts.now a.deltas.now a.coefficients.now a.adjustment a.version a.edition (length a.bytes.now) _ _ c.before.before.before.before.before.before.clear-u8.new.0 c.before.before.before.before.before.before.clear-u8.ensures (sym c.before.before.before.judge-file.ensures ∙ c.before.c.given.1)
 
 same-length-3 : tie.Need-same-length-3
 same-length-3 c = search rules
@@ -119,12 +119,12 @@ returns-3 : tie.Need-returns-3
 returns-3 c =
     let b = c.before.before.before.before.before.before.before.before.before.before.before.before.before.before.before.before.before.before.before in
     let a = b.args in
-    let j = judged-second a.version a.edition a.counts.now a.starts.now a.deltas.now a.coefficients.now b.requires (sym c.before.before.before.before.before.before.before.before.before.before.before.judge-file.ensures ∙ c.before.before.before.before.before.before.before.before.before.enum_told.given.1) in
+    let j = judged_second a.version a.edition a.counts.now a.starts.now a.deltas.now a.coefficients.now b.requires (sym c.before.before.before.before.before.before.before.before.before.before.before.judge-file.ensures ∙ c.before.before.before.before.before.before.before.before.before.enum_told.given.1) in
     let h = c.before.before.before.before.before.before.put-header in
     let z = to_z-of_z {w = w32} {z = a.adjustment} c.before.before.before.before.before.before.before.before.before.before.before.before.before.before.before.before.before.before.before.ranges.adjustment in
-    let put = file-put version2 (a.edition ∷ []) a.counts.now a.starts.now a.deltas.now a.coefficients.now a.adjustment refl c.before.before.before.before.before.before.before.before.before.before.before.before.before.before.clear-u8.new.0 h.new.0 c.before.before.put-parts.new.1.1.1.1.0
+    let put = file_put version2 (a.edition ∷ []) a.counts.now a.starts.now a.deltas.now a.coefficients.now a.adjustment refl c.before.before.before.before.before.before.before.before.before.before.before.before.before.before.clear-u8.new.0 h.new.0 c.before.before.put-parts.new.1.1.1.1.0
     (rw (half_is 9 a.counts.now a.starts.now a.deltas.now a.coefficients.now j, z) at h.ensures) c.before.before.put-parts.ensures in
-    answer-done a.counts.now a.starts.now a.deltas.now a.coefficients.now a.adjustment a.version a.edition (length a.bytes.now) b.requires (sym c.before.before.before.before.before.before.before.before.before.before.before.judge-file.ensures ∙ c.before.before.before.before.before.before.before.before.before.enum_told.given.1) c.before.before.before.before.before.before.before.before.before.before.before.before.before.before.clear-u8.new.0 _ _ c.before.before.before.before.before.before.before.before.before.before.before.before.before.before.clear-u8.ensures refl c.before.before.before.before.before.before.before.before.if1.false put
+    answer_done a.counts.now a.starts.now a.deltas.now a.coefficients.now a.adjustment a.version a.edition (length a.bytes.now) b.requires (sym c.before.before.before.before.before.before.before.before.before.before.before.judge-file.ensures ∙ c.before.before.before.before.before.before.before.before.before.enum_told.given.1) c.before.before.before.before.before.before.before.before.before.before.before.before.before.before.clear-u8.new.0 _ _ c.before.before.before.before.before.before.before.before.before.before.before.before.before.before.clear-u8.ensures refl c.before.before.before.before.before.before.before.before.if1.false put
 
 pub write-second-spec : {M : Type 1} → statement M
 write-second-spec =

@@ -3,7 +3,7 @@ use mathlib.Core.Path.{sym, ◌∙◌}
 use native.Mathlib.Omega.{arith}
 use borrow.Author.Rules.{rules}
 use borrow.Author.Tests.{not-true, not-false}
-use Rattle.trace_fit.proofs.Fits.{judge-shape, judge-head, judge-rest, few}
+use Rattle.trace_fit.proofs.Fits.{judge_shape, judge_head, judge_rest, few}
 use Rattle.trace_fit.proofs.judge.Statement.{statement}
 use Rattle.trace_fit.proofs.judge.Tie as tie
 
@@ -13,7 +13,7 @@ shape-good-requires c κs = search rules
 returns : tie.Need-returns
 returns c =
     let a = c.before.before.before.before.args in
-    judge-shape a.h a.counts.now a.starts.now a.deltas.now a.coefficients.now (sym c.before.shape-good.ensures ∙ not-true _ c.if1.true)
+    judge_shape a.h a.counts.now a.starts.now a.deltas.now a.coefficients.now (sym c.before.shape-good.ensures ∙ not-true _ c.if1.true)
 
 judge-header-requires : tie.Need-judge-header-requires
 judge-header-requires c κs = search rules
@@ -33,12 +33,12 @@ judge-values-requires c κs =
 returns-2 : tie.Need-returns-2
 returns-2 c =
     let a = c.before.before.before.before.before.before.before.before.args in
-    judge-head a.h a.counts.now a.starts.now a.deltas.now a.coefficients.now (sym c.before.before.before.before.before.shape-good.ensures ∙ not-false _ c.before.before.before.before.if1.false) _ _ (sym c.before.before.before.judge-header.ensures ∙ c.before.c.given.1)
+    judge_head a.h a.counts.now a.starts.now a.deltas.now a.coefficients.now (sym c.before.before.before.before.before.shape-good.ensures ∙ not-false _ c.before.before.before.before.if1.false) _ _ (sym c.before.before.before.judge-header.ensures ∙ c.before.c.given.1)
 
 returns-3 : tie.Need-returns-3
 returns-3 c =
     let a = c.before.before.before.before.before.before.before.before.args in
-    c.judge-values.ensures ∙ judge-rest a.h a.counts.now a.starts.now a.deltas.now a.coefficients.now (sym c.before.before.before.before.before.shape-good.ensures ∙ not-false _ c.before.before.before.before.if1.false) (sym c.before.before.before.judge-header.ensures ∙ c.before.enum_told.given.1)
+    c.judge-values.ensures ∙ judge_rest a.h a.counts.now a.starts.now a.deltas.now a.coefficients.now (sym c.before.before.before.before.before.shape-good.ensures ∙ not-false _ c.before.before.before.before.if1.false) (sym c.before.before.before.judge-header.ensures ∙ c.before.enum_told.given.1)
 
 pub judge-spec : {M : Type 1} → statement M
 judge-spec =

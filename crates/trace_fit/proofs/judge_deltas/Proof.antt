@@ -5,16 +5,16 @@ use native.Mathlib.Omega.{arith}
 use lib.ListN.{length, drop}
 use lib.IntN.{pos}
 use Rattle.codes.specs.declared.Code.TheVariants.{Delta}
-use Rattle.writer.specs.Write.{firstFault}
-use Rattle.trace.specs.Trace.{wild, numberChecks}
-use Rattle.trace.proofs.Checks.{turn-fault, turn-pass, turn_end}
+use Rattle.writer.specs.Write.{first_fault}
+use Rattle.trace.specs.Trace.{wild, number_checks}
+use Rattle.trace.proofs.Checks.{turn_fault, turn_pass, turn_end}
 use borrow.Author.Rules.{rules}
 use Rattle.trace_fit.proofs.judge_deltas.Statement.{statement}
 use Rattle.trace_fit.proofs.judge_deltas.Tie as tie
 
 abbrev invariant-loop : tie.invariant-loop
 invariant-loop deltas from i₀ i =
-    (i ≤ length deltas) × (firstFault (numberChecks wild Delta from deltas) ≡ firstFault (numberChecks wild Delta (from + i) (drop i deltas)))
+    (i ≤ length deltas) × (first_fault (number_checks wild Delta from deltas) ≡ first_fault (number_checks wild Delta (from + i) (drop i deltas)))
 
 abbrev decreases-loop : tie.decreases-loop
 decreases-loop deltas from i₀ i = length deltas - i
@@ -35,7 +35,7 @@ returns : tie.Need-returns invariant-loop decreases-loop
 returns c =
     let a = c.before.before.before.before.args in
     let v = c.before.before.before.loop in
-    sym (v.invariant.1 ∙ turn-fault wild Delta a.deltas.now (pos 0) (a.from + v.i) v.i (omega arith) (sym c.before.wild-at.ensures ∙ c.if1.true))
+    sym (v.invariant.1 ∙ turn_fault wild Delta a.deltas.now (pos 0) (a.from + v.i) v.i (omega arith) (sym c.before.wild-at.ensures ∙ c.if1.true))
 
 add-i : tie.Need-overflow-add-i invariant-loop decreases-loop
 add-i c = search rules
@@ -49,7 +49,7 @@ loop-again c =
     let v = c.before.before.before.loop in
     let j : suc v.i ≡ v.i + 1 = omega arith in
     let k : suc (a.from + v.i) ≡ a.from + (v.i + 1) = omega arith in
-    (omega arith, v.invariant.1 ∙ rw (k, j) at (turn-pass wild Delta a.deltas.now (pos 0) (a.from + v.i) v.i (omega arith) (sym c.before.wild-at.ensures ∙ c.if1.false)))
+    (omega arith, v.invariant.1 ∙ rw (k, j) at (turn_pass wild Delta a.deltas.now (pos 0) (a.from + v.i) v.i (omega arith) (sym c.before.wild-at.ensures ∙ c.if1.false)))
 
 returns-2 : tie.Need-returns-2 invariant-loop decreases-loop
 returns-2 c =

@@ -5,17 +5,17 @@ use native.Mathlib.Omega.{arith}
 use lib.ListN.{length, drop}
 use lib.Ieee.{nan}
 use Rattle.codes.specs.declared.Code.TheVariants.{Coord}
-use Rattle.writer.specs.Write.{firstFault}
-use Rattle.trace.specs.Trace.{numberChecks}
+use Rattle.writer.specs.Write.{first_fault}
+use Rattle.trace.specs.Trace.{number_checks}
 use Rattle.trace.specs.Write.{misfit}
-use Rattle.trace.proofs.Checks.{turn-fault, turn-pass, turn_end}
+use Rattle.trace.proofs.Checks.{turn_fault, turn_pass, turn_end}
 use borrow.Author.Rules.{rules}
 use Rattle.trace_fit.proofs.judge_starts.Statement.{statement}
 use Rattle.trace_fit.proofs.judge_starts.Tie as tie
 
 abbrev invariant-loop : tie.invariant-loop
 invariant-loop starts from i₀ i =
-    (i ≤ length starts) × (firstFault (numberChecks misfit Coord from starts) ≡ firstFault (numberChecks misfit Coord (from + i) (drop i starts)))
+    (i ≤ length starts) × (first_fault (number_checks misfit Coord from starts) ≡ first_fault (number_checks misfit Coord (from + i) (drop i starts)))
 
 abbrev decreases-loop : tie.decreases-loop
 decreases-loop starts from i₀ i = length starts - i
@@ -42,7 +42,7 @@ returns : tie.Need-returns invariant-loop decreases-loop
 returns c =
     let a = c.before.before.before.before.before.before.args in
     let v = c.before.before.before.before.loop in
-    sym (v.invariant.1 ∙ turn-fault misfit Coord a.starts.now nan (a.from + v.i) v.i (omega arith) (sym c.before.no_start.ensures ∙ c.if1.true))
+    sym (v.invariant.1 ∙ turn_fault misfit Coord a.starts.now nan (a.from + v.i) v.i (omega arith) (sym c.before.no_start.ensures ∙ c.if1.true))
 
 add-i : tie.Need-overflow-add-i invariant-loop decreases-loop
 add-i c = search rules
@@ -56,7 +56,7 @@ loop-again c =
     let v = c.before.before.before.before.loop in
     let j : suc v.i ≡ v.i + 1 = omega arith in
     let k : suc (a.from + v.i) ≡ a.from + (v.i + 1) = omega arith in
-    (omega arith, v.invariant.1 ∙ rw (k, j) at (turn-pass misfit Coord a.starts.now nan (a.from + v.i) v.i (omega arith) (sym c.before.no_start.ensures ∙ c.if1.false)))
+    (omega arith, v.invariant.1 ∙ rw (k, j) at (turn_pass misfit Coord a.starts.now nan (a.from + v.i) v.i (omega arith) (sym c.before.no_start.ensures ∙ c.if1.false)))
 
 returns-2 : tie.Need-returns-2 invariant-loop decreases-loop
 returns-2 c =

@@ -2,7 +2,7 @@
 use mathlib.Core.Path.{sym, ◌∙◌}
 use native.Mathlib.Omega.{arith}
 use borrow.Author.Rules.{rules}
-use Rattle.trace_fit.proofs.Fits.{values-start, values-rest}
+use Rattle.trace_fit.proofs.Fits.{values_start, values_rest}
 use Rattle.trace_fit.proofs.judge_values.Statement.{statement}
 use Rattle.trace_fit.proofs.judge_values.Tie as tie
 
@@ -30,13 +30,13 @@ judge-deltas-requires c κs = omega arith
 returns : tie.Need-returns
 returns c =
     let a = c.before.before.before.before.before.args in
-    values-start a.h a.s a.starts.now a.deltas.now _ _ (sym c.before.before.before.judge-starts.ensures ∙ c.before.c.given.1)
+    values_start a.h a.s a.starts.now a.deltas.now _ _ (sym c.before.before.before.judge-starts.ensures ∙ c.before.c.given.1)
 
 returns-2 : tie.Need-returns-2
 returns-2 c =
     let a = c.before.before.before.before.before.args in
     c.judge-deltas.ensures
-    ∙ values-rest a.h a.s a.starts.now a.deltas.now (sym c.before.before.before.judge-starts.ensures ∙ c.before.enum_told.given.1)
+    ∙ values_rest a.h a.s a.starts.now a.deltas.now (sym c.before.before.before.judge-starts.ensures ∙ c.before.enum_told.given.1)
 
 pub judge-values-spec : {M : Type 1} → statement M
 judge-values-spec =

@@ -1,8 +1,8 @@
 -- `judge_body` meets its contract: the length, then the parts.
 use mathlib.Core.Path.{sym, ◌∙◌}
 use lib.ListN.{length}
-use Rattle.little.specs.Little.{numbersIn}
-use Rattle.trace_judge.proofs.Faults.{length-due, body-length, body-rest}
+use Rattle.little.specs.Little.{numbers_in}
+use Rattle.trace_judge.proofs.Faults.{length_due, body_length, body_rest}
 use borrow.Author.Rules.{rules}
 use Rattle.trace_judge.proofs.judge_body.Statement.{statement}
 use Rattle.trace_judge.proofs.judge_body.Tie as tie
@@ -33,20 +33,20 @@ enum_told c = search rules
 
 judge-parts-requires : tie.Need-judge-parts-requires
 judge-parts-requires c κs =
-    length-due _ _ (sym c.before.before.judge-length.ensures ∙ c.enum_told.given.1)
+    length_due _ _ (sym c.before.before.judge-length.ensures ∙ c.enum_told.given.1)
 
 returns : tie.Need-returns
 returns c =
     let a = c.before.before.before.before.before.args in
     let g = c.before.before.before.before.before.requires in
-    body-length a.h (length a.bytes.now) (numbersIn a.bytes.now) a.s a.p g.splines g.points _ _ (sym c.before.before.before.judge-length.ensures ∙ c.before.c.given.1)
+    body_length a.h (length a.bytes.now) (numbers_in a.bytes.now) a.s a.p g.splines g.points _ _ (sym c.before.before.before.judge-length.ensures ∙ c.before.c.given.1)
 
 returns-2 : tie.Need-returns-2
 returns-2 c =
     let a = c.before.before.before.before.before.args in
     let g = c.before.before.before.before.before.requires in
     c.judge-parts.ensures
-    ∙ body-rest a.h (length a.bytes.now) (numbersIn a.bytes.now) a.s a.p g.splines g.points (sym c.before.before.before.judge-length.ensures ∙ c.before.enum_told.given.1)
+    ∙ body_rest a.h (length a.bytes.now) (numbers_in a.bytes.now) a.s a.p g.splines g.points (sym c.before.before.before.judge-length.ensures ∙ c.before.enum_told.given.1)
 
 pub judge-body-spec : {M : Type 1} → statement M
 judge-body-spec =

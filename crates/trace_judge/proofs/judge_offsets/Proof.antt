@@ -1,7 +1,7 @@
 -- `judge_offsets` meets its contract: four offsets, one after the other.
 use mathlib.Core.Path.{sym, ◌∙◌}
-use Rattle.little.specs.Little.{numbersIn}
-use Rattle.trace_judge.proofs.Faults.{offset-16, offset-20, offset-24, offset-28, offsets-fine}
+use Rattle.little.specs.Little.{numbers_in}
+use Rattle.trace_judge.proofs.Faults.{offset_16, offset_20, offset_24, offset_28, offsets_fine}
 use borrow.Author.Rules.{rules}
 use Rattle.trace_judge.proofs.judge_offsets.Statement.{statement}
 use Rattle.trace_judge.proofs.judge_offsets.Tie as tie
@@ -16,7 +16,7 @@ returns : tie.Need-returns
 returns c =
     let a = c.before.before.before.args in
     let g = c.before.before.before.requires in
-    offset-16 a.h (numbersIn a.bytes.now) a.s a.p g.splines g.points (sym c.before.wrong.ensures ∙ c.if1.true)
+    offset_16 a.h (numbers_in a.bytes.now) a.s a.p g.splines g.points (sym c.before.wrong.ensures ∙ c.if1.true)
 
 add-wrong : tie.Need-overflow-add-wrong
 add-wrong c = search rules
@@ -31,7 +31,7 @@ returns-2 : tie.Need-returns-2
 returns-2 c =
     let a = c.before.before.before.before.before.args in
     let g = c.before.before.before.before.before.requires in
-    offset-20 a.h (numbersIn a.bytes.now) a.s a.p g.splines g.points (sym c.before.before.before.wrong.ensures ∙ c.before.before.if1.false) (sym c.before.wrong2.ensures ∙ c.if2.true)
+    offset_20 a.h (numbers_in a.bytes.now) a.s a.p g.splines g.points (sym c.before.before.before.wrong.ensures ∙ c.before.before.if1.false) (sym c.before.wrong2.ensures ∙ c.if2.true)
 
 mul-wrong-3 : tie.Need-overflow-mul-wrong-3
 mul-wrong-3 c = search rules
@@ -49,7 +49,7 @@ returns-3 : tie.Need-returns-3
 returns-3 c =
     let a = c.before.before.before.before.before.before.before.args in
     let g = c.before.before.before.before.before.before.before.requires in
-    offset-24 a.h (numbersIn a.bytes.now) a.s a.p g.splines g.points (sym c.before.before.before.before.before.wrong.ensures ∙ c.before.before.before.before.if1.false) (sym c.before.before.before.wrong2.ensures ∙ c.before.before.if2.false) (sym c.before.wrong3.ensures ∙ c.if3.true)
+    offset_24 a.h (numbers_in a.bytes.now) a.s a.p g.splines g.points (sym c.before.before.before.before.before.wrong.ensures ∙ c.before.before.before.before.if1.false) (sym c.before.before.before.wrong2.ensures ∙ c.before.before.if2.false) (sym c.before.wrong3.ensures ∙ c.if3.true)
 
 mul-wrong-5 : tie.Need-overflow-mul-wrong-5
 mul-wrong-5 c = search rules
@@ -73,13 +73,13 @@ returns-4 : tie.Need-returns-4
 returns-4 c =
     let a = c.before.before.before.before.before.before.before.before.before.args in
     let g = c.before.before.before.before.before.before.before.before.before.requires in
-    offset-28 a.h (numbersIn a.bytes.now) a.s a.p g.splines g.points (sym c.before.before.before.before.before.before.before.wrong.ensures ∙ c.before.before.before.before.before.before.if1.false) (sym c.before.before.before.before.before.wrong2.ensures ∙ c.before.before.before.before.if2.false) (sym c.before.before.before.wrong3.ensures ∙ c.before.before.if3.false) (sym c.before.wrong4.ensures ∙ c.if4.true)
+    offset_28 a.h (numbers_in a.bytes.now) a.s a.p g.splines g.points (sym c.before.before.before.before.before.before.before.wrong.ensures ∙ c.before.before.before.before.before.before.if1.false) (sym c.before.before.before.before.before.wrong2.ensures ∙ c.before.before.before.before.if2.false) (sym c.before.before.before.wrong3.ensures ∙ c.before.before.if3.false) (sym c.before.wrong4.ensures ∙ c.if4.true)
 
 returns-5 : tie.Need-returns-5
 returns-5 c =
     let a = c.before.before.before.before.before.before.before.before.before.args in
     let g = c.before.before.before.before.before.before.before.before.before.requires in
-    offsets-fine a.h (numbersIn a.bytes.now) a.s a.p g.splines g.points (sym c.before.before.before.before.before.before.before.wrong.ensures ∙ c.before.before.before.before.before.before.if1.false) (sym c.before.before.before.before.before.wrong2.ensures ∙ c.before.before.before.before.if2.false) (sym c.before.before.before.wrong3.ensures ∙ c.before.before.if3.false) (sym c.before.wrong4.ensures ∙ c.if4.false)
+    offsets_fine a.h (numbers_in a.bytes.now) a.s a.p g.splines g.points (sym c.before.before.before.before.before.before.before.wrong.ensures ∙ c.before.before.before.before.before.before.if1.false) (sym c.before.before.before.before.before.wrong2.ensures ∙ c.before.before.before.before.if2.false) (sym c.before.before.before.wrong3.ensures ∙ c.before.before.if3.false) (sym c.before.wrong4.ensures ∙ c.if4.false)
 
 pub judge-offsets-spec : {M : Type 1} → statement M
 judge-offsets-spec =

@@ -3,7 +3,7 @@ use Prim.Native.Nat.{◌-◌, ◌≤◌}
 use native.Mathlib.Omega.{arith}
 use lib.ListN.{length, take}
 use Rattle.little.specs.Little.{Signeds}
-use Rattle.trace_laws.proofs.Lent.{signed-more, signed_all}
+use Rattle.trace_laws.proofs.Lent.{signed_more, signed_all}
 use Rattle.trace_laws.proofs.lend_signed.Statement.{statement}
 use Rattle.trace_laws.proofs.lend_signed.Tie as tie
 
@@ -35,7 +35,7 @@ loop-again : tie.Need-loop-preserved invariant-loop decreases-loop
 loop-again c =
     let a = c.before.before.before.before.args in
     let v = c.before.before.before.loop in
-    (omega arith, signed-more a.numbers.now v.i (omega arith) v.invariant.1 c.before.take-signed-arg.given)
+    (omega arith, signed_more a.numbers.now v.i (omega arith) v.invariant.1 c.before.take-signed-arg.given)
 
 returns : tie.Need-returns invariant-loop decreases-loop
 returns c = signed_all c.before.before.args.numbers.now c.before.loop.i (omega arith) c.before.loop.invariant.1

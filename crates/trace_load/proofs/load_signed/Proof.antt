@@ -7,14 +7,14 @@ use mir.Syntax.{w32}
 use mir.Facts.{to_z-of_z}
 use lib.ListN.{length, take, drop, length-set}
 use borrow.Author.Rules.{rules}
-use Rattle.little.specs.Little.{numbersIn, signedIn}
+use Rattle.little.specs.Little.{numbers_in, signed_in}
 use Rattle.trace.specs.Trace.{part}
-use Rattle.trace_load.proofs.Loads.{load-more, load-all}
+use Rattle.trace_load.proofs.Loads.{load_more, load_all}
 use Rattle.trace_load.proofs.load_signed.Statement.{statement}
 use Rattle.trace_load.proofs.load_signed.Tie as tie
 
 abbrev invariant-loop : tie.invariant-loop
-invariant-loop bytes from n out₀ i₀ out i = (i ≤ n) × (length out ≡ length out₀) × (out ≡ take i (map signedIn (part from n (numbersIn bytes))) ++ drop i out₀)
+invariant-loop bytes from n out₀ i₀ out i = (i ≤ n) × (length out ≡ length out₀) × (out ≡ take i (map signed_in (part from n (numbers_in bytes))) ++ drop i out₀)
 
 abbrev decreases-loop : tie.decreases-loop
 decreases-loop bytes from n out₀ i₀ out i = n - i
@@ -50,7 +50,7 @@ loop-again c =
     let z = to_z-of_z {w = w32} {z = c.signed.result} (record { sfits = c.signed.type-inv }) in (
       omega arith,
       simp length-set v.invariant.1,
-      load-more signedIn a.bytes.now a.from a.n (omega arith) a.out.now v.out v.i _ _ (omega arith) (omega arith) c.before.number_at.ensures (z ∙ c.signed.ensures) v.invariant.2,
+      load_more signed_in a.bytes.now a.from a.n (omega arith) a.out.now v.out v.i _ _ (omega arith) (omega arith) c.before.number_at.ensures (z ∙ c.signed.ensures) v.invariant.2,
     )
 
 same_length : tie.Need-same-length invariant-loop decreases-loop
@@ -60,7 +60,7 @@ returns : tie.Need-returns invariant-loop decreases-loop
 returns c =
     let a = c.before.before.before.args in
     let v = c.before.loop in
-    load-all signedIn a.bytes.now a.from a.n (omega arith) a.out.now v.out v.i (omega arith) (omega arith) v.invariant.2
+    load_all signed_in a.bytes.now a.from a.n (omega arith) a.out.now v.out v.i (omega arith) (omega arith) v.invariant.2
 
 pub load-signed-spec : {M : Type 1} → statement M
 load-signed-spec =

@@ -5,15 +5,15 @@ use Prim.Native.Nat.{◌+◌, ◌-◌, ◌≤◌}
 use native.Mathlib.Omega.{arith}
 use lib.ListN.{length, take, drop, length-set}
 use borrow.Author.Rules.{rules}
-use Rattle.little.specs.Little.{numbersIn}
+use Rattle.little.specs.Little.{numbers_in}
 use Rattle.trace.specs.Trace.{part}
 use Rattle.trace_load.specs.Steps.{start_in}
-use Rattle.trace_load.proofs.Loads.{load-more, load-all, placed_at}
+use Rattle.trace_load.proofs.Loads.{load_more, load_all, placed_at}
 use Rattle.trace_load.proofs.load_starts.Statement.{statement}
 use Rattle.trace_load.proofs.load_starts.Tie as tie
 
 abbrev invariant-loop : tie.invariant-loop
-invariant-loop bytes from n out₀ i₀ out i = (i ≤ n) × (length out ≡ length out₀) × (out ≡ take i (map start_in (part from n (numbersIn bytes))) ++ drop i out₀)
+invariant-loop bytes from n out₀ i₀ out i = (i ≤ n) × (length out ≡ length out₀) × (out ≡ take i (map start_in (part from n (numbers_in bytes))) ++ drop i out₀)
 
 abbrev decreases-loop : tie.decreases-loop
 decreases-loop bytes from n out₀ i₀ out i = n - i
@@ -50,7 +50,7 @@ loop-again c =
     let v = c.before.before.before.loop in (
       omega arith,
       simp length-set v.invariant.1,
-      load-more start_in a.bytes.now a.from a.n (omega arith) a.out.now v.out v.i _ _ (omega arith) (omega arith) c.before.number_at.ensures c.start-in.ensures v.invariant.2,
+      load_more start_in a.bytes.now a.from a.n (omega arith) a.out.now v.out v.i _ _ (omega arith) (omega arith) c.before.number_at.ensures c.start-in.ensures v.invariant.2,
     )
 
 same_length : tie.Need-same-length invariant-loop decreases-loop
@@ -60,7 +60,7 @@ returns : tie.Need-returns invariant-loop decreases-loop
 returns c =
     let a = c.before.before.before.before.args in
     let v = c.before.loop in
-    load-all start_in a.bytes.now a.from a.n (omega arith) a.out.now v.out v.i (omega arith) (omega arith) v.invariant.2
+    load_all start_in a.bytes.now a.from a.n (omega arith) a.out.now v.out v.i (omega arith) (omega arith) v.invariant.2
 
 pub load-starts-spec : {M : Type 1} → statement M
 load-starts-spec =

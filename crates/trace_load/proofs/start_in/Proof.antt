@@ -3,7 +3,7 @@ use native.Mathlib.Omega.{arith}
 use mir.Syntax.{w32, w64}
 use mir.Facts.{to_z-of_z}
 use Rattle.trace_load.specs.Steps.{start_in}
-use Rattle.trace_load.proofs.Loads.{placed-small}
+use Rattle.trace_load.proofs.Loads.{placed_small}
 use borrow.Author.Rules.{rules}
 use Rattle.trace_load.proofs.start_in.Statement.{statement}
 use Rattle.trace_load.proofs.start_in.Tie as tie
@@ -20,7 +20,7 @@ start-of-requires : tie.Need-start-of-requires
 start-of-requires c κs =
     let z = to_z-of_z {w = w32} {z = c.signed.result} (record { sfits = c.signed.type-inv }) in
     let y = to_z-of_z {w = w64} {z = c.signed.result} (record { sfits = omega (arith, c.signed.type-inv) }) in
-    rw (z, y, c.signed.ensures) (placed-small c.before.args.number c.before.requires)
+    rw (z, y, c.signed.ensures) (placed_small c.before.args.number c.before.requires)
 
 returns : tie.Need-returns
 unfolding start_in

@@ -1,8 +1,8 @@
 -- `judge_parts` meets its contract: the sum, then the starts, then the double deltas.
 use mathlib.Core.Path.{sym, ◌∙◌}
 use borrow.Author.Tests.{not-true, not-false}
-use Rattle.little.specs.Little.{numbersIn}
-use Rattle.trace_parts.proofs.Parts.{parts-shape, parts-start, parts-rest}
+use Rattle.little.specs.Little.{numbers_in}
+use Rattle.trace_parts.proofs.Parts.{parts_shape, parts_start, parts_rest}
 use borrow.Author.Rules.{rules}
 use Rattle.trace_parts.proofs.judge_parts.Statement.{statement}
 use Rattle.trace_parts.proofs.judge_parts.Tie as tie
@@ -13,7 +13,7 @@ sum-is-requires c κs = search rules
 returns : tie.Need-returns
 returns c =
     let a = c.before.before.before.args in
-    parts-shape a.h a.s a.p (numbersIn a.bytes.now) (sym c.before.sum_is.ensures ∙ not-true _ c.if1.true)
+    parts_shape a.h a.s a.p (numbers_in a.bytes.now) (sym c.before.sum_is.ensures ∙ not-true _ c.if1.true)
 
 add-judge-starts : tie.Need-overflow-add-judge-starts
 add-judge-starts c = search rules
@@ -46,13 +46,13 @@ returns-2 : tie.Need-returns-2
 returns-2 c =
     let a = c.before.before.before.before.before.before.before.args in
     let e = sym c.before.before.before.judge-starts.ensures ∙ c.before.c.given.1 in
-    parts-start a.h a.s a.p (numbersIn a.bytes.now) (sym c.before.before.before.before.before.sum_is.ensures ∙ not-false _ c.before.before.before.before.if1.false) _ _ e
+    parts_start a.h a.s a.p (numbers_in a.bytes.now) (sym c.before.before.before.before.before.sum_is.ensures ∙ not-false _ c.before.before.before.before.if1.false) _ _ e
 
 returns-3 : tie.Need-returns-3
 returns-3 c =
     let a = c.before.before.before.before.before.before.before.args in
     let e = sym c.before.before.before.judge-starts.ensures ∙ c.before.enum_told.given.1 in
-    c.judge-deltas.ensures ∙ parts-rest a.h a.s a.p (numbersIn a.bytes.now) (sym c.before.before.before.before.before.sum_is.ensures ∙ not-false _ c.before.before.before.before.if1.false) e
+    c.judge-deltas.ensures ∙ parts_rest a.h a.s a.p (numbers_in a.bytes.now) (sym c.before.before.before.before.before.sum_is.ensures ∙ not-false _ c.before.before.before.before.if1.false) e
 
 pub judge-parts-spec : {M : Type 1} → statement M
 judge-parts-spec =

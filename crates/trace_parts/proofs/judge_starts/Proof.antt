@@ -3,18 +3,18 @@ use Prim.Native.Nat.{◌+◌, ◌-◌, ◌≤◌}
 use native.Mathlib.Omega.{arith}
 use lib.ListN.{drop}
 use Rattle.codes.specs.declared.Code.TheVariants.{Coord}
-use Rattle.writer.specs.Write.{firstFault}
-use Rattle.little.specs.Little.{numbersIn}
-use Rattle.trace.specs.Trace.{part, numberChecks}
+use Rattle.writer.specs.Write.{first_fault}
+use Rattle.little.specs.Little.{numbers_in}
+use Rattle.trace.specs.Trace.{part, number_checks}
 use Rattle.trace.specs.Read.{misplaced}
-use Rattle.trace_parts.proofs.Parts.{number-fault, number-pass, number-end}
+use Rattle.trace_parts.proofs.Parts.{number_fault, number_pass, number_end}
 use borrow.Author.Rules.{rules}
 use Rattle.trace_parts.proofs.judge_starts.Statement.{statement}
 use Rattle.trace_parts.proofs.judge_starts.Tie as tie
 
 abbrev invariant-loop : tie.invariant-loop
 invariant-loop bytes from n i₀ i =
-    (i ≤ n) × (firstFault (numberChecks misplaced Coord from (part from n (numbersIn bytes))) ≡ firstFault (numberChecks misplaced Coord (from + i) (drop i (part from n (numbersIn bytes)))))
+    (i ≤ n) × (first_fault (number_checks misplaced Coord from (part from n (numbers_in bytes))) ≡ first_fault (number_checks misplaced Coord (from + i) (drop i (part from n (numbers_in bytes)))))
 
 abbrev decreases-loop : tie.decreases-loop
 decreases-loop bytes from n i₀ i = n - i
@@ -41,7 +41,7 @@ returns : tie.Need-returns invariant-loop decreases-loop
 returns c =
     let a = c.before.before.before.before.before.before.args in
     let v = c.before.before.before.before.loop in
-    sym (v.invariant.1 ∙ number-fault misplaced Coord a.bytes.now a.from a.n v.i (omega arith) _ _ (omega arith) c.before.before.number_at.ensures c.before.no_start.ensures c.if1.true)
+    sym (v.invariant.1 ∙ number_fault misplaced Coord a.bytes.now a.from a.n v.i (omega arith) _ _ (omega arith) c.before.before.number_at.ensures c.before.no_start.ensures c.if1.true)
 
 add-i : tie.Need-overflow-add-i invariant-loop decreases-loop
 add-i c = omega arith
@@ -53,13 +53,13 @@ loop-again : tie.Need-loop-preserved invariant-loop decreases-loop
 loop-again c =
     let a = c.before.before.before.before.before.before.args in
     let v = c.before.before.before.before.loop in
-    (omega arith, v.invariant.1 ∙ number-pass misplaced Coord a.bytes.now a.from a.n v.i (omega arith) _ _ (omega arith) c.before.before.number_at.ensures c.before.no_start.ensures c.if1.false)
+    (omega arith, v.invariant.1 ∙ number_pass misplaced Coord a.bytes.now a.from a.n v.i (omega arith) _ _ (omega arith) c.before.before.number_at.ensures c.before.no_start.ensures c.if1.false)
 
 returns-2 : tie.Need-returns-2 invariant-loop decreases-loop
 returns-2 c =
     let a = c.before.before.before.args in
     let v = c.before.loop in
-    sym (v.invariant.1 ∙ number-end misplaced Coord a.bytes.now a.from a.n v.i (omega arith) (omega arith))
+    sym (v.invariant.1 ∙ number_end misplaced Coord a.bytes.now a.from a.n v.i (omega arith) (omega arith))
 
 pub judge-starts-spec : {M : Type 1} → statement M
 judge-starts-spec =

@@ -4,18 +4,18 @@ use native.Mathlib.Omega.{arith}
 use lib.ListN.{drop}
 use borrow.Author.Tests.{ne_eqb}
 use Rattle.shape.specs.Shape.{points_of}
-use Rattle.shape.proofs.Shape.{sum-turn, sum-end, sum_left}
-use Rattle.little.specs.Little.{numbersIn}
+use Rattle.shape.proofs.Shape.{sum_turn, sum_end, sum_left}
+use Rattle.little.specs.Little.{numbers_in}
 use Rattle.trace.specs.Trace.{part}
 use Rattle.trace.proofs.Checks.{part_at}
-use Rattle.trace_parts.proofs.Parts.{held-length}
+use Rattle.trace_parts.proofs.Parts.{held_length}
 use borrow.Author.Rules.{rules}
 use Rattle.trace_parts.proofs.sum_is.Statement.{statement}
 use Rattle.trace_parts.proofs.sum_is.Tie as tie
 
 abbrev invariant-loop : tie.invariant-loop
 invariant-loop bytes from n points left₀ i₀ left i =
-    (i ≤ n) × (left ≤ points) × (points_of (drop i (part from n (numbersIn bytes))) + (points - left) ≡ points_of (part from n (numbersIn bytes)))
+    (i ≤ n) × (left ≤ points) × (points_of (drop i (part from n (numbers_in bytes))) + (points - left) ≡ points_of (part from n (numbers_in bytes)))
 
 abbrev decreases-loop : tie.decreases-loop
 decreases-loop bytes from n points left₀ i₀ left i = n - i
@@ -36,10 +36,10 @@ returns : tie.Need-returns invariant-loop decreases-loop
 returns c =
     let a = c.before.before.before.before.before.args in
     let v = c.before.before.before.loop in
-    let ns = part a.from a.n (numbersIn a.bytes.now) in
-    let k = held-length a.bytes.now a.from a.n (omega arith) in
-    let n = part_at a.from a.n (numbersIn a.bytes.now) v.i (omega arith) ∙ sym c.before.number_at.ensures in
-    sym (ne_eqb (points_of ns) a.points (λ e. omega (arith, sum-turn ns v.i (omega arith), v.invariant.2, n)))
+    let ns = part a.from a.n (numbers_in a.bytes.now) in
+    let k = held_length a.bytes.now a.from a.n (omega arith) in
+    let n = part_at a.from a.n (numbers_in a.bytes.now) v.i (omega arith) ∙ sym c.before.number_at.ensures in
+    sym (ne_eqb (points_of ns) a.points (λ e. omega (arith, sum_turn ns v.i (omega arith), v.invariant.2, n)))
 
 add-i : tie.Need-overflow-add-i invariant-loop decreases-loop
 add-i c = omega arith
@@ -51,18 +51,18 @@ loop-again : tie.Need-loop-preserved invariant-loop decreases-loop
 loop-again c =
     let a = c.before.before.before.before.before.args in
     let v = c.before.before.before.loop in
-    let ns = part a.from a.n (numbersIn a.bytes.now) in
-    let k = held-length a.bytes.now a.from a.n (omega arith) in
-    let n = part_at a.from a.n (numbersIn a.bytes.now) v.i (omega arith) ∙ sym c.before.number_at.ensures in
-    omega (arith, sum-turn ns v.i (omega arith), v.invariant.2, n)
+    let ns = part a.from a.n (numbers_in a.bytes.now) in
+    let k = held_length a.bytes.now a.from a.n (omega arith) in
+    let n = part_at a.from a.n (numbers_in a.bytes.now) v.i (omega arith) ∙ sym c.before.number_at.ensures in
+    omega (arith, sum_turn ns v.i (omega arith), v.invariant.2, n)
 
 returns-2 : tie.Need-returns-2 invariant-loop decreases-loop
 returns-2 c =
     let a = c.before.before.before.args in
     let v = c.before.loop in
-    let ns = part a.from a.n (numbersIn a.bytes.now) in
-    let k = held-length a.bytes.now a.from a.n (omega arith) in
-    sum_left ns a.points v.left v.invariant.1 (rw (sum-end ns v.i (omega arith)) at v.invariant.2)
+    let ns = part a.from a.n (numbers_in a.bytes.now) in
+    let k = held_length a.bytes.now a.from a.n (omega arith) in
+    sum_left ns a.points v.left v.invariant.1 (rw (sum_end ns v.i (omega arith)) at v.invariant.2)
 
 pub sum-is-spec : {M : Type 1} → statement M
 sum-is-spec =

@@ -3,7 +3,7 @@ use mathlib.Core.Path.{◌≡◌, ap, ◌∙◌}
 use mir.Syntax.{w32}
 use mir.Facts.{to_z-of_z}
 use borrow.Author.Rules.{rules}
-use Rattle.little.specs.Little.{unsignedOf}
+use Rattle.little.specs.Little.{unsigned_of}
 use Rattle.trace_put.proofs.put_header.Statement.{statement}
 use Rattle.trace_put.proofs.put_header.Tie as tie
 
@@ -54,7 +54,7 @@ returns c =
     let u = c.before.before.before.before.before.unsigned in
     let a = c.before.before.before.before.before.before.before.args in
     let z = to_z-of_z {w = w32} {z = a.adjustment} c.before.before.before.before.before.before.before.ranges.adjustment in
-    let v : u.result ≡ unsignedOf a.adjustment = u.ensures ∙ ap unsignedOf z in
+    let v : u.result ≡ unsigned_of a.adjustment = u.ensures ∙ ap unsigned_of z in
     c.before.before.put-numbers.ensures ∙ rw v
 
 pub put-header-spec : {M : Type 1} → statement M

@@ -7,7 +7,7 @@ use lib.ListN.{length, drop, length-map}
 use lib.Seq.{sets}
 use borrow.Author.Rules.{rules}
 use Rattle.little.specs.Little.{bytes_of}
-use Rattle.trace_put.proofs.Puts.{put-more, put-end}
+use Rattle.trace_put.proofs.Puts.{put_more, put_end}
 use Rattle.trace_put.proofs.put_numbers.Statement.{statement}
 use Rattle.trace_put.proofs.put_numbers.Tie as tie
 
@@ -46,7 +46,7 @@ loop-again c =
     let p = c.before.before.put-number in (
       omega arith,
       omega (arith, p.auto.0),
-      put-more (a.numbers.now) v.bytes p.new.0 a.from v.i 0 _ (omega (arith)) refl p.ensures ∙ v.invariant.2,
+      put_more (a.numbers.now) v.bytes p.new.0 a.from v.i 0 _ (omega (arith)) refl p.ensures ∙ v.invariant.2,
     )
 
 same_length : tie.Need-same-length invariant-loop decreases-loop
@@ -56,7 +56,7 @@ returns : tie.Need-returns invariant-loop decreases-loop
 returns c =
     let a = c.before.before.before.before.args in
     let v = c.before.loop in
-    sym (put-end (a.numbers.now) v.bytes (4 * (a.from + v.i)) v.i (omega (arith))) ∙ v.invariant.2
+    sym (put_end (a.numbers.now) v.bytes (4 * (a.from + v.i)) v.i (omega (arith))) ∙ v.invariant.2
 
 pub put-numbers-spec : {M : Type 1} → statement M
 put-numbers-spec =

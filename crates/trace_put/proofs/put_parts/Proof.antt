@@ -1,5 +1,5 @@
 -- `put_parts` meets its contract: each part stands behind the one before it.
-use Rattle.trace_put.proofs.Puts.{parts-put}
+use Rattle.trace_put.proofs.Puts.{parts_put}
 use borrow.Author.Rules.{rules}
 use Rattle.trace_put.proofs.put_parts.Statement.{statement}
 use Rattle.trace_put.proofs.put_parts.Tie as tie
@@ -41,7 +41,7 @@ returns : tie.Need-returns
 returns c =
     let a = c.before.before.before.before.before.before.before.before.before.before.before.before.before.before.before.before.before.before.before.args in
     let h = c.before.before.before.before.before.before.before.before.before.before.before.before.before.before.before.before.before.before.before.requires in
-    parts-put 8 a.counts.now a.starts.now a.deltas.now a.coefficients.now a.bytes.now _ _ _ _ h.pairs
+    parts_put 8 a.counts.now a.starts.now a.deltas.now a.coefficients.now a.bytes.now _ _ _ _ h.pairs
     c.before.before.before.before.before.before.before.before.before.before.before.before.before.before.put-numbers.ensures c.before.before.before.before.before.before.before.before.before.before.put-starts.ensures c.before.before.before.before.before.before.put-signed.ensures c.before.before.put-signed2.ensures
 
 pub put-parts-spec : {M : Type 1} → statement M

@@ -10,14 +10,14 @@ use lib.IntN.{pos}
 use lib.ListN.{get_or}
 use mir.Syntax.{w32}
 use mir.Facts.{to_z-of_z}
-use Rattle.little.specs.Little.{bytes_of, unsignedOf}
-use Rattle.trace_put.proofs.Puts.{put-more, put-end, map_at}
+use Rattle.little.specs.Little.{bytes_of, unsigned_of}
+use Rattle.trace_put.proofs.Puts.{put_more, put_end, map_at}
 use Rattle.trace_put.proofs.put_signed.Statement.{statement}
 use Rattle.trace_put.proofs.put_signed.Tie as tie
 
 abbrev invariant-loop : tie.invariant-loop
 invariant-loop numbers bytes₀ from i₀ bytes i =
-    (i ≤ length numbers) × (length bytes ≡ length bytes₀) × (sets bytes (4 * (from + i)) (bytes_of (drop i (map unsignedOf numbers))) ≡ sets bytes₀ (4 * from) (bytes_of (map unsignedOf numbers)))
+    (i ≤ length numbers) × (length bytes ≡ length bytes₀) × (sets bytes (4 * (from + i)) (bytes_of (drop i (map unsigned_of numbers))) ≡ sets bytes₀ (4 * from) (bytes_of (map unsigned_of numbers)))
 
 abbrev decreases-loop : tie.decreases-loop
 decreases-loop numbers bytes₀ from i₀ bytes i = length numbers - i
@@ -55,7 +55,7 @@ loop-again c =
     let z = to_z-of_z {w = w32} {z = get_or a.numbers.now v.i (pos 0)} (record { sfits = c.before.before.before.before.unsigned-arg.given }) in (
       omega arith,
       omega (arith, p.auto.0),
-      put-more (map unsignedOf a.numbers.now) v.bytes p.new.0 a.from v.i (unsignedOf (pos 0)) _ (omega (arith, length-map a.numbers.now unsignedOf)) (map_at unsignedOf a.numbers.now (pos 0) v.i _ (u.ensures ∙ ap unsignedOf z)) p.ensures ∙ v.invariant.2,
+      put_more (map unsigned_of a.numbers.now) v.bytes p.new.0 a.from v.i (unsigned_of (pos 0)) _ (omega (arith, length-map a.numbers.now unsigned_of)) (map_at unsigned_of a.numbers.now (pos 0) v.i _ (u.ensures ∙ ap unsigned_of z)) p.ensures ∙ v.invariant.2,
     )
 
 same_length : tie.Need-same-length invariant-loop decreases-loop
@@ -65,7 +65,7 @@ returns : tie.Need-returns invariant-loop decreases-loop
 returns c =
     let a = c.before.before.before.args in
     let v = c.before.loop in
-    sym (put-end (map unsignedOf a.numbers.now) v.bytes (4 * (a.from + v.i)) v.i (omega (arith, length-map a.numbers.now unsignedOf))) ∙ v.invariant.2
+    sym (put_end (map unsigned_of a.numbers.now) v.bytes (4 * (a.from + v.i)) v.i (omega (arith, length-map a.numbers.now unsigned_of))) ∙ v.invariant.2
 
 pub put-signed-spec : {M : Type 1} → statement M
 put-signed-spec =

@@ -10,15 +10,15 @@ use lib.Ieee.{nan}
 use Rattle.codes.specs.declared.Code.TheVariants.{Coord}
 use Rattle.little.specs.Little.{bytes_of}
 use Rattle.trace.specs.Write.{misfit}
-use Rattle.trace.proofs.Checks.{fine-each}
-use Rattle.trace_put.specs.Steps.{startNumber}
-use Rattle.trace_put.proofs.Puts.{put-more, put-end, map_at}
+use Rattle.trace.proofs.Checks.{fine_each}
+use Rattle.trace_put.specs.Steps.{start_number}
+use Rattle.trace_put.proofs.Puts.{put_more, put_end, map_at}
 use Rattle.trace_put.proofs.put_starts.Statement.{statement}
 use Rattle.trace_put.proofs.put_starts.Tie as tie
 
 abbrev invariant-loop : tie.invariant-loop
 invariant-loop starts bytes₀ from i₀ bytes i =
-    (i ≤ length starts) × (length bytes ≡ length bytes₀) × (sets bytes (4 * (from + i)) (bytes_of (drop i (map startNumber starts))) ≡ sets bytes₀ (4 * from) (bytes_of (map startNumber starts)))
+    (i ≤ length starts) × (length bytes ≡ length bytes₀) × (sets bytes (4 * (from + i)) (bytes_of (drop i (map start_number starts))) ≡ sets bytes₀ (4 * from) (bytes_of (map start_number starts)))
 
 abbrev decreases-loop : tie.decreases-loop
 decreases-loop starts bytes₀ from i₀ bytes i = length starts - i
@@ -38,7 +38,7 @@ shared-slice-read-start-number c = search rules
 start-number-requires : tie.Need-start-number-requires invariant-loop decreases-loop
 start-number-requires c κs =
     let a = c.before.before.before.before.before.before.args in
-    fine-each misfit Coord a.starts.now nan a.from c.before.before.before.before.before.before.requires.1 c.before.before.before.loop.i (omega arith)
+    fine_each misfit Coord a.starts.now nan a.from c.before.before.before.before.before.before.requires.1 c.before.before.before.loop.i (omega arith)
 
 put-number-requires : tie.Need-put-number-requires invariant-loop decreases-loop
 put-number-requires c κs = omega arith
@@ -56,7 +56,7 @@ loop-again c =
     let p = c.before.before.put-number in (
       omega arith,
       omega (arith, p.auto.0),
-      put-more (map startNumber a.starts.now) v.bytes p.new.0 a.from v.i (startNumber nan) _ (omega (arith, length-map a.starts.now startNumber)) (map_at startNumber a.starts.now nan v.i _ c.before.before.before.start-number.ensures) p.ensures ∙ v.invariant.2,
+      put_more (map start_number a.starts.now) v.bytes p.new.0 a.from v.i (start_number nan) _ (omega (arith, length-map a.starts.now start_number)) (map_at start_number a.starts.now nan v.i _ c.before.before.before.start-number.ensures) p.ensures ∙ v.invariant.2,
     )
 
 same_length : tie.Need-same-length invariant-loop decreases-loop
@@ -66,7 +66,7 @@ returns : tie.Need-returns invariant-loop decreases-loop
 returns c =
     let a = c.before.before.before.before.args in
     let v = c.before.loop in
-    sym (put-end (map startNumber a.starts.now) v.bytes (4 * (a.from + v.i)) v.i (omega (arith, length-map a.starts.now startNumber))) ∙ v.invariant.2
+    sym (put_end (map start_number a.starts.now) v.bytes (4 * (a.from + v.i)) v.i (omega (arith, length-map a.starts.now start_number))) ∙ v.invariant.2
 
 pub put-starts-spec : {M : Type 1} → statement M
 put-starts-spec =

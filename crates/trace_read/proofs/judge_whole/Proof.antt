@@ -1,8 +1,8 @@
 -- `judge_whole` meets its contract: the file, then the room.
 use mathlib.Core.Path.{sym, ◌∙◌}
 use native.Mathlib.Omega.{arith}
-use Rattle.trace_read.specs.Steps.{roomsFrom}
-use Rattle.trace_read.proofs.Loads.{sound, whole_room, whole-fault, whole-fine}
+use Rattle.trace_read.specs.Steps.{rooms_from}
+use Rattle.trace_read.proofs.Loads.{sound, whole_room, whole_fault, whole_fine}
 use borrow.Author.Rules.{rules}
 use Rattle.trace_read.proofs.judge_whole.Statement.{statement}
 use Rattle.trace_read.proofs.judge_whole.Tie as tie
@@ -34,17 +34,17 @@ lacks-room-requires c κs = search rules
 returns : tie.Need-returns
 returns c =
     let a = c.before.before.before.before.before.before.before.before.args in
-    whole_room (roomsFrom a.counts a.starts a.deltas a.coefficients) a.bytes.now (sym c.before.before.before.before.before.before.judge.ensures ∙ c.before.before.before.before.enum_told.given.1) _ _ c.before.before.before.number_at.ensures c.before.before.number-at2.ensures (sym c.before.lacks-room.ensures ∙ c.if1.true)
+    whole_room (rooms_from a.counts a.starts a.deltas a.coefficients) a.bytes.now (sym c.before.before.before.before.before.before.judge.ensures ∙ c.before.before.before.before.enum_told.given.1) _ _ c.before.before.before.number_at.ensures c.before.before.number-at2.ensures (sym c.before.lacks-room.ensures ∙ c.if1.true)
 
 returns-2 : tie.Need-returns-2
 returns-2 c =
     let a = c.before.before.before.before.before.args in
-    whole-fault (roomsFrom a.counts a.starts a.deltas a.coefficients) a.bytes.now _ _ (sym c.before.before.before.judge.ensures ∙ c.before.c.given.1)
+    whole_fault (rooms_from a.counts a.starts a.deltas a.coefficients) a.bytes.now _ _ (sym c.before.before.before.judge.ensures ∙ c.before.c.given.1)
 
 returns-3 : tie.Need-returns-3
 returns-3 c =
     let a = c.before.before.before.before.before.before.before.before.args in
-    whole-fine (roomsFrom a.counts a.starts a.deltas a.coefficients) a.bytes.now (sym c.before.before.before.before.before.before.judge.ensures ∙ c.before.before.before.before.enum_told.given.1) _ _ c.before.before.before.number_at.ensures c.before.before.number-at2.ensures (sym c.before.lacks-room.ensures ∙ c.if1.false)
+    whole_fine (rooms_from a.counts a.starts a.deltas a.coefficients) a.bytes.now (sym c.before.before.before.before.before.before.judge.ensures ∙ c.before.before.before.before.enum_told.given.1) _ _ c.before.before.before.number_at.ensures c.before.before.number-at2.ensures (sym c.before.lacks-room.ensures ∙ c.if1.false)
 
 pub judge-whole-spec : {M : Type 1} → statement M
 judge-whole-spec =

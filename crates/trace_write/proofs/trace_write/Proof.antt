@@ -6,7 +6,7 @@ use mathlib.Core.List.{[]}
 use Rattle.trace.specs.Trace.{version1}
 use mir.Syntax.{w32}
 use mir.Facts.{to_z-of_z}
-use Rattle.trace_write.proofs.Puts.{file-put, judged, size_is, half_is, answer-fault, answer-room, answer-done}
+use Rattle.trace_write.proofs.Puts.{file_put, judged, size_is, half_is, answer_fault, answer_room, answer_done}
 use borrow.Author.Rules.{rules}
 use Rattle.trace_write.proofs.trace_write.Statement.{statement}
 use Rattle.trace_write.proofs.trace_write.Tie as tie
@@ -56,7 +56,7 @@ same_length c = search rules
 returns : tie.Need-returns
 returns c =
     let a = c.before.before.before.before.before.before.before.before.before.before.before.args in
-    answer-room a.counts.now a.starts.now a.deltas.now a.coefficients.now a.adjustment (length a.bytes.now) (sym c.before.before.before.judge.ensures ∙ c.before.enum_told.given.1) c.before.before.before.before.before.before.clear-u8.new.0 c.before.before.before.before.before.before.clear-u8.ensures c.if1.true
+    answer_room a.counts.now a.starts.now a.deltas.now a.coefficients.now a.adjustment (length a.bytes.now) (sym c.before.before.before.judge.ensures ∙ c.before.enum_told.given.1) c.before.before.before.before.before.before.clear-u8.new.0 c.before.before.before.before.before.before.clear-u8.ensures c.if1.true
 
 cast-put-header : tie.Need-overflow-cast-put-header
 cast-put-header c =
@@ -99,7 +99,7 @@ same-length-2 c = search rules
 returns-2 : tie.Need-returns-2
 returns-2 c =
     let a = c.before.before.before.before.before.before.before.before.before.before.before.args in
-    answer-fault a.counts.now a.starts.now a.deltas.now a.coefficients.now a.adjustment (length a.bytes.now) _ _ c.before.before.before.before.before.before.clear-u8.new.0 c.before.before.before.before.before.before.clear-u8.ensures (sym c.before.before.before.judge.ensures ∙ c.before.c.given.1)
+    answer_fault a.counts.now a.starts.now a.deltas.now a.coefficients.now a.adjustment (length a.bytes.now) _ _ c.before.before.before.before.before.before.clear-u8.new.0 c.before.before.before.before.before.before.clear-u8.ensures (sym c.before.before.before.judge.ensures ∙ c.before.c.given.1)
 
 same-length-3 : tie.Need-same-length-3
 same-length-3 c = search rules
@@ -110,9 +110,9 @@ returns-3 c =
     let j = judged 8 a.counts.now a.starts.now a.deltas.now a.coefficients.now (sym c.before.before.before.before.before.before.before.before.before.before.before.judge.ensures ∙ c.before.before.before.before.before.before.before.before.before.enum_told.given.1) in
     let h = c.before.before.before.before.before.before.put-header in
     let z = to_z-of_z {w = w32} {z = a.adjustment} c.before.before.before.before.before.before.before.before.before.before.before.before.before.before.before.before.before.before.before.ranges.adjustment in
-    let put = file-put version1 [] a.counts.now a.starts.now a.deltas.now a.coefficients.now a.adjustment refl c.before.before.before.before.before.before.before.before.before.before.before.before.before.before.clear-u8.new.0 h.new.0 c.before.before.put-parts.new.1.1.1.1.0
+    let put = file_put version1 [] a.counts.now a.starts.now a.deltas.now a.coefficients.now a.adjustment refl c.before.before.before.before.before.before.before.before.before.before.before.before.before.before.clear-u8.new.0 h.new.0 c.before.before.put-parts.new.1.1.1.1.0
     (rw (half_is 8 a.counts.now a.starts.now a.deltas.now a.coefficients.now j, z) at h.ensures) c.before.before.put-parts.ensures in
-    answer-done a.counts.now a.starts.now a.deltas.now a.coefficients.now a.adjustment (length a.bytes.now) (sym c.before.before.before.before.before.before.before.before.before.before.before.judge.ensures ∙ c.before.before.before.before.before.before.before.before.before.enum_told.given.1) c.before.before.before.before.before.before.before.before.before.before.before.before.before.before.clear-u8.new.0 _ _ c.before.before.before.before.before.before.before.before.before.before.before.before.before.before.clear-u8.ensures refl c.before.before.before.before.before.before.before.before.if1.false put
+    answer_done a.counts.now a.starts.now a.deltas.now a.coefficients.now a.adjustment (length a.bytes.now) (sym c.before.before.before.before.before.before.before.before.before.before.before.judge.ensures ∙ c.before.before.before.before.before.before.before.before.before.enum_told.given.1) c.before.before.before.before.before.before.before.before.before.before.before.before.before.before.clear-u8.new.0 _ _ c.before.before.before.before.before.before.before.before.before.before.before.before.before.before.clear-u8.ensures refl c.before.before.before.before.before.before.before.before.if1.false put
 
 pub trace-write-spec : {M : Type 1} → statement M
 trace-write-spec =

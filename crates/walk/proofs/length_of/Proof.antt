@@ -7,7 +7,7 @@ use borrow.Author.Tests.{le-ltb}
 use lib.Dec.{le→leb}
 use lib.IntN.{pos, ◌-ℤ◌}
 use lib.Ieee.{in_float}
-use Rattle.walk.specs.Walk.{walkLength}
+use Rattle.walk.specs.Walk.{walk_length}
 use Rattle.walk.proofs.length_of.Statement.{statement}
 use Rattle.walk.proofs.length_of.Tie as tie
 
@@ -22,7 +22,7 @@ unfolding in_float
 int-to-float-result c = le→leb (c.before.args.n - 2) 16777216 (omega arith)
 
 returns : tie.Need-returns
-unfolding walkLength
+unfolding walk_length
 returns c = rw (less_two c.before.args.n (omega arith))
 
 pub length-of-spec : {M : Type 1} → statement M

@@ -4,13 +4,13 @@ use Prim.Native.Nat.{◌-◌, ◌/◌, ◌^◌, ◌<◌}
 use native.Mathlib.Omega.{arith}
 use borrow.Author.Rules.{rules}
 use lib.ListN.{length}
-use Rattle.walk.specs.Walk.{stretchIn, stretchOf}
-use Rattle.walk.proofs.Reaches.{reach-end, reach-emit, reach-pass}
+use Rattle.walk.specs.Walk.{stretch_in, stretch_of}
+use Rattle.walk.proofs.Reaches.{reach_end, reach_emit, reach_pass}
 use Rattle.walk.proofs.onward.Statement.{statement}
 use Rattle.walk.proofs.onward.Tie as tie
 
 abbrev invariant-loop : tie.invariant-loop
-invariant-loop path next n i₀ p₀ d₀ i p d = (n ≡ length path / 2) × (length path < 2 ^ 62) × (stretchIn (n - i₀) path i₀ p₀ d₀ ≡ stretchIn (n - i) path i p d)
+invariant-loop path next n i₀ p₀ d₀ i p d = (n ≡ length path / 2) × (length path < 2 ^ 62) × (stretch_in (n - i₀) path i₀ p₀ d₀ ≡ stretch_in (n - i) path i p d)
 
 abbrev decreases-loop : tie.decreases-loop
 decreases-loop path next n i₀ p₀ d₀ i p d = n - i
@@ -34,12 +34,12 @@ add-requires : tie.Need-add-requires invariant-loop decreases-loop
 add-requires c κs = search rules
 
 returns : tie.Need-returns invariant-loop decreases-loop
-unfolding stretchOf
+unfolding stretch_of
 returns c =
     let l = c.before.before.before.before.before.before.before.loop in
     sym
     (l.invariant.2
-    ∙ reach-emit _ _ l.i l.previous l.walked c.before.before.before.before.before.point_at.ensures c.before.before.before.before.sub.ensures
+    ∙ reach_emit _ _ l.i l.previous l.walked c.before.before.before.before.before.point_at.ensures c.before.before.before.before.sub.ensures
     c.before.before.before.distance.ensures (omega arith) c.before.scale.ensures c.add.ensures c.before.before.if1.true)
 
 add-i : tie.Need-overflow-add-i invariant-loop decreases-loop
@@ -54,14 +54,14 @@ loop-again c =
       refl,
       omega arith,
       l.invariant.2
-          ∙ reach-pass _ _ l.i l.previous l.walked c.before.before.before.point_at.ensures c.before.before.sub.ensures c.before.distance.ensures (omega arith) c.if1.false,
+          ∙ reach_pass _ _ l.i l.previous l.walked c.before.before.before.point_at.ensures c.before.before.sub.ensures c.before.distance.ensures (omega arith) c.if1.false,
     )
 
 returns-2 : tie.Need-returns-2 invariant-loop decreases-loop
-unfolding stretchOf
+unfolding stretch_of
 returns-2 c =
     let l = c.before.loop in
-    sym (l.invariant.2 ∙ reach-end _ _ l.i l.previous l.walked (omega arith))
+    sym (l.invariant.2 ∙ reach_end _ _ l.i l.previous l.walked (omega arith))
 
 pub onward-spec : {M : Type 1} → statement M
 onward-spec =

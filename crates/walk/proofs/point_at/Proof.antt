@@ -1,7 +1,7 @@
 -- `walk::point_at`: two reads, as the definition has them.
 use mathlib.Core.Path.{refl}
 use borrow.Author.Rules.{rules}
-use Rattle.walk.specs.Walk.{pointAt}
+use Rattle.walk.specs.Walk.{point_at}
 use Rattle.walk.proofs.point_at.Statement.{statement}
 use Rattle.walk.proofs.point_at.Tie as tie
 
@@ -27,7 +27,7 @@ shared-slice-read-t11 : tie.Need-shared-slice-read-t11
 shared-slice-read-t11 c = search rules
 
 returns : tie.Need-returns
-unfolding pointAt
+unfolding point_at
 returns c = refl
 
 pub point-at-spec : {M : Type 1} → statement M

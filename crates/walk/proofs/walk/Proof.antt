@@ -5,14 +5,14 @@ use native.Mathlib.Omega.{arith}
 use borrow.Author.Rules.{rules}
 use lib.ListN.{length}
 use Rattle.numbers.specs.Arith.{1·0}
-use Rattle.walk.specs.Walk.{walkFrom, walkIn, walkRoom}
-use Rattle.walk.proofs.Walking.{Walking, walking-begin, walking-more, walking-room, walking-end, walking-over, walk_ends, walk-emits, walk_none}
+use Rattle.walk.specs.Walk.{walk_from, walk_in, walk_room}
+use Rattle.walk.proofs.Walking.{Walking, walking_begin, walking_more, walking_room, walking_end, walking_over, walk_ends, walk_emits, walk_none}
 use Rattle.walk.proofs.walk.Statement.{statement}
 use Rattle.walk.proofs.walk.Tie as tie
 
 abbrev invariant-loop : tie.invariant-loop
 invariant-loop path o₀ room p₀ i₀ n₀ o p i n =
-    (n ≤ room) × (3 * room ≤ length o₀) × (length o₀ < 2 ^ 62) × (length o ≡ length o₀) × Walking (walkIn room path) (walkFrom (room - n) path i p) o₀ o n
+    (n ≤ room) × (3 * room ≤ length o₀) × (length o₀ < 2 ^ 62) × (length o ≡ length o₀) × Walking (walk_in room path) (walk_from (room - n) path i p) o₀ o n
 
 abbrev decreases-loop : tie.decreases-loop
 decreases-loop path o₀ room p₀ i₀ n₀ o p i n = room - n
@@ -21,9 +21,9 @@ walk-room-requires : tie.Need-walk-room-requires invariant-loop decreases-loop
 walk-room-requires c κs = search rules
 
 returns : tie.Need-returns invariant-loop decreases-loop
-unfolding walkIn
+unfolding walk_in
 returns c =
-    let e : walkRoom (length c.before.before.before.before.args.out.now) ≡ 0 = sym c.before.walk-room.ensures ∙ c.if1.true in
+    let e : walk_room (length c.before.before.before.before.args.out.now) ≡ 0 = sym c.before.walk-room.ensures ∙ c.if1.true in
     rw e (refl, tt)
 
 point-at-requires : tie.Need-point-at-requires invariant-loop decreases-loop
@@ -41,7 +41,7 @@ loop-holds c =
       omega (arith, room.ensures, c.before.before.put3.auto.0),
       omega (arith, s.before.before.before.before.well-formed, c.before.before.put3.auto.0),
       refl,
-      walking-begin room.result a.path.now a.out.now c.before.before.before.before.point_at.ensures s.if1.false (omega arith) c.before.before.put3.ensures,
+      walking_begin room.result a.path.now a.out.now c.before.before.before.before.point_at.ensures s.if1.false (omega arith) c.before.before.put3.ensures,
     )
 
 onward-requires : tie.Need-onward-requires invariant-loop decreases-loop
@@ -71,12 +71,12 @@ returns-2 c =
     let b = s.before.before.before.before.before in
     let a = b.before.before.before.before.before.args in
     let room = b.before.before.walk-room in
-    let e : walkFrom (room.result - l.n) a.path.now l.next l.current ≡ _ =
+    let e : walk_from (room.result - l.n) a.path.now l.next l.current ≡ _ =
     walk_ends room.result l.n a.path.now l.next l.current (omega (arith, c.before.before.before.before.before.before.before.before.loop-test)) _ _ c.before.before.before.before.before.before.before.onward.ensures
     c.before.before.before.before.before.q.given.1 in
     rw (← room.ensures)
-    (walking-over room.result a.path.now a.out.now b.point_at.ensures b.before.if1.false (omega arith) s.before.before.before.put3.ensures _ _
-    (rw c.before.before.put32.ensures (walking-end _ _ (rw e at l.invariant.4) (omega (arith, l.invariant, c.before.before.before.before.before.before.before.before.loop-test)))))
+    (walking_over room.result a.path.now a.out.now b.point_at.ensures b.before.if1.false (omega arith) s.before.before.before.put3.ensures _ _
+    (rw c.before.before.put32.ensures (walking_end _ _ (rw e at l.invariant.4) (omega (arith, l.invariant, c.before.before.before.before.before.before.before.before.loop-test)))))
 
 enum-known-q-2 : tie.Need-enum-known-q-2 invariant-loop decreases-loop
 enum-known-q-2 c = search rules
@@ -100,14 +100,14 @@ loop-again c =
     let b = s.before.before.before.before.before in
     let a = b.before.before.before.before.before.args in
     let room = b.before.before.walk-room in
-    let e : walkFrom (room.result - l.n) a.path.now l.next l.current ≡ _ =
-    walk-emits room.result l.n a.path.now l.next l.current (omega (arith, c.before.before.before.before.before.before.before.before.loop-test)) _ _ c.before.before.before.before.before.before.before.onward.ensures
+    let e : walk_from (room.result - l.n) a.path.now l.next l.current ≡ _ =
+    walk_emits room.result l.n a.path.now l.next l.current (omega (arith, c.before.before.before.before.before.before.before.before.loop-test)) _ _ c.before.before.before.before.before.before.before.onward.ensures
     c.before.before.before.before.before.q2.given.1 in (
       omega (arith, c.before.before.before.before.before.before.before.before.loop-test),
       omega arith,
       omega arith,
       omega (arith, c.before.before.put33.auto.0),
-      rw c.before.before.put33.ensures (walking-more _ 1·0 _ (rw e at l.invariant.4) (omega (arith, l.invariant, c.before.before.before.before.before.before.before.before.loop-test))),
+      rw c.before.before.put33.ensures (walking_more _ 1·0 _ (rw e at l.invariant.4) (omega (arith, l.invariant, c.before.before.before.before.before.before.before.before.loop-test))),
     )
 
 same-length-2 : tie.Need-same-length-2 invariant-loop decreases-loop
@@ -119,10 +119,10 @@ returns-3 c =
     let b = c.before.before.before.before.before.before in
     let a = b.before.before.before.before.before.args in
     let room = b.before.before.walk-room in
-    let e : walkFrom (room.result - l.n) a.path.now l.next l.current ≡ _ = walk_none room.result l.n a.path.now l.next l.current (omega arith) in
+    let e : walk_from (room.result - l.n) a.path.now l.next l.current ≡ _ = walk_none room.result l.n a.path.now l.next l.current (omega arith) in
     rw (← room.ensures)
-    (walking-over room.result a.path.now a.out.now b.point_at.ensures b.before.if1.false (omega arith) c.before.before.before.before.put3.ensures _ _
-    (walking-room _ (rw e at l.invariant.4)))
+    (walking_over room.result a.path.now a.out.now b.point_at.ensures b.before.if1.false (omega arith) c.before.before.before.before.put3.ensures _ _
+    (walking_room _ (rw e at l.invariant.4)))
 
 pub walk-spec : {M : Type 1} → statement M
 walk-spec =

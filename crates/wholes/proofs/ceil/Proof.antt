@@ -7,7 +7,7 @@ use lib.Ieee.Positive.{num, den}
 use Rattle.wholes.specs.Small.{Small}
 use Rattle.wholes.specs.Whole.{upward}
 use Rattle.numbers.proofs.Zero.{yes, no, flipped}
-use Rattle.wholes.proofs.Wholes.{small-above, plain, turned, high-plus, high-minus, rest, ceil-id, ceil-nil}
+use Rattle.wholes.proofs.Wholes.{small_above, plain, turned, high_plus, high_minus, rest, ceil_id, ceil_nil}
 use Rattle.wholes.proofs.ceil.Statement.{statement}
 use Rattle.wholes.proofs.ceil.Tie as tie
 
@@ -31,24 +31,24 @@ down-from-requires c κs = minus c
 returns : tie.Need-returns
 returns c =
     let x = c.before.before.before.args.x in
-    c.up_from.ensures ∙ plain binary32 upward x (upward false (num x) (den x)) (small-above x (plus c.before)) refl
+    c.up_from.ensures ∙ plain binary32 upward x (upward false (num x) (den x)) (small_above x (plus c.before)) refl
 
 returns-2 : tie.Need-returns-2
 unfolding of_bits
-returns-2 c = high-plus upward ceil-id ceil-nil c.before.before.args.x (held c.before.before) (yes c.before.if1.true) (no c.if2.false)
+returns-2 c = high_plus upward ceil_id ceil_nil c.before.before.args.x (held c.before.before) (yes c.before.if1.true) (no c.if2.false)
 
 returns-3 : tie.Need-returns-3
 returns-3 c =
     let x = c.before.before.before.before.args.x in
-    ap neg c.down-from.ensures ∙ turned binary32 upward x (upward true (num (neg x)) (den (neg x))) (small-above (neg x) (minus c.before)) refl
+    ap neg c.down-from.ensures ∙ turned binary32 upward x (upward true (num (neg x)) (den (neg x))) (small_above (neg x) (minus c.before)) refl
 
 returns-4 : tie.Need-returns-4
 unfolding of_bits
-returns-4 c = high-minus upward ceil-id ceil-nil c.before.before.before.args.x (held c.before.before.before) (yes c.before.if3.true) (no c.if4.false)
+returns-4 c = high_minus upward ceil_id ceil_nil c.before.before.before.args.x (held c.before.before.before) (yes c.before.if3.true) (no c.if4.false)
 
 returns-5 : tie.Need-returns-5
 unfolding of_bits
-returns-5 c = rest upward ceil-id ceil-nil c.before.before.args.x (held c.before.before) (no c.before.if1.false) (no c.if3.false)
+returns-5 c = rest upward ceil_id ceil_nil c.before.before.args.x (held c.before.before) (no c.before.if1.false) (no c.if3.false)
 
 pub ceil-spec : {M : Type 1} → statement M
 ceil-spec = tie.close (tie.spec up-from-requires down-from-requires returns returns-2 returns-3 returns-4 returns-5)

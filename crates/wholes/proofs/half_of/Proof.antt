@@ -5,7 +5,7 @@ use Prim.Native.Nat.{◌+◌}
 use lib.Ieee.{of_bits, to_unsigned}
 use Rattle.wholes.specs.Small.{Made}
 use Rattle.wholes.specs.Whole.{half}
-use Rattle.wholes.proofs.Rounds.{near-cast, rounded-by}
+use Rattle.wholes.proofs.Rounds.{near_cast, rounded_by}
 use Rattle.wholes.proofs.half_of.Statement.{statement}
 use Rattle.wholes.proofs.half_of.Tie as tie
 
@@ -16,11 +16,11 @@ unless-requires : tie.Need-unless-requires
 unless-requires c κs = search rules
 
 float-to-int-result : tie.Need-float-to-int-result
-float-to-int-result c = let s = c.before.before in (near-cast s.before.args.a s.before.requires s.nearest-to.ensures).0
+float-to-int-result c = let s = c.before.before in (near_cast s.before.args.a s.before.requires s.nearest-to.ensures).0
 
 made : (c : tie.After-unless) → Made half c.before.before.args.a (to_unsigned 32 c.before.nearest-to.result + c.unless.result)
 unfolding of_bits
-made c = let s = c.before in rounded-by s.before.args.a s.before.requires s.nearest-to.ensures c.unless.ensures
+made c = let s = c.before in rounded_by s.before.args.a s.before.requires s.nearest-to.ensures c.unless.ensures
 
 add-result : tie.Need-overflow-add-result
 add-result c = omega (arith, (made c.before).most)

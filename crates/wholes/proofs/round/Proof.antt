@@ -6,7 +6,7 @@ use Rattle.wholes.specs.Small.{Small}
 use Rattle.wholes.specs.Whole.{away}
 use Rattle.numbers.proofs.Zero.{yes, no, flipped}
 use Rattle.numbers.proofs.Units.{castable}
-use Rattle.wholes.proofs.Wholes.{small-above, plain, turned, high-plus, high-minus, rest, round-id, round-nil}
+use Rattle.wholes.proofs.Wholes.{small_above, plain, turned, high_plus, high_minus, rest, round_id, round_nil}
 use Rattle.wholes.proofs.round.Statement.{statement}
 use Rattle.wholes.proofs.round.Tie as tie
 
@@ -37,25 +37,25 @@ returns : tie.Need-returns
 returns c =
     let s = c.before in
     let x = s.before.before.before.args.x in
-    plain binary32 away x s.half_of_lem.result (small-above x (plus s.before)) s.half_of_lem.ensures.is
+    plain binary32 away x s.half_of_lem.result (small_above x (plus s.before)) s.half_of_lem.ensures.is
 
 returns-2 : tie.Need-returns-2
 unfolding of_bits
-returns-2 c = high-plus away round-id round-nil c.before.before.args.x (held c.before.before) (yes c.before.if1.true) (no c.if2.false)
+returns-2 c = high_plus away round_id round_nil c.before.before.args.x (held c.before.before) (yes c.before.if1.true) (no c.if2.false)
 
 returns-3 : tie.Need-returns-3
 returns-3 c =
     let s = c.before in
     let x = s.before.before.before.before.args.x in
-    turned binary32 away x s.half-of2.result (small-above (neg x) (minus s.before)) s.half-of2.ensures.is
+    turned binary32 away x s.half-of2.result (small_above (neg x) (minus s.before)) s.half-of2.ensures.is
 
 returns-4 : tie.Need-returns-4
 unfolding of_bits
-returns-4 c = high-minus away round-id round-nil c.before.before.before.args.x (held c.before.before.before) (yes c.before.if3.true) (no c.if4.false)
+returns-4 c = high_minus away round_id round_nil c.before.before.before.args.x (held c.before.before.before) (yes c.before.if3.true) (no c.if4.false)
 
 returns-5 : tie.Need-returns-5
 unfolding of_bits
-returns-5 c = rest away round-id round-nil c.before.before.args.x (held c.before.before) (no c.before.if1.false) (no c.if3.false)
+returns-5 c = rest away round_id round_nil c.before.before.args.x (held c.before.before) (no c.before.if1.false) (no c.if3.false)
 
 pub round-spec : {M : Type 1} → statement M
 round-spec = tie.close (tie.spec half-of-requires int-to-float-result half-of-requires-2 int-to-float-result-2 returns returns-2 returns-3 returns-4 returns-5)

@@ -2,7 +2,7 @@
 use Prim.Native.Nat.{◌*◌}
 use lib.Ieee.{binary32, of_bits}
 use borrow.Author.Rules.{rules}
-use Rattle.buffers.proofs.Blanks.{blank-behind}
+use Rattle.buffers.proofs.Blanks.{blank_behind}
 use Rattle.wipe.proofs.wipe_unused.Statement.{statement}
 use Rattle.wipe.proofs.wipe_unused.Tie as tie
 
@@ -58,7 +58,7 @@ returns : tie.Need-returns
 returns c =
     let a = c.before.before.before.before.before.before.before.before.before.before.before.before.before.before.before.before.before.before.before.args in
     let w = c.before.before.before.before.before.before.before.before.before.before.before.before.wipe-working.ensures in
-    (w.0, (w.1, (blank-behind (8 * a.count) (of_bits binary32 0) a.segments.now c.before.before.before.before.before.before.clear-f32.ensures, blank-behind a.count 0 a.owners.now c.before.before.clear-u64.ensures)))
+    (w.0, (w.1, (blank_behind (8 * a.count) (of_bits binary32 0) a.segments.now c.before.before.before.before.before.before.clear-f32.ensures, blank_behind a.count 0 a.owners.now c.before.before.clear-u64.ensures)))
 
 pub wipe-unused-spec : {M : Type 1} → statement M
 wipe-unused-spec =

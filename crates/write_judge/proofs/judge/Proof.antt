@@ -1,6 +1,6 @@
 -- `write_judge::judge` meets its contract: each test and each call is the next of the checks.
 use Rattle.std.proofs.Common.{length, sym, ◌∙◌, arith, rules}
-use Rattle.write_judge.proofs.Checks.{agreed, none-counted, many-counted, well-counted, content-shape, content-count, content-start, content-rest}
+use Rattle.write_judge.proofs.Checks.{agreed, none_counted, many_counted, well_counted, content_shape, content_count, content_start, content_rest}
 use Rattle.write_judge.proofs.judge.Statement.{statement}
 use Rattle.write_judge.proofs.judge.Tie as tie
 
@@ -10,19 +10,19 @@ disagree-requires c κs = search rules
 returns : tie.Need-returns
 returns c =
     let a = c.before.before.before.before.args in
-    sym (content-shape a.counts.now a.starts.now a.deltas.now a.coefficients.now a.limit (sym c.before.disagree.ensures ∙ c.if1.true))
+    sym (content_shape a.counts.now a.starts.now a.deltas.now a.coefficients.now a.limit (sym c.before.disagree.ensures ∙ c.if1.true))
 
 returns-2 : tie.Need-returns-2
 returns-2 c =
     let a = c.before.before.before.before.before.args in
-    sym (content-count a.counts.now a.starts.now a.deltas.now a.coefficients.now a.limit (sym c.before.before.disagree.ensures ∙ c.before.if1.false)
-    (none-counted a.limit (length a.counts.now) c.if2.true))
+    sym (content_count a.counts.now a.starts.now a.deltas.now a.coefficients.now a.limit (sym c.before.before.disagree.ensures ∙ c.before.if1.false)
+    (none_counted a.limit (length a.counts.now) c.if2.true))
 
 returns-3 : tie.Need-returns-3
 returns-3 c =
     let a = c.before.before.before.before.before.before.args in
-    sym (content-count a.counts.now a.starts.now a.deltas.now a.coefficients.now a.limit (sym c.before.before.before.disagree.ensures ∙ c.before.before.if1.false)
-    (many-counted a.limit (length a.counts.now) c.before.if2.false c.if3.true))
+    sym (content_count a.counts.now a.starts.now a.deltas.now a.coefficients.now a.limit (sym c.before.before.before.disagree.ensures ∙ c.before.before.if1.false)
+    (many_counted a.limit (length a.counts.now) c.before.if2.false c.if3.true))
 
 judge-starts-requires : tie.Need-judge-starts-requires
 judge-starts-requires c κs =
@@ -44,16 +44,16 @@ judge-splines-requires c κs =
 returns-4 : tie.Need-returns-4
 returns-4 c =
     let a = c.before.before.before.before.before.before.before.before.before.before.args in
-    sym (content-start a.counts.now a.starts.now a.deltas.now a.coefficients.now a.limit (sym c.before.before.before.before.before.before.before.disagree.ensures ∙ c.before.before.before.before.before.before.if1.false)
-    (well-counted a.limit (length a.counts.now) c.before.before.before.before.before.if2.false c.before.before.before.before.if3.false) _ _
+    sym (content_start a.counts.now a.starts.now a.deltas.now a.coefficients.now a.limit (sym c.before.before.before.before.before.before.before.disagree.ensures ∙ c.before.before.before.before.before.before.if1.false)
+    (well_counted a.limit (length a.counts.now) c.before.before.before.before.before.if2.false c.before.before.before.before.if3.false) _ _
     (sym c.before.before.before.judge-starts.ensures ∙ c.before.c.given.1))
 
 returns-5 : tie.Need-returns-5
 returns-5 c =
     let a = c.before.before.before.before.before.before.before.before.before.before.args in
     c.judge-splines.ensures
-    ∙ sym (content-rest a.counts.now a.starts.now a.deltas.now a.coefficients.now a.limit (sym c.before.before.before.before.before.before.before.disagree.ensures ∙ c.before.before.before.before.before.before.if1.false)
-    (well-counted a.limit (length a.counts.now) c.before.before.before.before.before.if2.false c.before.before.before.before.if3.false)
+    ∙ sym (content_rest a.counts.now a.starts.now a.deltas.now a.coefficients.now a.limit (sym c.before.before.before.before.before.before.before.disagree.ensures ∙ c.before.before.before.before.before.before.if1.false)
+    (well_counted a.limit (length a.counts.now) c.before.before.before.before.before.if2.false c.before.before.before.before.if3.false)
     (sym c.before.before.before.judge-starts.ensures ∙ c.before.enum_told.given.1))
 
 pub judge-spec : {M : Type 1} → statement M

@@ -1,17 +1,17 @@
 -- `write_judge::judge_splines` meets its contract: what the checks of all splines say is what those of the splines left say.
 use Rattle.std.proofs.Common.{◌≡◌, ◌+◌, ◌-◌, ◌*◌, ◌≤◌, length, get_or, drop, sym, refl, ◌∙◌, arith, rules}
 use Rattle.shape.specs.Shape.{points_of}
-use Rattle.write_judge.specs.Judge.{firstFault, splineChecks}
-use Rattle.shape.proofs.Shape.{sum-turn}
-use Rattle.write_judge.proofs.Checks.{length_part, spline-over, spline-wild, spline-pass, splines-end}
+use Rattle.write_judge.specs.Judge.{first_fault, spline_checks}
+use Rattle.shape.proofs.Shape.{sum_turn}
+use Rattle.write_judge.proofs.Checks.{length_part, spline_over, spline_wild, spline_pass, splines_end}
 use Rattle.write_judge.proofs.judge_splines.Statement.{statement}
 use Rattle.write_judge.proofs.judge_splines.Tie as tie
 
 abbrev invariant-loop : tie.invariant-loop
 invariant-loop counts deltas limit left₀ place₀ from₀ i₀ left place from i =
     (i ≤ length counts) × (left ≤ limit) × (from + 2 * points_of (drop i counts) ≡ length deltas) × (place ≡ 2 * length counts + 2 + 129 * i + from)
-    × (firstFault (splineChecks limit 0 (2 * length counts + 2) counts deltas)
-    ≡ firstFault (splineChecks limit (limit - left) place (drop i counts) (drop from deltas)))
+    × (first_fault (spline_checks limit 0 (2 * length counts + 2) counts deltas)
+    ≡ first_fault (spline_checks limit (limit - left) place (drop i counts) (drop from deltas)))
 
 abbrev decreases-loop : tie.decreases-loop
 decreases-loop counts deltas limit left₀ place₀ from₀ i₀ left place from i = length counts - i
@@ -37,7 +37,7 @@ returns : tie.Need-returns invariant-loop decreases-loop
 returns c =
     let a = c.before.before.before.before.before.args in
     let v = c.before.before.before.loop in
-    sym (v.invariant.4 ∙ spline-over a.counts.now a.deltas.now a.limit v.left v.place v.from v.i (omega arith) v.invariant.1 c.if1.true)
+    sym (v.invariant.4 ∙ spline_over a.counts.now a.deltas.now a.limit v.left v.place v.from v.i (omega arith) v.invariant.1 c.if1.true)
 
 cast-cells : tie.Need-overflow-cast-cells invariant-loop decreases-loop
 cast-cells c = search rules
@@ -59,7 +59,7 @@ part-judge-deltas-start c = search rules
 
 part-judge-deltas-end : tie.Need-slice-bounds-judge-deltas-end invariant-loop decreases-loop
 part-judge-deltas-end c =
-    omega (arith, sum-turn c.before.before.before.before.before.args.counts.now c.before.before.before.loop.i (omega arith))
+    omega (arith, sum_turn c.before.before.before.before.before.args.counts.now c.before.before.before.loop.i (omega arith))
 
 add-judge-deltas : tie.Need-overflow-add-judge-deltas invariant-loop decreases-loop
 add-judge-deltas c = search rules
@@ -69,7 +69,7 @@ judge-deltas-requires c κs =
     let a = c.before.before.before.before.before.before.args in
     let v = c.before.before.before.before.loop in
     let n = get_or a.counts.now v.i 0 in
-    let e = sum-turn a.counts.now v.i (omega arith) in
+    let e = sum_turn a.counts.now v.i (omega arith) in
     let l = length_part a.deltas.now v.from (2 * n) (omega arith) in
     omega (arith, l)
 
@@ -80,7 +80,7 @@ returns-2 : tie.Need-returns-2 invariant-loop decreases-loop
 returns-2 c =
     let a = c.before.before.before.before.before.before.before.before.before.before.args in
     let v = c.before.before.before.before.before.before.before.before.loop in
-    sym (v.invariant.4 ∙ spline-wild a.counts.now a.deltas.now a.limit v.left v.place v.from v.i (omega arith) v.invariant.1
+    sym (v.invariant.4 ∙ spline_wild a.counts.now a.deltas.now a.limit v.left v.place v.from v.i (omega arith) v.invariant.1
     c.before.before.before.before.before.if1.false _ refl _ _ (sym c.before.before.before.judge-deltas.ensures ∙ c.before.c.given.1))
 
 enum_told : tie.Need-enum-told invariant-loop decreases-loop
@@ -102,12 +102,12 @@ loop-again : tie.Need-loop-preserved invariant-loop decreases-loop
 loop-again c =
     let a = c.before.before.before.before.before.before.before.before.before.args in
     let v = c.before.before.before.before.before.before.before.loop in
-    let e = sum-turn a.counts.now v.i (omega arith) in (
+    let e = sum_turn a.counts.now v.i (omega arith) in (
       omega arith,
       omega arith,
       omega arith,
       omega arith,
-      v.invariant.4 ∙ spline-pass a.counts.now a.deltas.now a.limit v.left v.place v.from v.i (omega arith) v.invariant.1
+      v.invariant.4 ∙ spline_pass a.counts.now a.deltas.now a.limit v.left v.place v.from v.i (omega arith) v.invariant.1
           c.before.before.before.before.if1.false _ refl (sym c.before.before.judge-deltas.ensures ∙ c.enum_told.given.1),
     )
 
@@ -115,7 +115,7 @@ returns-3 : tie.Need-returns-3 invariant-loop decreases-loop
 returns-3 c =
     let a = c.before.before.before.args in
     let v = c.before.loop in
-    sym (v.invariant.4 ∙ splines-end a.limit (a.limit - v.left) v.place a.counts.now (drop v.from a.deltas.now) v.i (omega arith))
+    sym (v.invariant.4 ∙ splines_end a.limit (a.limit - v.left) v.place a.counts.now (drop v.from a.deltas.now) v.i (omega arith))
 
 pub judge-splines-spec : {M : Type 1} → statement M
 judge-splines-spec =

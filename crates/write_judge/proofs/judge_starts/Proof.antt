@@ -1,13 +1,13 @@
 -- `write_judge::judge_starts` meets its contract: what the checks of all pairs say is what those of the pairs left say.
 use Rattle.std.proofs.Common.{◌≡◌, ◌+◌, ◌-◌, ◌%◌, ◌≤◌, true, eqb, length, drop, sym, refl, ◌∙◌, arith, rules, ne_eqb}
-use Rattle.write_judge.specs.Judge.{firstFault, startChecks}
-use Rattle.write_judge.proofs.Checks.{starts_first, starts-second, starts-pass, starts-end}
+use Rattle.write_judge.specs.Judge.{first_fault, start_checks}
+use Rattle.write_judge.proofs.Checks.{starts_first, starts_second, starts_pass, starts_end}
 use Rattle.write_judge.proofs.judge_starts.Statement.{statement}
 use Rattle.write_judge.proofs.judge_starts.Tie as tie
 
 abbrev invariant-loop : tie.invariant-loop
 invariant-loop starts i₀ i =
-    (i % 2 ≡ 0) × (i ≤ length starts) × (firstFault (startChecks true 1 starts) ≡ firstFault (startChecks (eqb i 0) (i + 1) (drop i starts)))
+    (i % 2 ≡ 0) × (i ≤ length starts) × (first_fault (start_checks true 1 starts) ≡ first_fault (start_checks (eqb i 0) (i + 1) (drop i starts)))
 
 abbrev decreases-loop : tie.decreases-loop
 decreases-loop starts i₀ i = length starts - i
@@ -52,7 +52,7 @@ returns-2 : tie.Need-returns-2 invariant-loop decreases-loop
 returns-2 c =
     let a = c.before.before.before.before.before.before.before.before.before.args in
     let v = c.before.before.before.before.before.before.before.loop in
-    sym (v.invariant.2 ∙ starts-second (eqb v.i 0) a.starts.now (v.i + 1) v.i (omega arith)
+    sym (v.invariant.2 ∙ starts_second (eqb v.i 0) a.starts.now (v.i + 1) v.i (omega arith)
     (sym c.before.before.before.before.unfit-as.ensures ∙ c.before.before.before.if1.false) (sym c.before.unfit-as2.ensures ∙ c.if2.true))
 
 add-i : tie.Need-overflow-add-i invariant-loop decreases-loop
@@ -66,7 +66,7 @@ loop-again c =
     let a = c.before.before.before.before.before.before.before.before.before.args in
     let v = c.before.before.before.before.before.before.before.loop in
     let p : v.i + 1 + 2 ≡ v.i + 2 + 1 = omega arith in
-    let q = starts-pass (eqb v.i 0) a.starts.now (v.i + 1) v.i (omega arith)
+    let q = starts_pass (eqb v.i 0) a.starts.now (v.i + 1) v.i (omega arith)
     (sym c.before.before.before.before.unfit-as.ensures ∙ c.before.before.before.if1.false) (sym c.before.unfit-as2.ensures ∙ c.if2.false) in
     (omega arith, omega arith, v.invariant.2 ∙ rw (ne_eqb (v.i + 2) 0 (λ z. omega arith)) (rw p at q))
 
@@ -74,7 +74,7 @@ returns-3 : tie.Need-returns-3 invariant-loop decreases-loop
 returns-3 c =
     let a = c.before.before.before.args in
     let v = c.before.loop in
-    sym (v.invariant.2 ∙ starts-end (eqb v.i 0) a.starts.now (v.i + 1) v.i (omega arith))
+    sym (v.invariant.2 ∙ starts_end (eqb v.i 0) a.starts.now (v.i + 1) v.i (omega arith))
 
 pub judge-starts-spec : {M : Type 1} → statement M
 judge-starts-spec =

@@ -3,7 +3,7 @@ use Prim.Native.Nat.{◌-◌}
 use native.Mathlib.Omega.{arith}
 use borrow.Author.Rules.{rules}
 use lib.ListN.{length, length-set}
-use Rattle.write_steps.proofs.Stores.{Later, later-begin, later-now, later_more, later-end}
+use Rattle.write_steps.proofs.Stores.{Later, later_begin, later_now, later_more, later_end}
 use Rattle.write_steps.proofs.put_later_starts.Statement.{statement}
 use Rattle.write_steps.proofs.put_later_starts.Tie as tie
 
@@ -17,7 +17,7 @@ loop-holds : tie.Need-loop-init invariant-loop decreases-loop
 loop-holds c =
     let a = c.before.before.args in
     let h = c.before.before.requires in
-    later-begin a.starts.now a.list.now h.1 h.3
+    later_begin a.starts.now a.list.now h.1 h.3
 
 sub-later-value : tie.Need-overflow-sub-later-value invariant-loop decreases-loop
 sub-later-value c = omega arith
@@ -38,7 +38,7 @@ later-value-requires : tie.Need-later-value-requires invariant-loop decreases-lo
 later-value-requires c κs =
     let a = c.before.before.before.before.before.before.args in
     let v = c.before.before.before.loop in
-    (v.invariant.lastX, (later-now a.starts.now a.list.now v.list v.i v.invariant (omega arith)).0)
+    (v.invariant.last_x, (later_now a.starts.now a.list.now v.list v.i v.invariant (omega arith)).0)
 
 add-list : tie.Need-overflow-add-list invariant-loop decreases-loop
 add-list c = omega arith
@@ -71,7 +71,7 @@ later-value-requires-2 : tie.Need-later-value-requires-2 invariant-loop decrease
 later-value-requires-2 c κs =
     let a = c.before.before.before.before.before.before.before.before.before.args in
     let v = c.before.before.before.before.before.before.loop in
-    (v.invariant.lastY, (later-now a.starts.now a.list.now v.list v.i v.invariant (omega arith)).1)
+    (v.invariant.last_y, (later_now a.starts.now a.list.now v.list v.i v.invariant (omega arith)).1)
 
 add-list-2 : tie.Need-overflow-add-list-2 invariant-loop decreases-loop
 add-list-2 c = omega arith
@@ -101,7 +101,7 @@ returns : tie.Need-returns invariant-loop decreases-loop
 returns c =
     let a = c.before.before.before.before.args in
     let v = c.before.loop in
-    later-end a.starts.now a.list.now v.list v.i v.invariant (omega arith)
+    later_end a.starts.now a.list.now v.list v.i v.invariant (omega arith)
 
 pub put-later-starts-spec : {M : Type 1} → statement M
 put-later-starts-spec =

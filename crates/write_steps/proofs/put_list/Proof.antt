@@ -6,8 +6,8 @@ use borrow.Author.Rules.{rules}
 use lib.ListN.{length, set, length-set}
 use mir.Syntax.{w32}
 use mir.Facts.{to_z-of_z}
-use Rattle.list.specs.List.{packSigned}
-use Rattle.write_steps.proofs.Stores.{list-stored}
+use Rattle.list.specs.List.{pack_signed}
+use Rattle.write_steps.proofs.Stores.{list_stored}
 use Rattle.write_steps.proofs.put_list.Statement.{statement}
 use Rattle.write_steps.proofs.put_list.Tie as tie
 
@@ -76,9 +76,9 @@ returns c =
     let v = c.before.before.before.before.pack-signed in
     let after = length a.starts.now + 1 in
     let z = to_z-of_z {w = w32} {z = a.adjustment} c.before.before.before.before.before.before.before.before.before.before.before.before.ranges.adjustment in
-    list-stored a.counts.now a.starts.now a.deltas.now a.coefficients.now a.adjustment h.pairs
+    list_stored a.counts.now a.starts.now a.deltas.now a.coefficients.now a.adjustment h.pairs
     a.list.now (set a.list.now 0 n) o.new.1.0 (set o.new.1.0 after v.result) c.before.before.put-splines.new.1.1.1.0
-    v.result after refl refl o.ensures (v.ensures ∙ ap packSigned z) refl c.before.before.put-splines.ensures
+    v.result after refl refl o.ensures (v.ensures ∙ ap pack_signed z) refl c.before.before.put-splines.ensures
 
 pub put-list-spec : {M : Type 1} → statement M
 put-list-spec =

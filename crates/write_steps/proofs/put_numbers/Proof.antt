@@ -9,15 +9,15 @@ use lib.Seq.{sets}
 use lib.IntN.{pos}
 use mir.Syntax.{w32}
 use mir.Facts.{to_z-of_z}
-use Rattle.list.specs.List.{packSigned}
-use Rattle.write_steps.proofs.Stores.{numbers-turn, numbers-end}
+use Rattle.list.specs.List.{pack_signed}
+use Rattle.write_steps.proofs.Stores.{numbers_turn, numbers_end}
 use Rattle.write_steps.proofs.put_numbers.Statement.{statement}
 use Rattle.write_steps.proofs.put_numbers.Tie as tie
 
 abbrev invariant-loop : tie.invariant-loop
 invariant-loop numbers list₀ at i₀ list i =
     (i ≤ length numbers) × (length list ≡ length list₀)
-    × (sets list (at + i) (map packSigned (drop i numbers)) ≡ sets list₀ at (map packSigned numbers))
+    × (sets list (at + i) (map pack_signed (drop i numbers)) ≡ sets list₀ at (map pack_signed numbers))
 
 abbrev decreases-loop : tie.decreases-loop
 decreases-loop numbers list₀ at i₀ list i = length numbers - i
@@ -59,7 +59,7 @@ loop-again c =
     let p : a.at + v.i + 1 ≡ a.at + (v.i + 1) = omega arith in (
       omega arith,
       simp length-set v.invariant.1,
-      rw p at (numbers-turn v.list a.numbers.now (a.at + v.i) v.i _ (omega arith) (c.pack-signed.ensures ∙ ap packSigned z)) ∙ v.invariant.2,
+      rw p at (numbers_turn v.list a.numbers.now (a.at + v.i) v.i _ (omega arith) (c.pack-signed.ensures ∙ ap pack_signed z)) ∙ v.invariant.2,
     )
 
 same_length : tie.Need-same-length invariant-loop decreases-loop
@@ -69,7 +69,7 @@ returns : tie.Need-returns invariant-loop decreases-loop
 returns c =
     let a = c.before.before.before.args in
     let v = c.before.loop in
-    sym (numbers-end v.list a.numbers.now (a.at + v.i) v.i (omega arith)) ∙ v.invariant.2
+    sym (numbers_end v.list a.numbers.now (a.at + v.i) v.i (omega arith)) ∙ v.invariant.2
 
 pub put-numbers-spec : {M : Type 1} → statement M
 put-numbers-spec =

@@ -4,7 +4,7 @@ use Prim.Native.Nat.{◌+◌}
 use native.Mathlib.Omega.{arith}
 use borrow.Author.Rules.{rules}
 use lib.ListN.{length, set, length-set}
-use Rattle.write_steps.proofs.Stores.{spline-stored}
+use Rattle.write_steps.proofs.Stores.{spline_stored}
 use Rattle.write_steps.proofs.put_spline.Statement.{statement}
 use Rattle.write_steps.proofs.put_spline.Tie as tie
 
@@ -36,7 +36,7 @@ returns c =
     let a = c.before.before.before.before.before.before.before.before.before.args in
     let one = c.before.before.before.before.before.before.put-numbers in
     let two = c.before.before.put-numbers2 in
-    spline-stored a.list.now (set a.list.now a.at a.n) one.new.1.0 two.new.1.0 a.at a.n (a.at + 1) (a.at + 1 + length a.deltas.now)
+    spline_stored a.list.now (set a.list.now a.at a.n) one.new.1.0 two.new.1.0 a.at a.n (a.at + 1) (a.at + 1 + length a.deltas.now)
     a.deltas.now a.coefficients.now refl refl refl one.ensures two.ensures
 
 pub put-spline-spec : {M : Type 1} → statement M

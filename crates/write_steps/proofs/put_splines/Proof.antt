@@ -5,7 +5,7 @@ use native.Mathlib.Omega.{arith}
 use borrow.Author.Rules.{rules}
 use lib.ListN.{length, get_or}
 use Rattle.write_judge.proofs.Checks.{length_part}
-use Rattle.write_steps.proofs.Stores.{Rows, rows-begin, rows-within, rows_more, rows_end}
+use Rattle.write_steps.proofs.Stores.{Rows, rows_begin, rows_within, rows_more, rows_end}
 use Rattle.write_steps.proofs.put_splines.Statement.{statement}
 use Rattle.write_steps.proofs.put_splines.Tie as tie
 
@@ -18,7 +18,7 @@ decreases-loop counts deltas coefficients list₀ at place₀ from₀ row₀ i�
 loop-holds : tie.Need-loop-init invariant-loop decreases-loop
 loop-holds c =
     let a = c.before.before.args in
-    rows-begin a.counts.now a.deltas.now a.coefficients.now a.list.now a.at c.before.before.requires.0
+    rows_begin a.counts.now a.deltas.now a.coefficients.now a.list.now a.at c.before.before.requires.0
 
 mul-n : tie.Need-overflow-mul-n invariant-loop decreases-loop
 mul-n c = search rules
@@ -30,19 +30,19 @@ cast-cells : tie.Need-overflow-cast-cells invariant-loop decreases-loop
 cast-cells c =
     let a = c.before.before.before.before.before.args in
     let v = c.before.before.loop in
-    omega (arith, rows-within a.counts.now a.deltas.now a.coefficients.now a.list.now a.at v.list v.place v.from v.row v.i v.invariant (omega arith))
+    omega (arith, rows_within a.counts.now a.deltas.now a.coefficients.now a.list.now a.at v.list v.place v.from v.row v.i v.invariant (omega arith))
 
 mul-cells : tie.Need-overflow-mul-cells invariant-loop decreases-loop
 mul-cells c =
     let a = c.before.before.before.before.before.args in
     let v = c.before.before.loop in
-    omega (arith, rows-within a.counts.now a.deltas.now a.coefficients.now a.list.now a.at v.list v.place v.from v.row v.i v.invariant (omega arith))
+    omega (arith, rows_within a.counts.now a.deltas.now a.coefficients.now a.list.now a.at v.list v.place v.from v.row v.i v.invariant (omega arith))
 
 add-to : tie.Need-overflow-add-to invariant-loop decreases-loop
 add-to c =
     let a = c.before.before.before.before.before.args in
     let v = c.before.before.loop in
-    omega (arith, rows-within a.counts.now a.deltas.now a.coefficients.now a.list.now a.at v.list v.place v.from v.row v.i v.invariant (omega arith))
+    omega (arith, rows_within a.counts.now a.deltas.now a.coefficients.now a.list.now a.at v.list v.place v.from v.row v.i v.invariant (omega arith))
 
 add-end : tie.Need-overflow-add-end invariant-loop decreases-loop
 add-end c = search rules
@@ -60,7 +60,7 @@ part-put-spline-end : tie.Need-slice-bounds-put-spline-end invariant-loop decrea
 part-put-spline-end c =
     let a = c.before.before.before.before.before.args in
     let v = c.before.before.loop in
-    rows-within a.counts.now a.deltas.now a.coefficients.now a.list.now a.at v.list v.place v.from v.row v.i v.invariant (omega arith)
+    rows_within a.counts.now a.deltas.now a.coefficients.now a.list.now a.at v.list v.place v.from v.row v.i v.invariant (omega arith)
 
 mul-put-spline-2 : tie.Need-overflow-mul-put-spline-2 invariant-loop decreases-loop
 mul-put-spline-2 c = search rules
@@ -78,20 +78,20 @@ put-spline-requires : tie.Need-put-spline-requires invariant-loop decreases-loop
 put-spline-requires c κs =
     let a = c.before.before.before.before.before.before.before.before.args in
     let v = c.before.before.before.before.before.loop in
-    let w = rows-within a.counts.now a.deltas.now a.coefficients.now a.list.now a.at v.list v.place v.from v.row v.i v.invariant (omega arith) in
+    let w = rows_within a.counts.now a.deltas.now a.coefficients.now a.list.now a.at v.list v.place v.from v.row v.i v.invariant (omega arith) in
     omega (arith, length_part a.deltas.now v.from (2 * get_or a.counts.now v.i 0) w, length_part a.coefficients.now v.row 128 (omega arith))
 
 add-place : tie.Need-overflow-add-place invariant-loop decreases-loop
 add-place c =
     let a = c.before.before.before.before.before.before.before.before.before.before.before.args in
     let v = c.before.before.before.before.before.before.before.before.loop in
-    omega (arith, rows-within a.counts.now a.deltas.now a.coefficients.now a.list.now a.at v.list v.place v.from v.row v.i v.invariant (omega arith))
+    omega (arith, rows_within a.counts.now a.deltas.now a.coefficients.now a.list.now a.at v.list v.place v.from v.row v.i v.invariant (omega arith))
 
 add-place-2 : tie.Need-overflow-add-place-2 invariant-loop decreases-loop
 add-place-2 c =
     let a = c.before.before.before.before.before.before.before.before.before.before.before.args in
     let v = c.before.before.before.before.before.before.before.before.loop in
-    omega (arith, rows-within a.counts.now a.deltas.now a.coefficients.now a.list.now a.at v.list v.place v.from v.row v.i v.invariant (omega arith))
+    omega (arith, rows_within a.counts.now a.deltas.now a.coefficients.now a.list.now a.at v.list v.place v.from v.row v.i v.invariant (omega arith))
 
 add-i : tie.Need-overflow-add-i invariant-loop decreases-loop
 add-i c = search rules

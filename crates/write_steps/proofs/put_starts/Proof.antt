@@ -4,8 +4,8 @@ use mathlib.Core.Bool.{true}
 use native.Mathlib.Omega.{arith}
 use borrow.Author.Rules.{rules}
 use lib.ListN.{length-set}
-use Rattle.write_judge.proofs.Checks.{starts-fine}
-use Rattle.write_steps.proofs.Stores.{starts-stored}
+use Rattle.write_judge.proofs.Checks.{starts_fine}
+use Rattle.write_steps.proofs.Stores.{starts_stored}
 use Rattle.write_steps.proofs.put_starts.Statement.{statement}
 use Rattle.write_steps.proofs.put_starts.Tie as tie
 
@@ -13,7 +13,7 @@ shared-slice-read-first-value : tie.Need-shared-slice-read-first-value
 shared-slice-read-first-value c = search rules
 
 first-value-requires : tie.Need-first-value-requires
-first-value-requires c κs = (starts-fine true c.before.before.before.args.starts.now 1 0 (omega arith) c.before.before.before.requires.3).0
+first-value-requires c κs = (starts_fine true c.before.before.before.args.starts.now 1 0 (omega arith) c.before.before.before.requires.3).0
 
 slice-write-list : tie.Need-slice-write-list
 slice-write-list c = search rules
@@ -22,7 +22,7 @@ shared-slice-read-first-value-2 : tie.Need-shared-slice-read-first-value-2
 shared-slice-read-first-value-2 c = search rules
 
 first-value-requires-2 : tie.Need-first-value-requires-2
-first-value-requires-2 c κs = (starts-fine true c.before.before.before.before.before.args.starts.now 1 0 (omega arith) c.before.before.before.before.before.requires.3).1
+first-value-requires-2 c κs = (starts_fine true c.before.before.before.before.before.args.starts.now 1 0 (omega arith) c.before.before.before.before.before.requires.3).1
 
 slice-write-list-2 : tie.Need-slice-write-list-2
 slice-write-list-2 c = simp length-set (omega arith)
@@ -37,7 +37,7 @@ returns : tie.Need-returns
 returns c =
     let a = c.before.before.before.before.before.before.before.before.before.before.args in
     c.before.before.put-later-starts.ensures
-    ∙ starts-stored a.starts.now a.list.now _ _ (omega arith) c.before.before.before.before.before.before.first-value.ensures c.before.before.before.before.first-value2.ensures
+    ∙ starts_stored a.starts.now a.list.now _ _ (omega arith) c.before.before.before.before.before.before.first-value.ensures c.before.before.before.before.first-value2.ensures
 
 pub put-starts-spec : {M : Type 1} → statement M
 put-starts-spec =

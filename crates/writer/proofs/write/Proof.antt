@@ -5,7 +5,7 @@ use borrow.Author.Rules.{rules}
 use lib.ListN.{length}
 use mir.Syntax.{w32}
 use mir.Facts.{to_z-of_z}
-use Rattle.writer.proofs.Answers.{writable, size_fits, answer-fault, answer-room, answer-done}
+use Rattle.writer.proofs.Answers.{writable, size_fits, answer_fault, answer_room, answer_done}
 use Rattle.writer.proofs.write.Statement.{statement}
 use Rattle.writer.proofs.write.Tie as tie
 
@@ -31,8 +31,8 @@ mul-values c =
     let e = sym c.before.before.judge.ensures ∙ c.enum_told.given.1 in
     omega (arith, size_fits a.counts.now a.starts.now a.deltas.now a.coefficients.now l.result e l.type-inv, c.before.before.before.before.before.before.before.before.before.before.before.well-formed.1.1.0.1)
 
-add-values : tie.Need-overflow-add-values
-add-values c =
+add_values : tie.Need-overflow-add-values
+add_values c =
     let a = c.before.before.before.before.before.before.before.before.before.before.before.args in
     let l = c.before.before.before.limit in
     let e = sym c.before.before.judge.ensures ∙ c.enum_told.given.1 in
@@ -53,7 +53,7 @@ returns c =
     let a = c.before.before.before.before.before.before.before.before.before.before.before.before.args in
     let l = c.before.before.before.before.limit in
     let e = sym c.before.before.before.judge.ensures ∙ c.before.enum_told.given.1 in
-    answer-room a.counts.now a.starts.now a.deltas.now a.coefficients.now a.adjustment a.configured a.pixels (length a.list.now) l.result l.ensures e
+    answer_room a.counts.now a.starts.now a.deltas.now a.coefficients.now a.adjustment a.configured a.pixels (length a.list.now) l.result l.ensures e
     c.before.before.before.before.before.before.before.clear-u32.new.0 c.before.before.before.before.before.before.before.clear-u32.ensures c.if1.true
 
 put-list-requires : tie.Need-put-list-requires
@@ -70,7 +70,7 @@ returns-2 : tie.Need-returns-2
 returns-2 c =
     let a = c.before.before.before.before.before.before.before.before.before.before.before.before.args in
     let l = c.before.before.before.before.limit in
-    answer-fault a.counts.now a.starts.now a.deltas.now a.coefficients.now a.adjustment a.configured a.pixels (length a.list.now) l.result l.ensures _ _
+    answer_fault a.counts.now a.starts.now a.deltas.now a.coefficients.now a.adjustment a.configured a.pixels (length a.list.now) l.result l.ensures _ _
     c.before.before.before.before.before.before.before.clear-u32.new.0 c.before.before.before.before.before.before.before.clear-u32.ensures (sym c.before.before.before.judge.ensures ∙ c.before.c.given.1)
 
 same-length-3 : tie.Need-same-length-3
@@ -82,7 +82,7 @@ returns-3 c =
     let l = c.before.before.before.before.before.before.before.before.limit in
     let e = sym c.before.before.before.before.before.before.before.judge.ensures ∙ c.before.before.before.before.before.enum_told.given.1 in
     let z = to_z-of_z {w = w32} {z = a.adjustment} c.before.before.before.before.before.before.before.before.before.before.before.before.before.before.before.before.ranges.adjustment in
-    answer-done a.counts.now a.starts.now a.deltas.now a.coefficients.now a.adjustment a.configured a.pixels (length a.list.now) l.result l.ensures e
+    answer_done a.counts.now a.starts.now a.deltas.now a.coefficients.now a.adjustment a.configured a.pixels (length a.list.now) l.result l.ensures e
     c.before.before.before.before.before.before.before.before.before.before.before.clear-u32.new.0 c.before.before.put-list.new.1.1.1.1.1.0 c.before.before.before.before.before.before.before.before.before.before.before.clear-u32.ensures c.before.before.before.before.if1.false (rw z at c.before.before.put-list.ensures)
 
 pub write_spec : {M : Type 1} → statement M
@@ -95,7 +95,7 @@ write_spec =
     enum-known-c
     enum_told
     mul-values
-    add-values
+    add_values
     add-values-2
     same_length
     returns

@@ -1,5 +1,5 @@
 -- `aktyrbuz_hide` meets its contract: what `hide` leaves, and its answer told in five numbers.
-use Rattle.aktyrbuz.proofs.Numbers.{hide-exported}
+use Rattle.aktyrbuz.proofs.Numbers.{hide_exported}
 use borrow.Author.Rules.{rules}
 use Rattle.aktyrbuz.proofs.hiding.aktyrbuz_hide.Statement.{statement}
 use Rattle.aktyrbuz.proofs.hiding.aktyrbuz_hide.Tie as tie
@@ -17,7 +17,7 @@ same_length : tie.Need-same-length
 same_length c = search rules
 
 returns : tie.Need-returns
-returns c = hide-exported _ _ _ _ c.before.before.before.before.before.hide.ensures c.before.before.told-hide.ensures c.tell.ensures
+returns c = hide_exported _ _ _ _ c.before.before.before.before.before.hide.ensures c.before.before.told-hide.ensures c.tell.ensures
 
 pub aktyrbuz-hide-spec : {M : Type 1} → statement M
 aktyrbuz-hide-spec =

@@ -1,5 +1,5 @@
 -- `aktyrbuz_check` meets its contract: the answer of `check`, told in five numbers.
-use Rattle.aktyrbuz.proofs.MakersNumbers.{check-exported}
+use Rattle.aktyrbuz.proofs.MakersNumbers.{check_exported}
 use borrow.Author.Rules.{rules}
 use Rattle.aktyrbuz.proofs.makers_tables.aktyrbuz_check.Statement.{statement}
 use Rattle.aktyrbuz.proofs.makers_tables.aktyrbuz_check.Tie as tie
@@ -14,7 +14,7 @@ tell-requires : tie.Need-tell-requires
 tell-requires c κs = search rules
 
 returns : tie.Need-returns
-returns c = check-exported _ _ _ c.before.before.before.check.ensures c.before.before.told-check.ensures c.tell.ensures
+returns c = check_exported _ _ _ c.before.before.before.check.ensures c.before.before.told-check.ensures c.tell.ensures
 
 pub aktyrbuz-check-spec : {M : Type 1} → statement M
 aktyrbuz-check-spec =

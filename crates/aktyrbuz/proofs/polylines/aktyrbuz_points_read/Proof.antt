@@ -5,15 +5,15 @@ use lib.IntN.{ℤ}
 use lib.Ieee.{Float}
 use Rattle.writer.specs.declared.WriteAnswer.{WriteAnswer}
 use Rattle.polyline.specs.Read.{PointsOutcome, leaves}
-use Rattle.told.specs.Told.{toldWrite, toldIn}
+use Rattle.told.specs.Told.{told_write, told_in}
 use Rattle.told.specs.declared.Told.{Told}
-use Rattle.aktyrbuz.specs.Polylines.{pointsLeaves, pointsExport}
+use Rattle.aktyrbuz.specs.Polylines.{points_leaves, points_export}
 use borrow.Author.Rules.{rules}
 use Rattle.aktyrbuz.proofs.polylines.aktyrbuz_points_read.Statement.{statement}
 use Rattle.aktyrbuz.proofs.polylines.aktyrbuz_points_read.Tie as tie
 
 points-exported : {o : PointsOutcome} (r : WriteAnswer) (t : Told) (five : List ℤ) (s : List Float) (d : List ℤ)
-    → leaves r s d ≡ o → t ≡ toldWrite r → five ≡ toldIn t → pointsLeaves t.number five s d ≡ pointsExport o
+    → leaves r s d ≡ o → t ≡ told_write r → five ≡ told_in t → points_leaves t.number five s d ≡ points_export o
 points-exported r t five s d p q e = rw (← p, e, q)
 
 points-read-requires : tie.Need-points-read-requires

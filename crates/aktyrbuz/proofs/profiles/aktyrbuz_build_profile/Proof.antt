@@ -1,7 +1,7 @@
 -- `aktyrbuz_build_profile` meets its contract: what `build_profile` leaves, and its answer told in five numbers.
 use mir.Syntax.{w32}
 use mir.Facts.{to_z-of_z}
-use Rattle.aktyrbuz.proofs.ProfileNumbers.{profile-build-exported}
+use Rattle.aktyrbuz.proofs.ProfileNumbers.{profile_build_exported}
 use borrow.Author.Rules.{rules}
 use Rattle.aktyrbuz.proofs.profiles.aktyrbuz_build_profile.Statement.{statement}
 use Rattle.aktyrbuz.proofs.profiles.aktyrbuz_build_profile.Tie as tie
@@ -37,7 +37,7 @@ returns : tie.Need-returns
 returns c =
     let s = c.before.before.before.before.before.before.before.before.before.before.before.before.before.before.before.before.before.before.before.before.before.before.before.before.before.before.before.before.before.before in
     let e = to_z-of_z {w = w32} {z = s.args.adjustment} s.ranges.adjustment in
-    profile-build-exported _ _ _ _ _ _ _ _ _ (rw e at c.before.before.before.before.before.before.before.before.before.before.before.before.before.before.before.build-profile.ensures) c.before.before.told-profile-build.ensures c.tell.ensures
+    profile_build_exported _ _ _ _ _ _ _ _ _ (rw e at c.before.before.before.before.before.before.before.before.before.before.before.before.before.before.before.build-profile.ensures) c.before.before.told-profile-build.ensures c.tell.ensures
 
 pub aktyrbuz-build-profile-spec : {M : Type 1} → statement M
 aktyrbuz-build-profile-spec =

@@ -1,5 +1,5 @@
 -- `aktyrbuz_trace_read` meets its contract: what `trace_read` leaves, and its answer told in five numbers.
-use Rattle.aktyrbuz.proofs.Numbers.{read-exported}
+use Rattle.aktyrbuz.proofs.Numbers.{read_exported}
 use borrow.Author.Rules.{rules}
 use Rattle.aktyrbuz.proofs.trace_files.aktyrbuz_trace_read.Statement.{statement}
 use Rattle.aktyrbuz.proofs.trace_files.aktyrbuz_trace_read.Tie as tie
@@ -26,7 +26,7 @@ same-length-4 : tie.Need-same-length-4
 same-length-4 c = search rules
 
 returns : tie.Need-returns
-returns c = read-exported _ _ _ _ _ _ _ c.before.before.before.before.before.before.before.before.before.trace-read.ensures c.before.before.told-read.ensures c.tell.ensures
+returns c = read_exported _ _ _ _ _ _ _ c.before.before.before.before.before.before.before.before.before.trace-read.ensures c.before.before.told-read.ensures c.tell.ensures
 
 pub aktyrbuz-trace-read-spec : {M : Type 1} → statement M
 aktyrbuz-trace-read-spec =

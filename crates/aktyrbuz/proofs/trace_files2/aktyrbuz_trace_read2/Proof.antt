@@ -1,5 +1,5 @@
 -- `aktyrbuz_trace_read2` meets its contract: what `trace_read2` leaves, and its answer told in five numbers.
-use Rattle.aktyrbuz.proofs.Trace2Numbers.{file-exported}
+use Rattle.aktyrbuz.proofs.Trace2Numbers.{file_exported}
 use borrow.Author.Rules.{rules}
 use Rattle.aktyrbuz.proofs.trace_files2.aktyrbuz_trace_read2.Statement.{statement}
 use Rattle.aktyrbuz.proofs.trace_files2.aktyrbuz_trace_read2.Tie as tie
@@ -26,7 +26,7 @@ same-length-4 : tie.Need-same-length-4
 same-length-4 c = search rules
 
 returns : tie.Need-returns
-returns c = file-exported c.before.before.before.before.before.before.before.before.before.trace-read2.result _ _ _ _ _ _ c.before.before.before.before.before.before.before.before.before.trace-read2.ensures c.before.before.told-file.ensures c.tell.ensures
+returns c = file_exported c.before.before.before.before.before.before.before.before.before.trace-read2.result _ _ _ _ _ _ c.before.before.before.before.before.before.before.before.before.trace-read2.ensures c.before.before.told-file.ensures c.tell.ensures
 
 pub aktyrbuz-trace-read2-spec : {M : Type 1} → statement M
 aktyrbuz-trace-read2-spec =

@@ -1,7 +1,7 @@
 -- `aktyrbuz_trace_write2` meets its contract: what `trace_write2` leaves, and its answer told in five numbers.
 use mir.Syntax.{w32}
 use mir.Facts.{to_z-of_z}
-use Rattle.aktyrbuz.proofs.Numbers.{write-exported}
+use Rattle.aktyrbuz.proofs.Numbers.{write_exported}
 use borrow.Author.Rules.{rules}
 use Rattle.aktyrbuz.proofs.trace_files2.aktyrbuz_trace_write2.Statement.{statement}
 use Rattle.aktyrbuz.proofs.trace_files2.aktyrbuz_trace_write2.Tie as tie
@@ -22,7 +22,7 @@ returns : tie.Need-returns
 returns c =
     let a = c.before.before.before.before.before.before.before.before.before.before.args in
     let e = to_z-of_z {w = w32} {z = a.adjustment} c.before.before.before.before.before.before.before.before.before.before.ranges.adjustment in
-    write-exported _ _ _ _ (rw e at c.before.before.before.before.before.trace-write2.ensures) c.before.before.told-write.ensures c.tell.ensures
+    write_exported _ _ _ _ (rw e at c.before.before.before.before.before.trace-write2.ensures) c.before.before.told-write.ensures c.tell.ensures
 
 pub aktyrbuz-trace-write2-spec : {M : Type 1} → statement M
 aktyrbuz-trace-write2-spec =

@@ -5,7 +5,7 @@ use borrow.Author.Rules.{rules}
 use lib.IntN.{nat_abs}
 use mir.Syntax.{w32}
 use mir.Facts.{to_z-of_z}
-use Rattle.control_points.specs.ControlPoints.{manhattanOf}
+use Rattle.control_points.specs.ControlPoints.{manhattan_of}
 use Rattle.control_points.proofs.Pairs.{abs_mag}
 use Rattle.control_points.proofs.Pair.manhattan.Statement.{statement}
 use Rattle.control_points.proofs.Pair.manhattan.Tie as tie
@@ -26,7 +26,7 @@ add-result c =
     record { fits = omega (arith, abs_mag s.args.self.x, abs_mag s.args.self.y) }
 
 returns : tie.Need-returns
-unfolding manhattanOf
+unfolding manhattan_of
 returns c =
     let s = c.before.before.before.before in
     let p = to_z-of_z {w = w32} {z = s.args.self.x} (record { sfits = omega arith }) in

@@ -1,7 +1,7 @@
 -- One law on sums of small numbers, at x and at y.
 use mathlib.Core.Path.{◌≡◌}
 use lib.IntN.{ℤ}
-use Rattle.control_points.specs.ControlPoints.{plusOf}
+use Rattle.control_points.specs.ControlPoints.{plus_of}
 use Rattle.control_points.specs.declared.Pair.{Pair}
 use Rattle.control_points.proofs.Pairs.{sum_fits, sum_is}
 use Rattle.control_points.proofs.Pair.plus.Statement.{statement}
@@ -17,7 +17,7 @@ add-t4 : tie.Need-overflow-add-t4
 add-t4 c = let s = c.before.before.before.before.before.before.before.before in sum_fits s.args.self.y s.args.o.y s.requires.0.y s.requires.1.y
 
 returns : tie.Need-returns
-unfolding plusOf
+unfolding plus_of
 returns c =
     let s = c.before.before.before.before.before.before.before.before in
     pair_is (sum_is s.args.self.x s.args.o.x s.requires.0.x s.requires.1.x) (sum_is s.args.self.y s.args.o.y s.requires.0.y s.requires.1.y)

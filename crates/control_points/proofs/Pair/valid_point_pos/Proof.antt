@@ -5,7 +5,7 @@ use native.Mathlib.Omega.{arith}
 use borrow.Author.Rules.{rules}
 use mir.Syntax.{w32}
 use mir.Facts.{to_z-of_z}
-use Rattle.control_points.specs.ControlPoints.{in_range, validPointPos}
+use Rattle.control_points.specs.ControlPoints.{in_range, valid_point_pos}
 use Rattle.control_points.proofs.Pair.valid_point_pos.Statement.{statement}
 use Rattle.control_points.proofs.Pair.valid_point_pos.Tie as tie
 
@@ -16,7 +16,7 @@ in-range-requires-2 : tie.Need-in-range-requires-2
 in-range-requires-2 c κs = search rules
 
 returns : tie.Need-returns
-unfolding validPointPos
+unfolding valid_point_pos
 returns c =
     let s = c.before.before.before.before.before in
     let p = to_z-of_z {w = w32} {z = s.args.self.x} (record { sfits = omega arith }) in
@@ -25,7 +25,7 @@ returns c =
     rw e (rw q at c.in-range2.ensures)
 
 returns-2 : tie.Need-returns-2
-unfolding validPointPos
+unfolding valid_point_pos
 returns-2 c =
     let s = c.before.before.before in
     let p = to_z-of_z {w = w32} {z = s.args.self.x} (record { sfits = omega arith }) in

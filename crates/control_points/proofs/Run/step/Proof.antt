@@ -6,32 +6,32 @@ use native.Mathlib.Omega.{arith}
 use lib.Dec.{leb, eqb}
 use borrow.Author.Rules.{rules}
 use borrow.Author.Tests.{not-true, not-false, le-leb, lt-leb}
-use Rattle.control_points.specs.ControlPoints.{step_of, validDoubleDelta, validPointPos, manhattanOf, samePoint}
-use Rattle.control_points.proofs.Pairs.{double-delta-fine, point-fine}
+use Rattle.control_points.specs.ControlPoints.{step_of, valid_double_delta, valid_point_pos, manhattan_of, same_point}
+use Rattle.control_points.proofs.Pairs.{double_delta_fine, point_fine}
 use Rattle.control_points.proofs.Coincide.{same_next}
 use Rattle.control_points.proofs.Run.step.Statement.{statement}
 use Rattle.control_points.proofs.Run.step.Tie as tie
 
 -- what each test on the way showed
-delta-small : (c : tie.Else1) → validDoubleDelta c.before.before.args.dd ≡ true
+delta-small : (c : tie.Else1) → valid_double_delta c.before.before.args.dd ≡ true
 delta-small c = sym c.before.valid-double-delta.ensures ∙ not-false _ c.if1.false
 
-delta-inside : (c : tie.Else2) → validPointPos c.before.before.plus.result ≡ true
+delta-inside : (c : tie.Else2) → valid_point_pos c.before.before.plus.result ≡ true
 delta-inside c = sym c.before.valid-point-pos.ensures ∙ not-false _ c.if2.false
 
-not-far : (c : tie.Else3) → let s = c.before.before.before.before.before.before.before.before in leb (s.args.self.manhattan + manhattanOf c.before.before.before.before.plus.result) s.args.limit ≡ true
-not-far c =
+not_far : (c : tie.Else3) → let s = c.before.before.before.before.before.before.before.before in leb (s.args.self.manhattan + manhattan_of c.before.before.before.before.plus.result) s.args.limit ≡ true
+not_far c =
     let e = c.before.manhattan.ensures in
     let s = c.before.before.before.before.before.before.before.before in
-    let h : s.args.self.manhattan + manhattanOf c.before.before.before.before.plus.result ≤ s.args.limit = omega (arith, s.requires.manhattan) in
+    let h : s.args.self.manhattan + manhattan_of c.before.before.before.before.plus.result ≤ s.args.limit = omega (arith, s.requires.manhattan) in
     le-leb _ _ h
 
-point-inside : (c : tie.Else4) → validPointPos c.before.before.plus2.result ≡ true
+point-inside : (c : tie.Else4) → valid_point_pos c.before.before.plus2.result ≡ true
 point-inside c = sym c.before.valid-point-pos2.ensures ∙ not-false _ c.if4.false
 
 -- the flag of the code
 flag : (c : tie.Else4) → let e = c.before.before.before.before in let s = e.before.before.before.before.before.before.before.before in
-    samePoint s.args.self.point c.before.before.plus2.result ≡ eqb e.before.manhattan.result 0
+    same_point s.args.self.point c.before.before.plus2.result ≡ eqb e.before.manhattan.result 0
 flag c =
     let e = c.before.before.before.before in
     let s = e.before.before.before.before.before.before.before.before in
@@ -47,7 +47,7 @@ unfolding step_of
 returns c = rw (sym c.before.valid-double-delta.ensures ∙ not-true _ c.if1.true)
 
 plus-requires : tie.Need-plus-requires
-plus-requires c κs = (c.before.before.before.requires.delta, double-delta-fine _ (delta-small c.before))
+plus-requires c κs = (c.before.before.before.requires.delta, double_delta_fine _ (delta-small c.before))
 
 valid-point-pos-requires : tie.Need-valid-point-pos-requires
 valid-point-pos-requires c κs = search rules
@@ -68,11 +68,11 @@ unfolding step_of
 returns-3 c =
     let s = c.before.before.before.before.before.before.before.before in
     let e = c.before.manhattan.ensures in
-    let h : s.args.limit < s.args.self.manhattan + manhattanOf c.before.before.before.before.plus.result = omega arith in
+    let h : s.args.limit < s.args.self.manhattan + manhattan_of c.before.before.before.before.plus.result = omega arith in
     rw (delta-small c.before.before.before.before.before.before, ← c.before.before.before.before.plus.ensures, delta-inside c.before.before, lt-leb _ _ h)
 
 plus-requires-2 : tie.Need-plus-requires-2
-plus-requires-2 c κs = (point-fine _ c.before.before.before.before.before.before.before.before.before.requires.point, point-fine _ (delta-inside c.before.before.before))
+plus-requires-2 c κs = (point_fine _ c.before.before.before.before.before.before.before.before.before.requires.point, point_fine _ (delta-inside c.before.before.before))
 
 valid-point-pos-requires-2 : tie.Need-valid-point-pos-requires-2
 valid-point-pos-requires-2 c κs = search rules
@@ -85,7 +85,7 @@ returns-4 c =
       delta-small e.before.before.before.before.before.before,
       ← e.before.before.before.before.plus.ensures,
       delta-inside e.before.before,
-      not-far e,
+      not_far e,
       ← c.before.before.plus2.ensures,
       sym c.before.valid-point-pos2.ensures ∙ not-true _ c.if4.true,
     )
@@ -101,7 +101,7 @@ returns-5 c =
       delta-small e.before.before.before.before.before.before,
       ← e.before.before.before.before.plus.ensures,
       delta-inside e.before.before,
-      not-far e,
+      not_far e,
       ← c.before.before.before.plus2.ensures,
       point-inside c.before,
       e.before.manhattan.ensures,
@@ -116,7 +116,7 @@ returns-6 c =
       delta-small e.before.before.before.before.before.before,
       ← e.before.before.before.before.plus.ensures,
       delta-inside e.before.before,
-      not-far e,
+      not_far e,
       ← c.before.before.before.plus2.ensures,
       point-inside c.before,
       flag c.before,

@@ -11,12 +11,12 @@ use mir.Syntax.{w32}
 use mir.Val.{to_z, of_z}
 use mir.Facts.{to_z-of_z}
 use Rattle.control_points.specs.ControlPoints.{in_range}
-use Rattle.control_points.proofs.Pairs.{in-range-mag, point-range}
+use Rattle.control_points.proofs.Pairs.{in_range_mag, point_range}
 use Rattle.curve.proofs.Point.of.Statement.{statement}
 use Rattle.curve.proofs.Point.of.Tie as tie
 
 as-it-stands : (z : ℤ) → in_range z ≡ true → to_z w32 (of_z w32 z) ≡ z
-as-it-stands z h = to_z-of_z {w = w32} {z = z} (record { sfits = omega (arith, in-range-mag z h) })
+as-it-stands z h = to_z-of_z {w = w32} {z = z} (record { sfits = omega (arith, in_range_mag z h) })
 
 castable : (z : ℤ) → mag z < 8388608 → T (in_float binary32 z)
 unfolding in_float
@@ -24,18 +24,18 @@ castable (pos n) h = le→leb n 16777216 (omega arith)
 castable (negsuc n) h = lt→ltb n 16777216 (omega arith)
 
 exact : (z : ℤ) → in_range z ≡ true → T (in_float binary32 (to_z w32 (of_z w32 z)))
-exact z h = rw (as-it-stands z h) (castable z (in-range-mag z h))
+exact z h = rw (as-it-stands z h) (castable z (in_range_mag z h))
 
 int-to-float-t2 : tie.Need-int-to-float-t2
-int-to-float-t2 c = let s = c.before.before in exact s.args.p.x (point-range s.args.p s.requires).0
+int-to-float-t2 c = let s = c.before.before in exact s.args.p.x (point_range s.args.p s.requires).0
 
 int-to-float-t3 : tie.Need-int-to-float-t3
-int-to-float-t3 c = let s = c.before.before.before.before in exact s.args.p.y (point-range s.args.p s.requires).1
+int-to-float-t3 c = let s = c.before.before.before.before in exact s.args.p.y (point_range s.args.p s.requires).1
 
 returns : tie.Need-returns
 returns c =
     let s = c.before.before.before.before in
-    let h = point-range s.args.p s.requires in
+    let h = point_range s.args.p s.requires in
     rw (as-it-stands s.args.p.x h.0, as-it-stands s.args.p.y h.1)
 
 pub of_spec : {M : Type 1} → statement M

@@ -1,6 +1,6 @@
 -- `curve::Turn::first`: the calls promise what the definition says.
 use borrow.Author.Rules.{rules}
-use Rattle.curve.specs.Turns.{firstTurn}
+use Rattle.curve.specs.Turns.{first_turn}
 use Rattle.curve.proofs.Turn.first.Statement.{statement}
 use Rattle.curve.proofs.Turn.first.Tie as tie
 
@@ -17,7 +17,7 @@ root-length-requires : tie.Need-root-length-requires
 root-length-requires c κs = search rules
 
 returns : tie.Need-returns
-unfolding firstTurn
+unfolding first_turn
 returns c = rw (c.root-length.ensures, c.before.reflected.ensures, c.before.before.of2.ensures, c.before.before.before.of.ensures)
 
 pub first_spec : {M : Type 1} → statement M

@@ -1,6 +1,6 @@
 -- `curve::Turn::next`: the calls promise what the definition says.
 use borrow.Author.Rules.{rules}
-use Rattle.curve.specs.Turns.{nextTurn}
+use Rattle.curve.specs.Turns.{next_turn}
 use Rattle.curve.proofs.Turn.next.Statement.{statement}
 use Rattle.curve.proofs.Turn.next.Tie as tie
 
@@ -11,7 +11,7 @@ root-length-requires : tie.Need-root-length-requires
 root-length-requires c κs = search rules
 
 returns : tie.Need-returns
-unfolding nextTurn
+unfolding next_turn
 returns c = rw (c.root-length.ensures, c.before.of.ensures)
 
 pub next-spec : {M : Type 1} → statement M

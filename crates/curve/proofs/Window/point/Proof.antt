@@ -1,5 +1,5 @@
 -- `curve::Window::point`: the calls promise what the definition says.
-use Rattle.curve.specs.Windows.{windowPoint}
+use Rattle.curve.specs.Windows.{window_point}
 use borrow.Author.Rules.{rules}
 use Rattle.curve.proofs.Window.point.Statement.{statement}
 use Rattle.curve.proofs.Window.point.Tie as tie
@@ -11,7 +11,7 @@ levels-requires : tie.Need-levels-requires
 levels-requires c κs = search rules
 
 returns : tie.Need-returns
-unfolding windowPoint
+unfolding window_point
 returns c = cc
 
 pub point-spec : {M : Type 1} → statement M

@@ -1,6 +1,6 @@
 -- The products are the definition's, in its order; the test on the index picks the factor.
 use Rattle.std.proofs.Common.{◌+◌, get_or, pos, to_z-of_z, w32, rules, eq-eqb, ne_eqb}
-use Rattle.dequantize.specs.Coefficients.{coefficientAt}
+use Rattle.dequantize.specs.Coefficients.{coefficient_at}
 use Rattle.dequantize.proofs.coefficients.coefficient.Statement.{statement}
 use Rattle.dequantize.proofs.coefficients.coefficient.Tie as tie
 
@@ -17,14 +17,14 @@ nearest-i32-to-f32-requires : tie.Need-nearest-i32-to-f32-requires
 nearest-i32-to-f32-requires c κs = search rules
 
 returns : tie.Need-returns
-unfolding coefficientAt
+unfolding coefficient_at
 returns c =
     let a = c.before.before.before.args in
     let e = to_z-of_z {w = w32} {z = get_or a.c.now (a.from + a.i) (pos 0)} (record { sfits = c.before.before.nearest-i32-to-f32-arg.given }) in
     rw (rw e at c.before.nearest-i32-to-f32.ensures, eq-eqb _ _ c.if1.true)
 
 returns-2 : tie.Need-returns-2
-unfolding coefficientAt
+unfolding coefficient_at
 returns-2 c =
     let a = c.before.before.before.args in
     let e = to_z-of_z {w = w32} {z = get_or a.c.now (a.from + a.i) (pos 0)} (record { sfits = c.before.before.nearest-i32-to-f32-arg.given }) in

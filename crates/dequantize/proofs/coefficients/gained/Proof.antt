@@ -1,18 +1,18 @@
 -- The invariant: the first i cells have gained.
 use Rattle.std.proofs.Common.{◌≡◌, ◌-◌, length, refl, arith, rules}
-use Rattle.dequantize.specs.Coefficients.{gainedAt, gainedOf}
-use Rattle.dequantize.proofs.Tables.{Filling, filling-none, filling-more, filling-all}
+use Rattle.dequantize.specs.Coefficients.{gained_at, gained_of}
+use Rattle.dequantize.proofs.Tables.{Filling, filling_none, filling_more, filling_all}
 use Rattle.dequantize.proofs.coefficients.gained.Statement.{statement}
 use Rattle.dequantize.proofs.coefficients.gained.Tie as tie
 
 abbrev invariant-loop : tie.invariant-loop
-invariant-loop k x y out₀ i₀ out i = (length x ≡ 32) × (length y ≡ 32) × Filling (gainedAt x k y) 32 out i
+invariant-loop k x y out₀ i₀ out i = (length x ≡ 32) × (length y ≡ 32) × Filling (gained_at x k y) 32 out i
 
 abbrev decreases-loop : tie.decreases-loop
 decreases-loop k x y out₀ i₀ out i = 32 - i
 
 loop-holds : tie.Need-loop-init invariant-loop decreases-loop
-loop-holds c = (omega arith, omega arith, filling-none _ 32 _ refl)
+loop-holds c = (omega arith, omega arith, filling_none _ 32 _ refl)
 
 mul-out : tie.Need-overflow-mul-out invariant-loop decreases-loop
 mul-out c = search rules
@@ -41,11 +41,11 @@ loop-less c = omega arith
 loop-again : tie.Need-loop-preserved invariant-loop decreases-loop
 loop-again c =
     let l = c.before.loop in
-    (l.invariant.0, l.invariant.1, filling-more _ l.i l.invariant.2 c.loop-test.true refl)
+    (l.invariant.0, l.invariant.1, filling_more _ l.i l.invariant.2 c.loop-test.true refl)
 
 returns : tie.Need-returns invariant-loop decreases-loop
-unfolding gainedOf
-returns c = let l = c.before.loop in filling-all _ l.i l.invariant.2 c.loop-test.false
+unfolding gained_of
+returns c = let l = c.before.loop in filling_all _ l.i l.invariant.2 c.loop-test.false
 
 pub gained-spec : {M : Type 1} → statement M
 gained-spec =

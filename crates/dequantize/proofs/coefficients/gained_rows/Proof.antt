@@ -1,6 +1,6 @@
 -- Each row is a call's answer, last call first.
 use Rattle.std.proofs.Common.{rules}
-use Rattle.dequantize.specs.Coefficients.{gainedRows}
+use Rattle.dequantize.specs.Coefficients.{gained_rows}
 use Rattle.dequantize.proofs.coefficients.gained_rows.Statement.{statement}
 use Rattle.dequantize.proofs.coefficients.gained_rows.Tie as tie
 
@@ -23,7 +23,7 @@ row-requires-4 : tie.Need-row-requires-4
 row-requires-4 c κs = search rules
 
 returns : tie.Need-returns
-unfolding gainedRows
+unfolding gained_rows
 returns c =
     rw (
       c.before.gained2.ensures,

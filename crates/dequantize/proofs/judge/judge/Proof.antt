@@ -1,7 +1,7 @@
 -- The invariant is a run over the splines, with what SHAPE asks for.
 use Rattle.std.proofs.Common.{◌+◌, ◌-◌, ◌*◌, ◌^◌, ◌<◌, ◌≤◌, length, arith, rules}
-use Rattle.dequantize.specs.Judge.{descriptionOf, Shaped}
-use Rattle.dequantize.proofs.Judging.{Under, under_none, under_all, under-fits, under-stop, under_more}
+use Rattle.dequantize.specs.Judge.{description_of, Shaped}
+use Rattle.dequantize.proofs.Judging.{Under, under_none, under_all, under_fits, under_stop, under_more}
 use Rattle.dequantize.proofs.judge.judge.Statement.{statement}
 use Rattle.dequantize.proofs.judge.judge.Tie as tie
 
@@ -13,8 +13,8 @@ invariant-loop counts starts deltas coefficients given k₀ at₀ total₀ k at 
     × (length counts < 2 ^ 61)
     × (2 * length counts ≤ length starts)
     × (128 * length counts ≤ length coefficients)
-    × Shaped (descriptionOf counts starts deltas coefficients)
-    × Under (descriptionOf counts starts deltas coefficients) given k at total
+    × Shaped (description_of counts starts deltas coefficients)
+    × Under (description_of counts starts deltas coefficients) given k at total
 
 abbrev decreases-loop : tie.decreases-loop
 decreases-loop counts starts deltas coefficients given k₀ at₀ total₀ k at total = length counts - k
@@ -23,7 +23,7 @@ decreases-loop counts starts deltas coefficients given k₀ at₀ total₀ k at 
 fits : (c : tie.After-wide invariant-loop decreases-loop) → c.before.before.before.loop.at + 2 * c.wide.result ≤ length c.before.before.before.before.before.before.args.deltas.now
 fits c =
     let l = c.before.before.before.loop in
-    under-fits _ _ l.k l.at l.total l.invariant.7 (omega arith) c.wide.ensures l.invariant.6
+    under_fits _ _ l.k l.at l.total l.invariant.7 (omega arith) c.wide.ensures l.invariant.6
 
 loop-holds : tie.Need-loop-init invariant-loop decreases-loop
 loop-holds c =
@@ -70,7 +70,7 @@ returns : tie.Need-returns invariant-loop decreases-loop
 returns c =
     let s = c.before.before.before.before in
     let l = s.before.before.before.before.before.loop in
-    under-stop _ _ l.k l.at l.total l.invariant.7 (omega arith) s.before.before.wide.ensures s.spline-at.ensures c.before.before.before.settle.ensures c.before.code.given.1
+    under_stop _ _ l.k l.at l.total l.invariant.7 (omega arith) s.before.before.wide.ensures s.spline-at.ensures c.before.before.before.settle.ensures c.before.code.given.1
 
 enum-known-more : tie.Need-enum-known-more invariant-loop decreases-loop
 enum-known-more c = search rules

@@ -1,7 +1,7 @@
 -- Each test of the code is the definition's test at the same place.
 use Rattle.std.proofs.Common.{sym, ◌∙◌, rules, eq-eqb, ne_eqb, le-leb}
 use borrow.Author.Tests.{lt-leb}
-use Rattle.dequantize.specs.Judge.{settleOf}
+use Rattle.dequantize.specs.Judge.{settle_of}
 use Rattle.dequantize.proofs.judge.settle.Statement.{statement}
 use Rattle.dequantize.proofs.judge.settle.Tie as tie
 
@@ -9,20 +9,20 @@ number-of-requires : tie.Need-number-of-requires
 number-of-requires c κs = search rules
 
 returns : tie.Need-returns
-unfolding settleOf
+unfolding settle_of
 returns c = rw (ne_eqb _ 0 (λ e. c.if1.true (c.before.number_of_lem.ensures ∙ e)))
 
 saturating-add-requires : tie.Need-saturating-add-requires
 saturating-add-requires c κs = search rules
 
 returns-2 : tie.Need-returns-2
-unfolding settleOf
+unfolding settle_of
 returns-2 c =
     let n = c.before.before.before in
     rw (eq-eqb _ 0 (sym n.number_of_lem.ensures ∙ c.before.before.if1.false), ← c.before.saturating-add.ensures, lt-leb _ _ c.if2.true)
 
 returns-3 : tie.Need-returns-3
-unfolding settleOf
+unfolding settle_of
 returns-3 c =
     let n = c.before.before.before.before in
     rw (
@@ -33,7 +33,7 @@ returns-3 c =
     )
 
 returns-4 : tie.Need-returns-4
-unfolding settleOf
+unfolding settle_of
 returns-4 c =
     let n = c.before.before.before.before in
     rw (

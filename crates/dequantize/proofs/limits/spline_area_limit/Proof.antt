@@ -1,6 +1,6 @@
 -- The calls of each branch are the definition's operations, last call first.
 use Rattle.std.proofs.Common.{rules}
-use Rattle.dequantize.specs.Limits.{splineAreaLimit}
+use Rattle.dequantize.specs.Limits.{spline_area_limit}
 use Rattle.dequantize.proofs.limits.spline_area_limit.Statement.{statement}
 use Rattle.dequantize.proofs.limits.spline_area_limit.Tie as tie
 
@@ -23,11 +23,11 @@ lesser-requires-2 : tie.Need-lesser-requires-2
 lesser-requires-2 c κs = search rules
 
 returns : tie.Need-returns
-unfolding splineAreaLimit
+unfolding spline_area_limit
 returns c = rw (c.before.before.before.if1.true, c.lesser.ensures, c.before.saturating-add.ensures, c.before.before.saturating-mul.ensures)
 
 returns-2 : tie.Need-returns-2
-unfolding splineAreaLimit
+unfolding spline_area_limit
 returns-2 c = rw (c.before.before.before.if1.false, c.lesser2.ensures, c.before.saturating-add2.ensures, c.before.before.saturating-mul2.ensures)
 
 pub spline-area-limit-spec : {M : Type 1} → statement M

@@ -18,8 +18,8 @@ mul-requires c κs = search rules
 cast-d : tie.Need-overflow-cast-d
 cast-d c = search rules
 
-sub-mul : tie.Need-overflow-sub-mul
-sub-mul c = search rules
+sub_mul : tie.Need-overflow-sub-mul
+sub_mul c = search rules
 
 mul-requires-2 : tie.Need-mul-requires-2
 mul-requires-2 c κs = search rules
@@ -34,6 +34,6 @@ returns : tie.Need-returns
 returns c = search rules
 
 pub guess-spec : {M : Type 1} → statement M
-guess-spec = tie.close (tie.spec cast-c cast-b add-b mul-requires cast-d sub-mul mul-requires-2 add-g cast-result returns)
+guess-spec = tie.close (tie.spec cast-c cast-b add-b mul-requires cast-d sub_mul mul-requires-2 add-g cast-result returns)
 
 -- Assumes nothing.

@@ -7,8 +7,8 @@ use native.Mathlib.Omega.{arith}
 use borrow.Author.Rules.{rules}
 use mir.Syntax.{w64}
 use mir.Val.{Fits}
-use Rattle.roots.specs.Root.{nearestRoot}
-use Rattle.roots.specs.RootBy.{placeBits}
+use Rattle.roots.specs.Root.{nearest_root}
+use Rattle.roots.specs.RootBy.{place_bits}
 use Rattle.roots.proofs.RootBy.{tested, whole_is, sum_is}
 use Rattle.roots.proofs.by_table.pattern.Statement.{statement}
 use Rattle.roots.proofs.by_table.pattern.Tie as tie
@@ -72,7 +72,7 @@ returns c =
     let high : r * r < m * 8388608 + r = subst (λ (z : ℕ). z < m * 8388608 + r) q c.if4.true in
     inr (
       j.before.before.if1.true,
-      sum_is b r ∙ ap (λ (z : ℕ). placeBits b * 2 ^ 23 + z) (tested (m * 8388608) r low high ∙ ap nearestRoot (whole_is b m (elim j.if2.branch [ inl h ↦ inl (h.0.taken, h.1) | inr h ↦ inr (h.0.left, h.1) ]))),
+      sum_is b r ∙ ap (λ (z : ℕ). place_bits b * 2 ^ 23 + z) (tested (m * 8388608) r low high ∙ ap nearest_root (whole_is b m (elim j.if2.branch [ inl h ↦ inl (h.0.taken, h.1) | inr h ↦ inr (h.0.left, h.1) ]))),
     )
 
 returns-2 : tie.Need-returns-2

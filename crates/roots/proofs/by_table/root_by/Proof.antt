@@ -7,9 +7,9 @@ use native.Mathlib.Nat.{lt_irrefl}
 use borrow.Author.Rules.{rules}
 use lib.Dec.{T}
 use lib.Ieee.{Float, binary32, le, fits, of_bits, to_bits, nan_bits}
-use Rattle.numbers.proofs.Zero.{yes, positive-is}
-use Rattle.roots.specs.RootBy.{rootBits}
-use Rattle.roots.proofs.RootBy.{least, most, above, root-by-bits, rooted-no-nan}
+use Rattle.numbers.proofs.Zero.{yes, positive_is}
+use Rattle.roots.specs.RootBy.{root_bits}
+use Rattle.roots.proofs.RootBy.{least, most, above, root_by_bits, rooted_no_nan}
 use Rattle.roots.proofs.by_table.root_by.Statement.{statement}
 use Rattle.roots.proofs.by_table.root_by.Tie as tie
 
@@ -26,7 +26,7 @@ upto : (c : tie.Then2) → T (le (x c) most)
 upto c = yes c.if2.true
 
 float-to-bits-bits : tie.Need-float-to-bits-bits
-float-to-bits-bits c = positive-is (x c) (above (x c) (held c) (from c) (upto c))
+float-to-bits-bits c = positive_is (x c) (above (x c) (held c) (from c) (upto c))
 
 cast-i : tie.Need-overflow-cast-i
 cast-i c = search rules
@@ -41,20 +41,20 @@ pattern-requires : tie.Need-pattern-requires
 pattern-requires c κs = search rules
 
 -- what a pattern other than 0 is
-found : (b p : ℕ) → (p ≡ 0) ⊎ ((b < 2139095040) × (p ≡ rootBits b)) → 0 < p → (b < 2139095040) × (p ≡ rootBits b)
+found : (b p : ℕ) → (p ≡ 0) ⊎ ((b < 2139095040) × (p ≡ root_bits b)) → 0 < p → (b < 2139095040) × (p ≡ root_bits b)
 found b p (inl e) h = absurd (lt_irrefl 0 (subst (λ (z : ℕ). 0 < z) e h))
 found b p (inr s) h = s
 
-at : (c : tie.Then3) → (to_bits binary32 (x c.before.before.before) < 2139095040) × (c.before.pattern.result ≡ rootBits (to_bits binary32 (x c.before.before.before)))
+at : (c : tie.Then3) → (to_bits binary32 (x c.before.before.before) < 2139095040) × (c.before.pattern.result ≡ root_bits (to_bits binary32 (x c.before.before.before)))
 at c = found (to_bits binary32 (x c.before.before.before)) c.before.pattern.result c.before.pattern.ensures c.if3.true
 
 float-from-bits-result : tie.Need-float-from-bits-result
-float-from-bits-result c = subst (λ (z : ℕ). T (not (nan_bits binary32 z))) (sym (at c).1) (rooted-no-nan (to_bits binary32 (x c.before.before.before)) (at c).0)
+float-from-bits-result c = subst (λ (z : ℕ). T (not (nan_bits binary32 z))) (sym (at c).1) (rooted_no_nan (to_bits binary32 (x c.before.before.before)) (at c).0)
 
 returns : tie.Need-returns
 returns c =
     let s = c.before.before.before in
-    ap (of_bits binary32) (at c).1 ∙ root-by-bits (x s) (held s) (from s) (upto s) (at c).0
+    ap (of_bits binary32) (at c).1 ∙ root_by_bits (x s) (held s) (from s) (upto s) (at c).0
 
 root-requires : tie.Need-root-requires
 root-requires c κs = search rules

@@ -7,8 +7,8 @@ use borrow.Author.Rules.{rules}
 use lib.Pow.{shr_lt}
 use mir.Syntax.{w64}
 use mir.Val.{Fits}
-use Rattle.roots.specs.Root.{nearestRootAt}
-use Rattle.roots.proofs.RootOfWhole.{stays, goes-up, to-even, q-lt, middle-is, middle-lt}
+use Rattle.roots.specs.Root.{nearest_root_at}
+use Rattle.roots.proofs.RootOfWhole.{stays, goes_up, to_even, q_lt, middle_is, middle_lt}
 use Rattle.roots.proofs.lengths.kept_root.Statement.{statement}
 use Rattle.roots.proofs.lengths.kept_root.Tie as tie
 
@@ -40,7 +40,7 @@ abbrev k : tie.After-whole-root → ℕ
 k c = c.before.args.k
 
 q-small : (c : tie.After-whole-root) → q c < 16777216
-q-small c = q-lt (n c) (k c) (q c) c.whole-root.ensures c.before.requires.0 c.before.requires.1.0 (cut-lt (n c) (k c) c.before.requires.1.1)
+q-small c = q_lt (n c) (k c) (q c) c.whole-root.ensures c.before.requires.0 c.before.requires.1.0 (cut-lt (n c) (k c) c.before.requires.1.1)
 
 mul-middle : tie.Need-overflow-mul-middle
 mul-middle c = omega (arith, q-small c)
@@ -65,11 +65,11 @@ abbrev middle : tie.After-whole-root → ℕ
 middle c = (2 * q c + 1) * 2 ^ (k c - 1)
 
 made-is : (c : tie.After-whole-root) → made c ≡ middle c
-made-is c = middle-is (n c) (k c) (q c) c.whole-root.ensures c.before.requires.0 c.before.requires.1.0 (cut-lt (n c) (k c) c.before.requires.1.1)
+made-is c = middle_is (n c) (k c) (q c) c.whole-root.ensures c.before.requires.0 c.before.requires.1.0 (cut-lt (n c) (k c) c.before.requires.1.1)
 
 mul-s : tie.Need-overflow-mul-s
 mul-s c =
-    let h : middle c < 2 ^ 32 = middle-lt (n c) (k c) (q c) c.whole-root.ensures c.before.requires.0 c.before.requires.1.0 (cut-lt (n c) (k c) c.before.requires.1.1) in
+    let h : middle c < 2 ^ 32 = middle_lt (n c) (k c) (q c) c.whole-root.ensures c.before.requires.0 c.before.requires.1.0 (cut-lt (n c) (k c) c.before.requires.1.1) in
     subst (λ (z : ℕ). Fits w64 (z * z)) (sym (made-is c)) (go (middle c * middle c) (mul-le-mul (most (middle c) h) (most (middle c) h)))
   where
     most : (a : ℕ) → a < 4294967296 → a ≤ 4294967295
@@ -92,13 +92,13 @@ returns c =
 returns-2 : tie.Need-returns-2
 returns-2 c =
     let s = c.before.before in
-    goes-up (n s) (k s) (q s) s.whole-root.ensures s.before.requires.0 (subst (λ (z : ℕ). z * z < n s) (made-is s) c.if2.true)
+    goes_up (n s) (k s) (q s) s.whole-root.ensures s.before.requires.0 (subst (λ (z : ℕ). z * z < n s) (made-is s) c.if2.true)
 
 -- a tie
-level : (c : tie.Else2) → q c.before.before + q c.before.before % 2 ≡ nearestRootAt (k c.before.before) (n c.before.before)
+level : (c : tie.Else2) → q c.before.before + q c.before.before % 2 ≡ nearest_root_at (k c.before.before) (n c.before.before)
 level c =
     let s = c.before.before in
-    to-even (n s) (k s) (q s) s.whole-root.ensures s.before.requires.0
+    to_even (n s) (k s) (q s) s.whole-root.ensures s.before.requires.0
     (subst (λ (z : ℕ). z * z ≤ n s) (made-is s) c.before.if1.false)
     (subst (λ (z : ℕ). n s ≤ z * z) (made-is s) c.if2.false)
 

@@ -2,7 +2,7 @@
 use mathlib.Core.Path.{refl}
 use native.Mathlib.Numerals.{unary_clauses}
 use native.Mathlib.Omega.{arith}
-use Rattle.segments.specs.Segment.{segmentAt}
+use Rattle.segments.specs.Segment.{segment_at}
 use Rattle.segments.proofs.Segment.at.Statement.{statement}
 use Rattle.segments.proofs.Segment.at.Tie as tie
 
@@ -79,7 +79,7 @@ shared-slice-read-t34 : tie.Need-shared-slice-read-t34
 shared-slice-read-t34 c = omega arith
 
 returns : tie.Need-returns
-unfolding segmentAt
+unfolding segment_at
 returns c = simp unary_clauses refl
 
 pub at-spec : {M : Type 1} → statement M

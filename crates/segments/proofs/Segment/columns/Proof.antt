@@ -1,6 +1,6 @@
 -- `columns` meets its contract: its two calls give the two ends.
 use borrow.Author.Rules.{rules}
-use Rattle.segments.specs.Ranges.{columnsOf}
+use Rattle.segments.specs.Ranges.{columns_of}
 use Rattle.segments.proofs.Segment.columns.Statement.{statement}
 use Rattle.segments.proofs.Segment.columns.Tie as tie
 
@@ -11,7 +11,7 @@ column-past-requires : tie.Need-column-past-requires
 column-past-requires c κs = search rules
 
 returns : tie.Need-returns
-unfolding columnsOf
+unfolding columns_of
 returns c = rw (c.column-past.ensures, c.before.before.column-first.ensures)
 
 pub columns_spec : {M : Type 1} → statement M
