@@ -1,0 +1,8 @@
+-- `aktyrbuz_reach` meets its contract: the answer of `reach`, told in five numbers.
+use Rattle.aktyrbuz.proofs.Numbers.{reach_exported}
+use borrow.Author.Rules.{rules}
+use Rattle.aktyrbuz.proofs.aktyrbuz_reach.Goals as goal
+
+pub returns : goal.returns
+returns c =
+    reach_exported _ _ _ c.reach.ensures c.told_reach-told.ensures c.tell.ensures

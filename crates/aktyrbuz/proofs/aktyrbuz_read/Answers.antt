@@ -1,0 +1,9 @@
+-- `aktyrbuz_read` meets its contract: what `read` leaves, and its answer told in five numbers.
+use Rattle.aktyrbuz.proofs.Numbers.{read_exported}
+use borrow.Author.Rules.{rules}
+use Rattle.aktyrbuz.proofs.aktyrbuz_read.Goals as goal
+
+pub returns : goal.returns
+returns c =
+    let r = c.read in
+    read_exported _ _ _ _ _ _ _ r.ensures c.told_read-told.ensures c.tell.ensures

@@ -1,0 +1,7 @@
+-- `aktyrbuz_band` meets its contract: what `refresh` leaves, and its answer told in five numbers.
+use Rattle.aktyrbuz.proofs.BandsNumbers.{bands_exported}
+use borrow.Author.Rules.{rules}
+use Rattle.aktyrbuz.proofs.bands_summary.aktyrbuz_band.Goals as goal
+
+pub returns : goal.returns
+returns c = bands_exported _ _ _ _ c.refresh.ensures c.told_bands-told.ensures c.tell.ensures

@@ -1,0 +1,19 @@
+-- `aktyrbuz_points_read` meets its contract: what `points_read` leaves, and its answer told in five numbers.
+use mathlib.Core.Path.{◌≡◌}
+use mathlib.Core.List.{List}
+use lib.IntN.{ℤ}
+use lib.Ieee.{Float}
+use Rattle.writer.specs.declared.WriteAnswer.{WriteAnswer}
+use Rattle.polyline.specs.Read.{PointsOutcome, leaves}
+use Rattle.told.specs.Told.{told_write, told_in}
+use Rattle.told.specs.declared.Told.{Told}
+use Rattle.aktyrbuz.specs.Polylines.{points_leaves, points_export}
+use borrow.Author.Rules.{rules}
+use Rattle.aktyrbuz.proofs.polylines.aktyrbuz_points_read.Goals as goal
+
+points-exported : {o : PointsOutcome} (r : WriteAnswer) (t : Told) (five : List ℤ) (s : List Float) (d : List ℤ)
+    → leaves r s d ≡ o → t ≡ told_write r → five ≡ told_in t → points_leaves t.number five s d ≡ points_export o
+points-exported r t five s d p q e = rw (← p, e, q)
+
+pub returns : goal.returns
+returns c = points-exported _ _ _ _ _ c.points_read.ensures c.told_write-told.ensures c.tell.ensures

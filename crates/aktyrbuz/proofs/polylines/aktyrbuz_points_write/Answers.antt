@@ -1,0 +1,7 @@
+-- `aktyrbuz_points_write` meets its contract: what `points_write` leaves, and its answer told in five numbers.
+use Rattle.aktyrbuz.proofs.Numbers.{write_exported}
+use borrow.Author.Rules.{rules}
+use Rattle.aktyrbuz.proofs.polylines.aktyrbuz_points_write.Goals as goal
+
+pub returns : goal.returns
+returns c = write_exported _ _ _ _ c.points_write.ensures c.told_write-told.ensures c.tell.ensures

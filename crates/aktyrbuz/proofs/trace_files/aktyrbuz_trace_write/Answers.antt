@@ -1,0 +1,12 @@
+-- `aktyrbuz_trace_write` meets its contract: what `trace_write` leaves, and its answer told in five numbers.
+use mir.Syntax.{w32}
+use mir.Facts.{to_z-of_z}
+use Rattle.aktyrbuz.proofs.Numbers.{write_exported}
+use borrow.Author.Rules.{rules}
+use Rattle.aktyrbuz.proofs.trace_files.aktyrbuz_trace_write.Goals as goal
+
+pub returns : goal.returns
+returns c =
+    let a = c.args in
+    let e = to_z-of_z {w = w32} {z = a.adjustment} c.ranges.adjustment in
+    write_exported _ _ _ _ (rw e at c.trace_write.ensures) c.told_write-told.ensures c.tell.ensures

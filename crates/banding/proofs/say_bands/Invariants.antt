@@ -1,0 +1,12 @@
+-- `banding::say_bands` ends: it goes through the bands in order.
+use Prim.Native.Nat.{◌+◌, ◌-◌, ◌*◌, ◌≤◌, ◌<◌}
+use mathlib.Core.Path.{◌≡◌}
+use lib.ListN.{length}
+use borrow.Author.Rules.{rules}
+use Rattle.banding.proofs.say_bands.Given as goal
+
+abbrev pub invariant-loop-b : goal.invariant-loop-b
+invariant-loop-b l = l.b ≤ l.bands
+
+abbrev pub decreases-loop-b : goal.decreases-loop-b
+decreases-loop-b l = l.bands - l.b

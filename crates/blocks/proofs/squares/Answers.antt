@@ -1,0 +1,22 @@
+use mathlib.Core.Path.{◌≡◌}
+use Prim.Native.Nat.{◌+◌, ◌-◌, ◌≤◌}
+use native.Mathlib.Omega.{arith}
+use lib.ListN.{length, length-set}
+use Rattle.shade.specs.Edit.{edit, first_cells}
+use Rattle.shade.specs.Shade.{sqd}
+use Rattle.shade.proofs.Edits.{edit_none, edit_until, stored}
+use Rattle.blocks.proofs.squares.Goals as goal
+
+pub loop-k-init : goal.loop-k-init
+loop-k-init c = (omega arith, omega arith, omega arith, edit_none _ _)
+
+pub loop-k-preserved : goal.loop-k-preserved
+loop-k-preserved c =
+    let l = c.loop-k in
+    let g = c.float_of.ensures in
+    (omega arith, simp length-set l.invariant.1, l.invariant.2, stored _ _ _ l.k _ (omega arith) l.invariant.3 (rw g))
+
+pub returns : goal.returns
+returns c =
+    let l = c.loop-k in
+    edit_until _ _ _ l.invariant.0 c.loop-k-test.false l.invariant.3

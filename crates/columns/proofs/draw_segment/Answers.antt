@@ -1,0 +1,21 @@
+-- The columns of the segment are those that it has.
+use borrow.Author.Rules.{rules}
+use Rattle.columns.proofs.Columns.{count_columns, draw_columns}
+use Rattle.columns.proofs.draw_segment.Goals as goal
+
+pub returns : goal.returns
+returns c =
+    let A = c.args in
+    let p = c.at-segment.ensures in
+    let q = c.columns-columns.ensures in
+    let e = c.draw_columns.ensures in
+    let h = c.requires.1.0.0 in (
+      count_columns A.segments.now A.i A.x0 A.n _ _ _ p q h e.value,
+      (
+        draw_columns 0 A.segments.now A.i A.y A.x0 A.n _ _ _ _ p q h e.r0_after.0,
+        (
+          draw_columns 1 A.segments.now A.i A.y A.x0 A.n _ _ _ _ p q h e.r0_after.1.0,
+          draw_columns 2 A.segments.now A.i A.y A.x0 A.n _ _ _ _ p q h e.r0_after.1.1,
+        ),
+      ),
+    )

@@ -1,0 +1,10 @@
+-- The code makes the two tests of the definition, on the value that the machine's word stands for.
+use mir.Syntax.{w32}
+use mir.Facts.{to_z-of_z}
+use Rattle.control_points.proofs.below_delta_limit.Goals as goal
+
+pub returns-then-v-gtminus1073741824 : goal.returns-then-v-gtminus1073741824
+returns-then-v-gtminus1073741824 c = let e = to_z-of_z {w = w32} {z = c.args.v} c.ranges.v in rw (e, rw e at c.if-v-gtminus1073741824.true)
+
+pub returns-else-v-gtminus1073741824 : goal.returns-else-v-gtminus1073741824
+returns-else-v-gtminus1073741824 c = let e = to_z-of_z {w = w32} {z = c.args.v} c.ranges.v in rw (rw e at c.if-v-gtminus1073741824.false)

@@ -1,0 +1,6 @@
+-- `curve::Point::reflected`: the calls promise what the definition says.
+use borrow.Author.Rules.{rules}
+use Rattle.curve.proofs.Point.reflected.Goals as goal
+
+pub returns : goal.returns
+returns c = rw (c.add.ensures, c.sub.ensures)

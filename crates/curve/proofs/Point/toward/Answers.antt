@@ -1,0 +1,8 @@
+-- `curve::Point::toward`: the calls promise what the definition says.
+use borrow.Author.Rules.{rules}
+use Rattle.curve.specs.Windows.{toward}
+use Rattle.curve.proofs.Point.toward.Goals as goal
+
+pub returns : goal.returns
+unfolding toward
+returns c = cc

@@ -1,0 +1,6 @@
+-- `curve::Turn::last`: the calls promise what the definition says.
+use borrow.Author.Rules.{rules}
+use Rattle.curve.proofs.Turn.last.Goals as goal
+
+pub returns : goal.returns
+returns c = rw (c.window.ensures, c.reflected.ensures)

@@ -1,0 +1,17 @@
+-- `curve::put_interpolated`: the invariant is that the first i points are stored.
+use mathlib.Core.Path.{◌≡◌, refl}
+use Prim.Native.Nat.{◌+◌, ◌-◌, ◌≤◌}
+use native.Mathlib.Omega.{arith}
+use lib.ListN.{length}
+use lib.Seq.{sets}
+use Rattle.buffers.proofs.Fronts.{sets_more}
+use Rattle.curve.specs.Windows.{window_point}
+use Rattle.curve.specs.Curve.{interpolated, flat}
+use Rattle.curve.proofs.Paths.{two, interpolated_more, length_flat_interpolated}
+use Rattle.curve.proofs.put_interpolated.Given as goal
+
+abbrev pub invariant-loop-i : goal.invariant-loop-i
+invariant-loop-i l = (l.i ≤ 15) × (length l.out ≡ length l.initial.out) × (l.out ≡ sets l.initial.out l.k (flat (interpolated l.w l.i)))
+
+abbrev pub decreases-loop-i : goal.decreases-loop-i
+decreases-loop-i l = 15 - l.i

@@ -1,0 +1,40 @@
+-- The part of each channel that holds the range comes back with the segment added.
+use native.Mathlib.Omega.{arith}
+use borrow.Author.Rules.{rules}
+use Rattle.cuts.proofs.Cuts.{added_part}
+use Rattle.cuts.proofs.add_in.Goals as goal
+
+pub add_in_spec : {M : Type 1} → statement M
+add_in_spec =
+    tie.close
+    (tie.spec
+    sub-a
+    cast-a
+    sub-e
+    cast-e
+    mul-add
+    sub-add
+    part-add-start
+    part-add-end
+    mul-add-2
+    sub-add-2
+    part-add-start-2
+    part-add-end-2
+    mul-add-3
+    sub-add-3
+    part-add-start-3
+    part-add-end-3
+    add-requires
+    same_length
+    same-length-2
+    same-length-3
+    returns)
+
+pub returns : goal.returns
+returns c =
+    let A = c.args in
+    let h = c.requires in
+    let e = c.add.ensures in record { r0_after = added_part A.segment A.range A.locals.now A.x0 0 A.r0.now _ h.0.0 h.0.1 h.1.0 e.r0_after; r1_after = (
+        added_part A.segment A.range A.locals.now A.x0 1 A.r1.now _ h.0.0 h.0.1 h.1.1 e.r1_after.0,
+        added_part A.segment A.range A.locals.now A.x0 2 A.r2.now _ h.0.0 h.0.1 h.1.2 e.r1_after.1,
+      ); r2_after =  }

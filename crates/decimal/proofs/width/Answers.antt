@@ -1,0 +1,22 @@
+use mathlib.Core.Path.{◌≡◌}
+use Prim.Native.Nat.{◌+◌, ◌≤◌, ◌<◌, ◌^◌}
+use native.Mathlib.Omega.{arith}
+use lib.ListN.{length}
+use Rattle.polyline.specs.Write.{digits_of}
+use Rattle.polyline.proofs.Digits.{length_small, length_large, length_most}
+use Rattle.decimal.proofs.width.Goals as goal
+
+pub width_spec : {M : Type 1} → statement M
+width_spec = tie.close (tie.spec invariant-loop decreases-loop loop-holds add-w loop-less loop-again returns)
+
+pub loop-left-init : goal.loop-left-init
+loop-left-init c = (omega arith, omega arith, omega arith)
+
+pub overflow_add-w : goal.overflow_add-w
+overflow_add-w c = let n = c.args.n in omega (arith, length_most 9 n (omega arith), c.loop-left.invariant.0)
+
+pub loop-left-preserved : goal.loop-left-preserved
+loop-left-preserved c = (omega (arith, c.loop-left.invariant.0, length_large c.loop-left.left c.loop-left-test.true), omega arith, omega arith)
+
+pub returns : goal.returns
+returns c = omega (arith, c.loop-left.invariant.0, length_small c.loop-left.left c.loop-left-test.false)

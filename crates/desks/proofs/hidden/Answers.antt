@@ -1,0 +1,6 @@
+-- The bit of the byte at the segment's owner.
+use native.Mathlib.Omega.{arith}
+use Rattle.desks.proofs.hidden.Goals as goal
+
+pub returns : goal.returns
+returns c = c.bit_of.ensures

@@ -1,0 +1,8 @@
+-- The calls are the definition's operations, last call first.
+use borrow.Author.Rules.{rules}
+use Rattle.estimate.specs.Estimate.{weight_limit}
+use Rattle.estimate.proofs.weight_limit.Goals as goal
+
+pub returns : goal.returns
+unfolding weight_limit
+returns c = rw (c.ceil.ensures, c.root.ensures, c.nearest_u64_to_f32-3.ensures, c.greater.ensures, c.nearest_u64_to_f32-2.ensures, c.nearest_u64_to_f32.ensures)

@@ -1,0 +1,15 @@
+-- `faint_in`: the first i segments are counted.
+use mathlib.Core.Path.{◌≡◌, refl, ap, ◌∙◌}
+use Prim.Native.Nat.{◌+◌, ◌-◌, ◌*◌, ◌^◌, ◌≤◌}
+use native.Mathlib.Omega.{arith}
+use borrow.Author.Rules.{rules}
+use lib.ListN.{length}
+use Rattle.faint.specs.Faint.{faint_in}
+use Rattle.faint.proofs.Counts.{faint_most, faint_more}
+use Rattle.faint.proofs.faint_in.Given as goal
+
+abbrev pub invariant-loop-i : goal.invariant-loop-i
+invariant-loop-i l = (8 * l.count ≤ length l.segments) × (l.count ≤ 2 ^ 24) × (l.i ≤ l.count) × (l.found ≤ l.i) × (l.found ≡ faint_in l.segments l.i)
+
+abbrev pub decreases-loop-i : goal.decreases-loop-i
+decreases-loop-i l = l.count - l.i

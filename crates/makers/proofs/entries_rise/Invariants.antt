@@ -1,0 +1,21 @@
+-- `entries_rise`: the entries from j on decide, from turn to turn.
+use mathlib.Core.Path.{◌≡◌, refl, sym, ◌∙◌}
+use Prim.Native.Nat.{◌-◌, ◌≤◌}
+use native.Mathlib.Omega.{arith}
+use lib.ListN.{length, get_or}
+use lib.Seq.{slice}
+use borrow.Author.Rules.{rules}
+use borrow.Author.Tests.{le-leb, lt-leb, lt-ltb, le-ltb, not-true, not-false}
+use Rattle.rows.specs.Rows.{in_row}
+use Rattle.makers.specs.Steps.{rising}
+use Rattle.makers.proofs.Rows.{rising_next, rising_turn, rising_none}
+use Rattle.makers.proofs.entries_rise.Given as goal
+
+abbrev pub invariant-loop-j : goal.invariant-loop-j
+invariant-loop-j l =
+    (l.j ≤ l.e)
+    × (l.e ≤ length l.entries)
+    × (rising (λ i. in_row l.segments i l.y) l.segment_count 0 (slice l.b l.e l.entries) ≡ rising (λ i. in_row l.segments i l.y) l.segment_count l.least (slice l.j l.e l.entries))
+
+abbrev pub decreases-loop-j : goal.decreases-loop-j
+decreases-loop-j l = l.e - l.j

@@ -1,0 +1,17 @@
+-- `due`: the sum is that of the segments below i, each at most n.
+use mathlib.Core.Path.{◌≡◌, ap, ◌∙◌}
+use Prim.Native.Nat.{◌*◌, ◌≤◌, ◌-◌}
+use native.Mathlib.Omega.{arith}
+use native.Mathlib.Numerals.{add-one}
+use borrow.Author.Rules.{rules}
+use Rattle.rows.specs.Steps.{heights, first_of, past_of}
+use Rattle.rows.proofs.Table.{past_in}
+use Rattle.makers_search.proofs.Sums.{due_is}
+use Rattle.makers_search.proofs.due.Given as goal
+
+abbrev pub invariant-loop-i : goal.invariant-loop-i
+invariant-loop-i l =
+    (l.i ≤ l.count) × (l.sum ≡ heights (first_of l.segments) (past_of l.segments l.n) l.i) × (l.sum ≤ l.i * 8388608)
+
+abbrev pub decreases-loop-i : goal.decreases-loop-i
+decreases-loop-i l = l.count - l.i

@@ -1,0 +1,21 @@
+-- `first_short`: nothing lacks before the low row, and something before the high one.
+use mathlib.Core.Path.{◌≡◌, sym, ◌∙◌}
+use Prim.Native.Nat.{suc, ◌-◌, ◌≤◌, ◌<◌}
+use native.Mathlib.Omega.{arith}
+use lib.ListN.{get_or}
+use borrow.Author.Rules.{rules}
+use borrow.Author.Tests.{ltb-true, ltb-false, not-true, not-false}
+use Rattle.rows.specs.Rows.{start_of, in_row}
+use Rattle.makers.proofs.Short.{none_short, first_short}
+use Rattle.makers_search.proofs.Sums.{begin_full, some_rows}
+use Rattle.makers_search.proofs.first_short.Given as goal
+
+abbrev pub invariant-loop-low : goal.invariant-loop-low
+invariant-loop-low l =
+    (l.low < l.high)
+    × (l.high ≤ l.bad)
+    × (start_of (in_row l.segments) l.segment_count l.low ≤ get_or l.row_starts l.low 0)
+    × (get_or l.row_starts l.high 0 < start_of (in_row l.segments) l.segment_count l.high)
+
+abbrev pub decreases-loop-low : goal.decreases-loop-low
+decreases-loop-low l = l.high - l.low

@@ -1,0 +1,42 @@
+use mathlib.Core.Path.{◌≡◌, ap, ◌∙◌}
+use Prim.Native.Nat.{◌-◌, ◌≤◌}
+use native.Mathlib.Omega.{arith}
+use lib.ListN.{length, replicate, length-set}
+use lib.Seq.{sets}
+use Rattle.owners.proofs.Runs.{run_none, run_more}
+use Rattle.owners.proofs.fill.Goals as goal
+
+pub fill_spec : {M : Type 1} → statement M
+fill_spec =
+    tie.close
+    (tie.spec
+    invariant-loop
+    decreases-loop
+    loop-holds
+    mul-owners
+    slice-write-owners
+    add-i
+    loop-less
+    loop-again
+    same_length
+    returns)
+
+pub loop-i-init : goal.loop-i-init
+loop-i-init c = (omega arith, omega arith, omega arith, omega arith, run_none c.args.k c.args.owners.now c.args.from)
+
+pub loop-i-preserved : goal.loop-i-preserved
+loop-i-preserved c =
+    let a = c.args in
+    let v = c.loop-i.invariant in (
+      omega arith,
+      omega arith,
+      omega arith,
+      simp length-set (omega arith),
+      rw v.4 (run_more a.k a.owners.now a.from c.loop-i.i (omega arith)),
+    )
+
+pub returns : goal.returns
+returns c =
+    let a = c.args in
+    let e : c.loop-i.i ≡ a.to = omega arith in
+    rw e at c.loop-i.invariant.4

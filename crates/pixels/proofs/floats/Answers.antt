@@ -1,0 +1,18 @@
+use mathlib.Core.Path.{◌≡◌, ◌∙◌, ap}
+use Prim.Native.Nat.{◌-◌, ◌*◌, ◌≤◌}
+use native.Mathlib.Omega.{arith}
+use lib.ListN.{length}
+use Rattle.buffers.proofs.Filling.{Filled, filled_length}
+use Rattle.pixels.specs.Pixels.{at, each, pixels_of, floats_of}
+use Rattle.pixels.proofs.Strips.{strip_begin, strip_more, strip_end, twelve}
+use borrow.Author.Rules.{rules}
+use Rattle.pixels.proofs.floats.Goals as goal
+
+pub loop-i-init : goal.loop-i-init
+loop-i-init c = (search rules, search rules, search rules, search rules, search rules, search rules, strip_begin (at floats_of c.args.x.now c.args.y.now c.args.b.now) c.args.n c.args.out.now)
+
+pub loop-i-preserved : goal.loop-i-preserved
+loop-i-preserved c = (search rules, search rules, search rules, search rules, search rules, search rules, strip_more (at floats_of c.args.x.now c.args.y.now c.args.b.now) c.loop-i.invariant.6 c.put_floats.ensures c.loop-i-test.true 12 _ (twelve _ _ _) (omega arith) (omega arith))
+
+pub returns : goal.returns
+returns c = strip_end (at floats_of c.args.x.now c.args.y.now c.args.b.now) c.loop-i.invariant.6 c.loop-i-test.false

@@ -1,0 +1,6 @@
+-- `pixels::put_float`: the four bytes of the pattern.
+use borrow.Author.Rules.{rules}
+use Rattle.pixels.proofs.put_float.Goals as goal
+
+pub returns : goal.returns
+returns c = rw c.pattern-w.ensures at c.put4.ensures

@@ -1,0 +1,12 @@
+-- `told`: an answer, case by case.
+use borrow.Author.Rules.{rules}
+use Rattle.profile.proofs.told.Goals as goal
+
+pub returns-in-Meets : goal.returns-in-Meets
+returns-in-Meets c = rw c.in-Meets.is
+
+pub returns-in-Broken : goal.returns-in-Broken
+returns-in-Broken c = rw (c.in-Broken.is, c.number_of.ensures)
+
+pub returns-in-Refused : goal.returns-in-Refused
+returns-in-Refused c = rw (c.in-Refused.is, c.number_of-in-Refused.ensures)

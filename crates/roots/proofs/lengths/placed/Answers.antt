@@ -1,0 +1,10 @@
+-- `placed` meets its contract: the pattern of q * 2 ^ w is the sum that the code makes.
+use borrow.Author.Rules.{rules}
+use Rattle.roots.proofs.Placed.{pattern_is, pattern_no_nan}
+use Rattle.roots.proofs.lengths.placed.Goals as goal
+
+pub float_from_bits-result : goal.float_from_bits-result
+float_from_bits-result c = pattern_no_nan c.args.q c.args.w c.requires.0 c.requires.1.0 c.requires.1.1
+
+pub returns : goal.returns
+returns c = pattern_is c.args.q c.args.w c.requires.0 c.requires.1.0 c.requires.1.1

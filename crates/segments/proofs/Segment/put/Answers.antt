@@ -1,0 +1,66 @@
+-- `Segment::put` meets its contract: eight stores, which do not change the length.
+use mathlib.Core.Path.{◌≡◌}
+use Prim.Native.Nat.{ℕ, suc, ◌+◌}
+use native.Mathlib.Omega.{arith}
+use native.Mathlib.Numerals.{add-one}
+use lib.ListN.{length-set}
+use borrow.Author.Rules.{rules}
+use Rattle.segments.proofs.Segment.put.Goals as goal
+
+sucs : (n : ℕ) → (n + 2 ≡ suc (suc n)) × (n + 3 ≡ suc (suc (suc n))) × (n + 4 ≡ suc (suc (suc (suc n)))) × (n + 5 ≡ suc (suc (suc (suc (suc n)))))
+    × (n + 6 ≡ suc (suc (suc (suc (suc (suc n)))))) × (n + 7 ≡ suc (suc (suc (suc (suc (suc (suc n)))))))
+sucs n = (omega arith, omega arith, omega arith, omega arith, omega arith, omega arith)
+
+pub put_spec : {M : Type 1} → statement M
+put_spec =
+    tie.close
+    (tie.spec
+    mul-out
+    slice-write-out
+    add-out
+    mul-out-2
+    slice-write-out-2
+    add-out-2
+    mul-out-3
+    slice-write-out-3
+    add-out-3
+    mul-out-4
+    slice-write-out-4
+    add-out-4
+    mul-out-5
+    slice-write-out-5
+    add-out-5
+    mul-out-6
+    slice-write-out-6
+    add-out-6
+    mul-out-7
+    slice-write-out-7
+    add-out-7
+    mul-out-8
+    slice-write-out-8
+    same_length
+    returns)
+
+pub bounds-out-k-2 : goal.bounds-out-k-2
+bounds-out-k-2 c = simp length-set (omega arith)
+
+pub bounds-out-k-3 : goal.bounds-out-k-3
+bounds-out-k-3 c = simp length-set (omega arith)
+
+pub bounds-out-k-4 : goal.bounds-out-k-4
+bounds-out-k-4 c = simp length-set (omega arith)
+
+pub bounds-out-k-5 : goal.bounds-out-k-5
+bounds-out-k-5 c = simp length-set (omega arith)
+
+pub bounds-out-k-6 : goal.bounds-out-k-6
+bounds-out-k-6 c = simp length-set (omega arith)
+
+pub bounds-out-k-7 : goal.bounds-out-k-7
+bounds-out-k-7 c = simp length-set (omega arith)
+
+pub bounds-out-k-8 : goal.bounds-out-k-8
+bounds-out-k-8 c = simp length-set (omega arith)
+
+pub returns : goal.returns
+returns c = let s = sucs c.args.k in rw (add-one, s.0, s.1, s.2, s.3, s.4, s.5)

@@ -1,0 +1,11 @@
+-- `text::feed` meets its contract: its test is the definition's.
+use mathlib.Core.Path.{refl}
+use native.Mathlib.Omega.{arith}
+use borrow.Author.Tests.{eq-eqb, ne_eqb}
+use Rattle.text.proofs.feed.Goals as goal
+
+pub returns-then-b-eq10 : goal.returns-then-b-eq10
+returns-then-b-eq10 c = rw (eq-eqb c.args.b 10 c.if-b-eq10.true) (refl, omega arith)
+
+pub returns-else-b-eq10 : goal.returns-else-b-eq10
+returns-else-b-eq10 c = rw (ne_eqb c.args.b 10 c.if-b-eq10.false) (refl, omega arith)

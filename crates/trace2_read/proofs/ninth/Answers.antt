@@ -1,0 +1,7 @@
+-- `ninth` meets its contract: fewer than 36 bytes have no ninth number.
+use Rattle.trace2_read.proofs.Seconds.{no_ninth}
+use borrow.Author.Rules.{rules}
+use Rattle.trace2_read.proofs.ninth.Goals as goal
+
+pub returns : goal.returns
+returns c = no_ninth c.args.bytes.now c.if-bytes-ge36.false

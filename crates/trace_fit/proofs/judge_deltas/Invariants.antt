@@ -1,0 +1,19 @@
+-- `judge_deltas` meets its contract: what the checks of all numbers say is what those of the numbers left say.
+use mathlib.Core.Path.{◌≡◌, sym, ◌∙◌}
+use Prim.Native.Nat.{suc, ◌+◌, ◌-◌, ◌≤◌}
+use native.Mathlib.Omega.{arith}
+use lib.ListN.{length, drop}
+use lib.IntN.{pos}
+use Rattle.codes.specs.declared.Code.TheVariants.{Delta}
+use Rattle.writer.specs.Write.{first_fault}
+use Rattle.trace.specs.Trace.{wild, number_checks}
+use Rattle.trace.proofs.Checks.{turn_fault, turn_pass, turn_end}
+use borrow.Author.Rules.{rules}
+use Rattle.trace_fit.proofs.judge_deltas.Given as goal
+
+abbrev pub invariant-loop-i : goal.invariant-loop-i
+invariant-loop-i l =
+    (l.i ≤ length l.deltas) × (first_fault (number_checks wild Delta l.from l.deltas) ≡ first_fault (number_checks wild Delta (l.from + l.i) (drop l.i l.deltas)))
+
+abbrev pub decreases-loop-i : goal.decreases-loop-i
+decreases-loop-i l = length l.deltas - l.i

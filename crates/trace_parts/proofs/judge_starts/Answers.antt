@@ -1,0 +1,33 @@
+use mathlib.Core.Path.{◌≡◌, sym, ◌∙◌}
+use Prim.Native.Nat.{◌+◌, ◌-◌, ◌≤◌}
+use native.Mathlib.Omega.{arith}
+use lib.ListN.{drop}
+use Rattle.codes.specs.declared.Code.TheVariants.{Coord}
+use Rattle.writer.specs.Write.{first_fault}
+use Rattle.little.specs.Little.{numbers_in}
+use Rattle.trace.specs.Trace.{part, number_checks}
+use Rattle.trace.specs.Read.{misplaced}
+use Rattle.trace_parts.proofs.Parts.{number_fault, number_pass, number_end}
+use borrow.Author.Rules.{rules}
+use Rattle.trace_parts.proofs.judge_starts.Goals as goal
+
+pub loop-i-init : goal.loop-i-init
+loop-i-init c = let z : c.args.from + 0 ≡ c.args.from = omega arith in (omega arith, rw z)
+
+pub returns-then-no_start : goal.returns-then-no_start
+returns-then-no_start c =
+    let a = c.args in
+    let v = c.loop-i in
+    sym (v.invariant.1 ∙ number_fault misplaced Coord a.bytes.now a.from a.n v.i (omega arith) _ _ (omega arith) c.number_at.ensures c.no_start.ensures c.if-no_start.true)
+
+pub loop-i-preserved : goal.loop-i-preserved
+loop-i-preserved c =
+    let a = c.args in
+    let v = c.loop-i in
+    (omega arith, v.invariant.1 ∙ number_pass misplaced Coord a.bytes.now a.from a.n v.i (omega arith) _ _ (omega arith) c.number_at.ensures c.no_start.ensures c.if-no_start.false)
+
+pub returns : goal.returns
+returns c =
+    let a = c.args in
+    let v = c.loop-i in
+    sym (v.invariant.1 ∙ number_end misplaced Coord a.bytes.now a.from a.n v.i (omega arith) (omega arith))

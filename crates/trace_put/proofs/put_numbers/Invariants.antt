@@ -1,0 +1,18 @@
+-- `put_numbers` meets its contract: the numbers from `i` on are left to put.
+use mathlib.Core.Path.{◌≡◌, refl, sym, ap, ◌∙◌}
+use mathlib.Core.List.{map}
+use Prim.Native.Nat.{◌+◌, ◌-◌, ◌*◌, ◌≤◌}
+use native.Mathlib.Omega.{arith}
+use lib.ListN.{length, drop, length-map}
+use lib.Seq.{sets}
+use borrow.Author.Rules.{rules}
+use Rattle.little.specs.Little.{bytes_of}
+use Rattle.trace_put.proofs.Puts.{put_more, put_end}
+use Rattle.trace_put.proofs.put_numbers.Given as goal
+
+abbrev pub invariant-loop-i : goal.invariant-loop-i
+invariant-loop-i l =
+    (l.i ≤ length l.numbers) × (length l.bytes ≡ length l.initial.bytes) × (sets l.bytes (4 * (l.from + l.i)) (bytes_of (drop l.i (l.numbers))) ≡ sets l.initial.bytes (4 * l.from) (bytes_of (l.numbers)))
+
+abbrev pub decreases-loop-i : goal.decreases-loop-i
+decreases-loop-i l = length l.numbers - l.i

@@ -1,0 +1,22 @@
+-- `put_signed` meets its contract: the numbers from `i` on are left to put.
+use mathlib.Core.Path.{◌≡◌, refl, sym, ap, ◌∙◌}
+use mathlib.Core.List.{map}
+use Prim.Native.Nat.{◌+◌, ◌-◌, ◌*◌, ◌≤◌}
+use native.Mathlib.Omega.{arith}
+use lib.ListN.{length, drop, length-map}
+use lib.Seq.{sets}
+use borrow.Author.Rules.{rules}
+use lib.IntN.{pos}
+use lib.ListN.{get_or}
+use mir.Syntax.{w32}
+use mir.Facts.{to_z-of_z}
+use Rattle.little.specs.Little.{bytes_of, unsigned_of}
+use Rattle.trace_put.proofs.Puts.{put_more, put_end, map_at}
+use Rattle.trace_put.proofs.put_signed.Given as goal
+
+abbrev pub invariant-loop-i : goal.invariant-loop-i
+invariant-loop-i l =
+    (l.i ≤ length l.numbers) × (length l.bytes ≡ length l.initial.bytes) × (sets l.bytes (4 * (l.from + l.i)) (bytes_of (drop l.i (map unsigned_of l.numbers))) ≡ sets l.initial.bytes (4 * l.from) (bytes_of (map unsigned_of l.numbers)))
+
+abbrev pub decreases-loop-i : goal.decreases-loop-i
+decreases-loop-i l = length l.numbers - l.i

@@ -1,0 +1,8 @@
+-- `walk::distance`: the root's promise is the definition.
+use borrow.Author.Rules.{rules}
+use Rattle.walk.specs.Walk.{distance_of}
+use Rattle.walk.proofs.distance.Goals as goal
+
+pub returns : goal.returns
+unfolding distance_of
+returns c = c.root.ensures

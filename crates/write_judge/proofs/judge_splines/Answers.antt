@@ -1,0 +1,56 @@
+use Rattle.std.proofs.Common.{◌≡◌, ◌+◌, ◌-◌, ◌*◌, ◌≤◌, length, get_or, drop, sym, refl, ◌∙◌, arith, rules}
+use Rattle.shape.specs.Shape.{points_of}
+use Rattle.write_judge.specs.Judge.{first_fault, spline_checks}
+use Rattle.shape.proofs.Shape.{sum_turn}
+use Rattle.write_judge.proofs.Checks.{length_part, spline_over, spline_wild, spline_pass, splines_end}
+use Rattle.write_judge.proofs.judge_splines.Goals as goal
+
+pub loop-i-init : goal.loop-i-init
+loop-i-init c =
+    let z : c.args.limit - c.args.limit ≡ 0 = omega arith in
+    (omega arith, omega arith, omega arith, omega arith, rw z)
+
+pub returns-then-left-n : goal.returns-then-left-n
+returns-then-left-n c =
+    let a = c.args in
+    let v = c.loop-i in
+    sym (v.invariant.4 ∙ spline_over a.counts.now a.deltas.now a.limit v.left v.place v.from v.i (omega arith) v.invariant.1 c.if-left-n.true)
+
+pub slice_bounds-judge_deltas-end : goal.slice_bounds-judge_deltas-end
+slice_bounds-judge_deltas-end c =
+    omega (arith, sum_turn c.args.counts.now c.loop-i.i (omega arith))
+
+pub judge_deltas-requires : goal.judge_deltas-requires
+judge_deltas-requires c =
+    let a = c.args in
+    let v = c.loop-i in
+    let n = get_or a.counts.now v.i 0 in
+    let e = sum_turn a.counts.now v.i (omega arith) in
+    let l = length_part a.deltas.now v.from (2 * n) (omega arith) in
+    omega (arith, l)
+
+pub returns-in-Fault : goal.returns-in-Fault
+returns-in-Fault c =
+    let a = c.args in
+    let v = c.loop-i in
+    sym (v.invariant.4 ∙ spline_wild a.counts.now a.deltas.now a.limit v.left v.place v.from v.i (omega arith) v.invariant.1
+    c.if-left-n.false _ refl _ _ (sym c.judge_deltas.ensures ∙ c.in-Fault.is))
+
+pub loop-i-preserved : goal.loop-i-preserved
+loop-i-preserved c =
+    let a = c.args in
+    let v = c.loop-i in
+    let e = sum_turn a.counts.now v.i (omega arith) in (
+      omega arith,
+      omega arith,
+      omega arith,
+      omega arith,
+      v.invariant.4 ∙ spline_pass a.counts.now a.deltas.now a.limit v.left v.place v.from v.i (omega arith) v.invariant.1
+          c.if-left-n.false _ refl (sym c.judge_deltas.ensures ∙ c.in-Fine.is),
+    )
+
+pub returns : goal.returns
+returns c =
+    let a = c.args in
+    let v = c.loop-i in
+    sym (v.invariant.4 ∙ splines_end a.limit (a.limit - v.left) v.place a.counts.now (drop v.from a.deltas.now) v.i (omega arith))

@@ -1,0 +1,13 @@
+-- `write_steps::put_later_starts` meets its contract: the starts from `i` on are left to store, and they are fit.
+use Prim.Native.Nat.{◌-◌}
+use native.Mathlib.Omega.{arith}
+use borrow.Author.Rules.{rules}
+use lib.ListN.{length, length-set}
+use Rattle.write_steps.proofs.Stores.{Later, later_begin, later_now, later_more, later_end}
+use Rattle.write_steps.proofs.put_later_starts.Given as goal
+
+abbrev pub invariant-loop-i : goal.invariant-loop-i
+invariant-loop-i l = Later l.starts l.initial.list l.list l.i
+
+abbrev pub decreases-loop-i : goal.decreases-loop-i
+decreases-loop-i l = length l.starts - l.i

@@ -1,0 +1,22 @@
+-- `write_steps::put_numbers` meets its contract: the numbers from `i` on are left to store.
+use mathlib.Core.Path.{◌≡◌, refl, sym, ap, ◌∙◌}
+use mathlib.Core.List.{map}
+use Prim.Native.Nat.{◌+◌, ◌-◌, ◌≤◌}
+use native.Mathlib.Omega.{arith}
+use borrow.Author.Rules.{rules}
+use lib.ListN.{length, drop, get_or, length-set}
+use lib.Seq.{sets}
+use lib.IntN.{pos}
+use mir.Syntax.{w32}
+use mir.Facts.{to_z-of_z}
+use Rattle.list.specs.List.{pack_signed}
+use Rattle.write_steps.proofs.Stores.{numbers_turn, numbers_end}
+use Rattle.write_steps.proofs.put_numbers.Given as goal
+
+abbrev pub invariant-loop-i : goal.invariant-loop-i
+invariant-loop-i l =
+    (l.i ≤ length l.numbers) × (length l.list ≡ length l.initial.list)
+    × (sets l.list (l.at + l.i) (map pack_signed (drop l.i l.numbers)) ≡ sets l.initial.list l.at (map pack_signed l.numbers))
+
+abbrev pub decreases-loop-i : goal.decreases-loop-i
+decreases-loop-i l = length l.numbers - l.i
