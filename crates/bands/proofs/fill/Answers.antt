@@ -10,28 +10,6 @@ use Rattle.bands.specs.Bands.{bands_in, rows_good_from, band_numbers, put_bands}
 use Rattle.bands.proofs.Whole.{good_on, goods_on, goods_off, goods_begin, goods_end, put_none, put_next, put_length, cells_fit, not_so}
 use Rattle.bands.proofs.fill.Goals as goal
 
-pub fill_spec : {M : Type 1} → statement M
-fill_spec =
-    tie.close
-    (tie.spec
-    invariant-loop
-    decreases-loop
-    bands-in-requires
-    loop-holds
-    sum-band-requires
-    enum-known-sum
-    enum_told
-    same_length
-    returns
-    cast-put
-    mul-put
-    put-requires
-    add-b
-    loop-less
-    loop-again
-    same-length-2
-    returns-2)
-
 pub bands_in-bands-requires : goal.bands_in-bands-requires
 bands_in-bands-requires c = c.requires.0.counts.table.low
 

@@ -8,24 +8,6 @@ use Rattle.checks.specs.Tables.{table_of}
 use Rattle.bands.proofs.Whole.{zeros_room, zeros_again, before_fits, before_same, make_fault, make_bad, make_done}
 use Rattle.bands.proofs.make.Goals as goal
 
-pub make_spec : {M : Type 1} → statement M
-make_spec =
-    tie.close
-    (tie.spec
-    clear-u32-requires
-    judge-requires
-    enum-known-code
-    enum_told
-    fill-requires
-    bands-in-requires
-    same_length
-    returns
-    clear-u32-requires-2
-    same-length-2
-    returns-2
-    same-length-3
-    returns-3)
-
 pub fill-requires : goal.fill-requires
 fill-requires c =
     let A = c.args in

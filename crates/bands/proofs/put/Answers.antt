@@ -16,27 +16,6 @@ add-three n = omega arith
 add-four : (n : ℕ) → n + 4 ≡ suc (suc (suc (suc n)))
 add-four n = omega arith
 
-pub put_spec : {M : Type 1} → statement M
-put_spec =
-    tie.close
-    (tie.spec
-    mul-cells
-    slice-write-cells
-    add-cells
-    mul-cells-2
-    slice-write-cells-2
-    add-cells-2
-    mul-cells-3
-    slice-write-cells-3
-    add-cells-3
-    mul-cells-4
-    slice-write-cells-4
-    add-cells-4
-    mul-cells-5
-    slice-write-cells-5
-    same_length
-    returns)
-
 pub bounds-cells-k-2 : goal.bounds-cells-k-2
 bounds-cells-k-2 c = simp length-set (omega arith)
 

@@ -7,20 +7,6 @@ use Rattle.shade.proofs.Edits.{length_edit}
 use Rattle.blocks.proofs.Blocks.{four_passes}
 use Rattle.blocks.proofs.block.Goals as goal
 
-pub block_spec : {M : Type 1} → statement M
-block_spec =
-    tie.close
-    (tie.spec
-    fours-requires
-    squares-requires
-    roots-requires
-    intensities-requires
-    add-requires
-    same_length
-    same-length-2
-    same-length-3
-    returns)
-
 pub squares-requires : goal.squares-requires
 squares-requires c = (omega arith, refl, omega arith)
 

@@ -4,32 +4,6 @@ use borrow.Author.Rules.{rules}
 use Rattle.cuts.proofs.Cuts.{added_part}
 use Rattle.cuts.proofs.add_in.Goals as goal
 
-pub add_in_spec : {M : Type 1} → statement M
-add_in_spec =
-    tie.close
-    (tie.spec
-    sub-a
-    cast-a
-    sub-e
-    cast-e
-    mul-add
-    sub-add
-    part-add-start
-    part-add-end
-    mul-add-2
-    sub-add-2
-    part-add-start-2
-    part-add-end-2
-    mul-add-3
-    sub-add-3
-    part-add-start-3
-    part-add-end-3
-    add-requires
-    same_length
-    same-length-2
-    same-length-3
-    returns)
-
 pub returns : goal.returns
 returns c =
     let A = c.args in

@@ -6,9 +6,6 @@ use Rattle.polyline.specs.Write.{digits_of}
 use Rattle.polyline.proofs.Digits.{length_small, length_large, length_most}
 use Rattle.decimal.proofs.width.Goals as goal
 
-pub width_spec : {M : Type 1} → statement M
-width_spec = tie.close (tie.spec invariant-loop decreases-loop loop-holds add-w loop-less loop-again returns)
-
 pub loop-left-init : goal.loop-left-init
 loop-left-init c = (omega arith, omega arith, omega arith)
 

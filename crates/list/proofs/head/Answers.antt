@@ -3,9 +3,6 @@ use native.Mathlib.Omega.{arith}
 use Rattle.list.proofs.Buffers.{next_value, next_end}
 use Rattle.list.proofs.head.Goals as goal
 
-pub head_spec : {M : Type 1} → statement M
-head_spec = tie.close (tie.spec read returns returns-2)
-
 pub returns-then-list-gt0 : goal.returns-then-list-gt0
 returns-then-list-gt0 c = next_value c.args.list.now c.if-list-gt0.true
 

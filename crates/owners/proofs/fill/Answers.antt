@@ -6,21 +6,6 @@ use lib.Seq.{sets}
 use Rattle.owners.proofs.Runs.{run_none, run_more}
 use Rattle.owners.proofs.fill.Goals as goal
 
-pub fill_spec : {M : Type 1} → statement M
-fill_spec =
-    tie.close
-    (tie.spec
-    invariant-loop
-    decreases-loop
-    loop-holds
-    mul-owners
-    slice-write-owners
-    add-i
-    loop-less
-    loop-again
-    same_length
-    returns)
-
 pub loop-i-init : goal.loop-i-init
 loop-i-init c = (omega arith, omega arith, omega arith, omega arith, run_none c.args.k c.args.owners.now c.args.from)
 

@@ -2,9 +2,6 @@
 use Rattle.polyline_pairs.proofs.Numbers.{same_yes, same_no}
 use Rattle.polyline_pairs.proofs.same.Goals as goal
 
-pub same_spec : {M : Type 1} → statement M
-same_spec = tie.close (tie.spec returns returns-2)
-
 pub returns-then-p-q : goal.returns-then-p-q
 returns-then-p-q c = same_yes c.args.p c.args.q c.requires.0 c.requires.1 c.if-p-q.true
 

@@ -4,8 +4,5 @@ use lib.Seq.{set_out}
 use borrow.Author.Rules.{rules}
 use Rattle.polyline_scan.proofs.put.Goals as goal
 
-pub put_spec : {M : Type 1} → statement M
-put_spec = tie.close (tie.spec mul-v slice-set-from-v same_length returns returns-2)
-
 pub returns-else-i-deltas : goal.returns-else-i-deltas
 returns-else-i-deltas c = sym (set_out c.args.deltas.now c.args.i c.args.v c.if-i-deltas.false)

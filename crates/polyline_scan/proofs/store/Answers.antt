@@ -8,21 +8,6 @@ use Rattle.polyline_scan.proofs.Turns.{store_none, store_two}
 use borrow.Author.Rules.{rules}
 use Rattle.polyline_scan.proofs.store.Goals as goal
 
-pub store_spec : {M : Type 1} → statement M
-store_spec =
-    tie.close
-    (tie.spec
-    enum_told
-    enum-known-track
-    double-delta-requires
-    put-requires
-    add-put
-    put-requires-2
-    add-result
-    returns
-    same_length
-    returns-2)
-
 pub double_delta-d-requires : goal.double_delta-d-requires
 double_delta-d-requires c = let t = rw c.in-At.is at c.requires.0 in let q = c.requires.1 in (small_near _ q, valid_near _ t.held.1, minus_near _ _ q (valid_small _ t.held.1), valid_near _ t.held.0)
 

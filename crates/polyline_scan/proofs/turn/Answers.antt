@@ -3,9 +3,6 @@ use Rattle.polyline_scan.proofs.Turns.{turn_space, turn_inside}
 use borrow.Author.Rules.{rules}
 use Rattle.polyline_scan.proofs.turn.Goals as goal
 
-pub turn_spec : {M : Type 1} → statement M
-turn_spec = tie.close (tie.spec end-pair-requires same_length returns grown-requires returns-2)
-
 pub returns-then-b-eq32 : goal.returns-then-b-eq32
 returns-then-b-eq32 c = turn_space c.args.run c.args.b c.args.after _ c.args.deltas.now _ c.if-b-eq32.true c.end_pair.ensures
 

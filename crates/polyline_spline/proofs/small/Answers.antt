@@ -8,10 +8,6 @@ use Rattle.control_points.specs.ControlPoints.{below_delta_limit, valid_double_d
 use borrow.Author.Rules.{rules}
 use Rattle.polyline_spline.proofs.small.Goals as goal
 
-pub small_spec : {M : Type 1} → statement M
-small_spec =
-    tie.close (tie.spec below-delta-limit-requires below-delta-limit-requires-2 returns returns-2)
-
 pub returns-then-below_delta_limit : goal.returns-then-below_delta_limit
 unfolding valid_double_delta
 returns-then-below_delta_limit c =

@@ -2,9 +2,6 @@
 use borrow.Author.Tests.{le-leb, lt-leb}
 use Rattle.profile_rules.proofs.counted.Goals as goal
 
-pub counted_spec : {M : Type 1} → statement M
-counted_spec = tie.close (tie.spec returns returns-2)
-
 pub returns-then-n-ge1 : goal.returns-then-n-ge1
 returns-then-n-ge1 c = rw (le-leb 1 c.args.n c.if-n-ge1.true)
 

@@ -6,27 +6,6 @@ use mir.Facts.{to_z-of_z}
 use Rattle.reader.proofs.Whole.{read_done, read_refused}
 use Rattle.reader.proofs.read.Goals as goal
 
-pub read_spec : {M : Type 1} → statement M
-read_spec =
-    tie.close
-    (tie.spec
-    limit-requires
-    wipe-requires
-    read-list-requires
-    enum-known-s
-    enum-known-c
-    wipe-requires-2
-    same_length
-    same-length-2
-    same-length-3
-    same-length-4
-    returns
-    same-length-5
-    same-length-6
-    same-length-7
-    same-length-8
-    returns-2)
-
 pub returns-in-Done : goal.returns-in-Done
 returns-in-Done c =
     let a = c.args in

@@ -8,35 +8,6 @@ use Rattle.shade.specs.Shade.{shaded_by_intensity}
 use Rattle.shade.proofs.Edits.{edit_none, edit_all, stored}
 use Rattle.shade.proofs.add.Goals as goal
 
-pub add_spec : {M : Type 1} → statement M
-add_spec =
-    tie.close
-    (tie.spec
-    invariant-loop
-    decreases-loop
-    loop-holds
-    mul-local
-    element-copy-out-local
-    mul-r0
-    slice-read-r0
-    mul-r0-2
-    slice-write-r0
-    mul-r1
-    slice-read-r1
-    mul-r1-2
-    slice-write-r1
-    mul-r2
-    slice-read-r2
-    mul-r2-2
-    slice-write-r2
-    add-k
-    loop-less
-    loop-again
-    same_length
-    same-length-2
-    same-length-3
-    returns)
-
 pub loop-k-init : goal.loop-k-init
 loop-k-init c = (zero-le, c.requires.0, refl, c.requires.1, c.requires.2, edit_none _ _, edit_none _ _, edit_none _ _)
 

@@ -5,9 +5,6 @@ use borrow.Author.Rules.{rules}
 use Rattle.text.proofs.Sameness.{SameLeft, same_short, same_differ, same_more, same_end}
 use Rattle.text.proofs.same.Goals as goal
 
-pub same_spec : {M : Type 1} → statement M
-same_spec = tie.close (tie.spec invariant-loop decreases-loop loop-holds returns read_a read-b returns-2 add-i loop-less loop-again returns-3)
-
 pub loop-i-init : goal.loop-i-init
 loop-i-init c = (search rules, record { rest = refl })
 

@@ -5,25 +5,6 @@ use Rattle.text.proofs.Reading.{turn_full, turn_ends, turn_on, turn_stranger, tu
 use borrow.Author.Rules.{rules}
 use Rattle.text.proofs.turn.Goals as goal
 
-pub turn_spec : {M : Type 1} → statement M
-turn_spec =
-    tie.close
-    (tie.spec
-    step-on-requires
-    enum-known-on
-    enum-known-n
-    returns
-    mul-values
-    slice-write-values
-    add-t10
-    enum_told
-    enum-told-2
-    returns-2
-    same_length
-    returns-3
-    returns-4
-    returns-5)
-
 pub returns-then-held-values : goal.returns-then-held-values
 returns-then-held-values c = turn_full (sym c.step_on.ensures ∙ c.in-Ends.is) (omega arith)
 

@@ -7,9 +7,6 @@ use Rattle.numbers.proofs.Units.{put, castable}
 use Rattle.to_f32.proofs.Narrowing.{kept_le}
 use Rattle.to_f32.proofs.put.Goals as goal
 
-pub put_spec : {M : Type 1} → statement M
-put_spec = tie.close (tie.spec shifted-requires int-to-float-result scale-requires returns)
-
 pub int_to_float-result : goal.int_to_float-result
 int_to_float-result c = castable binary32 c.shifted-q.result ((let h_few : c.shifted-q.result ≤ 16777216 = subst (λ (z : ℕ). z ≤ 16777216) (sym c.shifted-q.ensures) (kept_le c.args.m c.args.k c.requires.0 c.requires.1.0) in h_few))
 

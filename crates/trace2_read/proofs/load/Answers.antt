@@ -8,23 +8,6 @@ use Rattle.trace_load.proofs.Loads.{all_loaded}
 use borrow.Author.Rules.{rules}
 use Rattle.trace2_read.proofs.load.Goals as goal
 
-pub load_spec : {M : Type 1} → statement M
-load_spec =
-    tie.close
-    (tie.spec
-    number-at-requires
-    number-at-requires-2
-    number-at-requires-3
-    signed-requires
-    cast-load-parts
-    cast-load-parts-2
-    load-parts-requires
-    same_length
-    same-length-2
-    same-length-3
-    same-length-4
-    returns)
-
 pub load_parts-requires : goal.load_parts-requires
 load_parts-requires c =
     rw (c.number_at-s.ensures, c.number_at-p.ensures) c.requires

@@ -12,8 +12,5 @@ floats : (xs : List Float) → ((i : ℕ) → T (fits binary32 (get_or xs i nan)
 floats [] f = tt
 floats (x ∷ xs) f = (f 0, floats xs (λ i. f (suc i)))
 
-pub lend_spec : {M : Type 1} → statement M
-lend_spec = tie.close (tie.spec nothing-requires returns)
-
 pub returns : goal.returns
 returns c = floats c.args.numbers.now (λ i. c.type_inv.numbers i)

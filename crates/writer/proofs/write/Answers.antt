@@ -8,26 +8,6 @@ use mir.Facts.{to_z-of_z}
 use Rattle.writer.proofs.Answers.{writable, size_fits, answer_fault, answer_room, answer_done}
 use Rattle.writer.proofs.write.Goals as goal
 
-pub write_spec : {M : Type 1} → statement M
-write_spec =
-    tie.close
-    (tie.spec
-    clear-u32-requires
-    limit-requires
-    judge-requires
-    enum-known-c
-    enum_told
-    mul-values
-    add_values
-    add-values-2
-    same_length
-    returns
-    put-list-requires
-    same-length-2
-    returns-2
-    same-length-3
-    returns-3)
-
 pub overflow_mul-values : goal.overflow_mul-values
 overflow_mul-values c =
     let a = c.args in

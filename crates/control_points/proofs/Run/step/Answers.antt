@@ -29,25 +29,6 @@ flag c =
     rw (p, e.before.manhattan.ensures)
     (same_next s.args.self.point e.before.before.before.before.plus.result s.requires.point (rw p at (point-inside c)))
 
-pub step_spec : {M : Type 1} → statement M
-step_spec =
-    tie.close
-    (tie.spec
-    valid-double-delta-requires
-    returns
-    plus-requires
-    valid-point-pos-requires
-    returns-2
-    manhattan-requires
-    sub-if3
-    returns-3
-    plus-requires-2
-    valid-point-pos-requires-2
-    returns-4
-    add-manhattan
-    returns-5
-    returns-6)
-
 pub returns-then-not-valid_double_delta : goal.returns-then-not-valid_double_delta
 unfolding step_of
 returns-then-not-valid_double_delta c = rw (sym c.valid_double_delta.ensures ∙ not-true _ c.if-not-valid_double_delta.true)

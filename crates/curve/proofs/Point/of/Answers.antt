@@ -25,9 +25,6 @@ castable (negsuc n) h = lt→ltb n 16777216 (omega arith)
 exact : (z : ℤ) → in_range z ≡ true → T (in_float binary32 (to_z w32 (of_z w32 z)))
 exact z h = rw (as-it-stands z h) (castable z (in_range_mag z h))
 
-pub of_spec : {M : Type 1} → statement M
-of_spec = tie.close (tie.spec int-to-float-t2 int-to-float-t3 returns)
-
 pub int_to_float-result : goal.int_to_float-result
 int_to_float-result c = exact c.args.p.x (point_range c.args.p c.requires).0
 

@@ -3,10 +3,6 @@ use borrow.Author.Rules.{rules}
 use Rattle.curve.specs.Turns.{first_turn}
 use Rattle.curve.proofs.Turn.first.Goals as goal
 
-pub first_spec : {M : Type 1} → statement M
-first_spec =
-    tie.close (tie.spec of-requires of-requires-2 reflected-requires root-length-requires returns)
-
 pub returns : goal.returns
 unfolding first_turn
 returns c = rw (c.root_length-d.ensures, c.reflected.ensures, c.of2.ensures, c.of.ensures)

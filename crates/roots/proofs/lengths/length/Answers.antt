@@ -8,9 +8,6 @@ use mir.Facts.{to_z-of_z}
 use Rattle.roots.specs.Length.{length_of}
 use Rattle.roots.proofs.lengths.length.Goals as goal
 
-pub length_spec : {M : Type 1} → statement M
-length_spec = tie.close (tie.spec square-requires square-requires-2 add-root-of-whole root-of-whole-requires returns)
-
 pub returns : goal.returns
 unfolding length_of
 returns c =

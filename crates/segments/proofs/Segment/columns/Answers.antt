@@ -3,9 +3,6 @@ use borrow.Author.Rules.{rules}
 use Rattle.segments.specs.Ranges.{columns_of}
 use Rattle.segments.proofs.Segment.columns.Goals as goal
 
-pub columns_spec : {M : Type 1} → statement M
-columns_spec = tie.close (tie.spec column-first-requires column-past-requires returns)
-
 pub returns : goal.returns
 unfolding columns_of
 returns c = rw (c.column_past-past.ensures, c.column_first-first.ensures)

@@ -11,36 +11,6 @@ sucs : (n : ℕ) → (n + 2 ≡ suc (suc n)) × (n + 3 ≡ suc (suc (suc n))) ×
     × (n + 6 ≡ suc (suc (suc (suc (suc (suc n)))))) × (n + 7 ≡ suc (suc (suc (suc (suc (suc (suc n)))))))
 sucs n = (omega arith, omega arith, omega arith, omega arith, omega arith, omega arith)
 
-pub put_spec : {M : Type 1} → statement M
-put_spec =
-    tie.close
-    (tie.spec
-    mul-out
-    slice-write-out
-    add-out
-    mul-out-2
-    slice-write-out-2
-    add-out-2
-    mul-out-3
-    slice-write-out-3
-    add-out-3
-    mul-out-4
-    slice-write-out-4
-    add-out-4
-    mul-out-5
-    slice-write-out-5
-    add-out-5
-    mul-out-6
-    slice-write-out-6
-    add-out-6
-    mul-out-7
-    slice-write-out-7
-    add-out-7
-    mul-out-8
-    slice-write-out-8
-    same_length
-    returns)
-
 pub bounds-out-k-2 : goal.bounds-out-k-2
 bounds-out-k-2 c = simp length-set (omega arith)
 

@@ -1,0 +1,36 @@
+use borrow.Author.Rules.{rules}
+use mathlib.Core.Logic.{⊎_elim}
+use mathlib.Core.Path.{◌≡◌}
+use Prim.Native.Nat.{◌≤◌, ◌-◌, ◌+◌}
+use native.Mathlib.Omega.{arith}
+use lib.ListN.{length, get_or}
+use Rattle.frame.specs.Frame.{end_from, held_from, held_of}
+use Rattle.frame.proofs.Laws.{case_within, end_more, held_found, held_passed, held_done, whole_within}
+use Rattle.frame.proofs.held.Goals as goal
+
+pub bounds-words-2 : goal.bounds-words-2
+bounds-words-2 c = omega (arith, whole_within _ c.requires)
+
+pub loop-left-init : goal.loop-left-init
+loop-left-init c = ((whole_within _ c.requires).ends, search rules, search rules)
+
+pub offset_bounds-words-at : goal.offset_bounds-words-at
+offset_bounds-words-at c = omega (arith, case_within _ _ _ (omega arith) c.loop-left.invariant.0)
+
+pub bounds-words-at : goal.bounds-words-at
+bounds-words-at c = omega (arith, case_within _ _ _ (omega arith) c.loop-left.invariant.0)
+
+pub overflow_add-found : goal.overflow_add-found
+overflow_add-found c = omega (arith, c.type_inv.words 2)
+
+pub size_of_case-at-requires : goal.size_of_case-at-requires
+size_of_case-at-requires c = omega (arith, case_within _ _ _ (omega arith) c.loop-left.invariant.0)
+
+pub overflow_add-at : goal.overflow_add-at
+overflow_add-at c = omega (arith, case_within _ _ _ (omega arith) c.loop-left.invariant.0)
+
+pub loop-left-preserved : goal.loop-left-preserved
+loop-left-preserved c = (end_more _ _ _ (omega arith) c.size_of_case-at.ensures c.loop-left.invariant.0, ⊎_elim (λ w. omega (arith, held_found c.args.words.now c.args.kind c.loop-left.left c.loop-left.at c.loop-left.found (omega arith) c.size_of_case-at.ensures c.loop-left.invariant.1 w.0.taken)) (λ w. omega (arith, held_passed c.args.words.now c.args.kind c.loop-left.left c.loop-left.at c.loop-left.found (omega arith) c.size_of_case-at.ensures c.loop-left.invariant.1 w.0.left)) c.if-words-at.branch, ⊎_elim (λ w. omega arith) (λ w. omega arith) c.if-words-at.branch)
+
+pub returns : goal.returns
+returns c = held_done _ _ _ _ _ (omega arith) c.loop-left.invariant.1
