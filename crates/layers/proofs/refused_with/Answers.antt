@@ -1,0 +1,6 @@
+-- `refused_with` meets its contract: the number of the code.
+use borrow.Author.Rules.{rules}
+use Rattle.layers.proofs.refused_with.Goals as goal
+
+pub returns : goal.returns
+returns c = rw c.number_of.ensures

@@ -1,0 +1,13 @@
+-- The first i values are their words.
+use Prim.Native.Nat.{ℕ, ◌-◌}
+use native.Mathlib.Omega.{arith}
+use lib.ListN.{length, get_or}
+use borrow.Author.Rules.{rules}
+use Rattle.stored.proofs.Begun.{no_true, Begun, begun_none, begun_more, begun_long}
+use Rattle.stored.proofs.begin_u32.Given as goal
+
+abbrev pub invariant-loop-i : goal.invariant-loop-i
+invariant-loop-i l = Begun 0 (λ (k : ℕ). get_or l.words k 0) l.values l.words l.i
+
+abbrev pub decreases-loop-i : goal.decreases-loop-i
+decreases-loop-i l = length l.words - l.i
