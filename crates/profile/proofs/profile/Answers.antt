@@ -18,10 +18,10 @@ rules_finding-requires c = let s = shaped_is _ _ _ _ (sym c.shape_good.ensures �
 
 pub returns-in-Unknown : goal.returns-in-Unknown
 unfolding profile_of answer_of
-returns-in-Unknown c = rw (sym c.shape_good.ensures ∙ not-false _ c.if-not-shape_good.false, sym c.Limits-of.ensures ∙ c.in-Unknown.is)
+returns-in-Unknown c = rw (sym c.shape_good.ensures ∙ not-false _ c.if-not-shape_good.false, sym c.limits_of.ensures ∙ c.in-Unknown.is)
 
 pub returns-in-Known : goal.returns-in-Known
 unfolding profile_of answer_of
 returns-in-Known c =
     let v = to_z-of_z {w = w32} {z = c.args.adjustment} c.ranges.adjustment in
-    rw (c.answered.ensures, c.rules_finding.ensures, v, sym c.shape_good.ensures ∙ not-false _ c.if-not-shape_good.false, sym c.Limits-of.ensures ∙ c.in-Known.is)
+    rw (c.answered.ensures, c.rules_finding.ensures, v, sym c.shape_good.ensures ∙ not-false _ c.if-not-shape_good.false, sym c.limits_of.ensures ∙ c.in-Known.is)

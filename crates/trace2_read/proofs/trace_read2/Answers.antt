@@ -6,14 +6,14 @@ use borrow.Author.Rules.{rules}
 use Rattle.trace2_read.proofs.trace_read2.Goals as goal
 
 pub read_second-answer-requires : goal.read_second-answer-requires
-read_second-answer-requires c = second_is c.args.bytes.now (sym c.Says-second.ensures ∙ c.if-says_second.true)
+read_second-answer-requires c = second_is c.args.bytes.now (sym c.says_second.ensures ∙ c.if-says_second.true)
 
 pub returns-then-says_second : goal.returns-then-says_second
 returns-then-says_second c =
     let w = c.with_edition.ensures in
-    second_told _ _ c.with_edition.result _ _ _ _ _ _ w.0 w.1 (sym c.Says-second.ensures ∙ c.if-says_second.true) c.ninth-edition.ensures c.read_second-answer.ensures
+    second_told _ _ c.with_edition.result _ _ _ _ _ _ w.0 w.1 (sym c.says_second.ensures ∙ c.if-says_second.true) c.ninth-edition.ensures c.read_second-answer.ensures
 
 pub returns-else-says_second : goal.returns-else-says_second
 returns-else-says_second c =
     let w = c.with_edition-else-says_second.ensures in
-    other_told _ _ c.with_edition-else-says_second.result _ _ _ _ _ _ w.0 w.1 (sym c.Says-second.ensures ∙ c.if-says_second.false) (omega arith) c.trace_read-answer.ensures
+    other_told _ _ c.with_edition-else-says_second.result _ _ _ _ _ _ w.0 w.1 (sym c.says_second.ensures ∙ c.if-says_second.false) (omega arith) c.trace_read-answer.ensures
