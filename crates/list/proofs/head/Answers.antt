@@ -1,5 +1,4 @@
 -- `list::head` meets its contract: the test tells an empty list from one with a first value.
-use native.Mathlib.Omega.{arith}
 use Rattle.list.proofs.Buffers.{next_value, next_end}
 use Rattle.list.proofs.head.Goals as goal
 
