@@ -4,7 +4,6 @@ use Rattle.std.specs.Prelude.{Bool, true, false, cond, List, ℕ, zero, suc, ◌
 use Rattle.std.specs.Int.Signed.{le_z}
 use Rattle.editions.specs.declared.Limits.{Limits}
 use Rattle.profile_rules.specs.declared.Finding.{Finding}
-use Rattle.profile_rules.specs.declared.Finding.TheVariants as Finding
 
 -- ---- findings
 

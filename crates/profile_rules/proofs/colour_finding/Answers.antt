@@ -1,6 +1,5 @@
 -- `colour_finding`: X, then B.
 use Rattle.profile_rules.specs.Rules.{colour_finding}
-use borrow.Author.Rules.{rules}
 use Rattle.profile_rules.proofs.colour_finding.Goals as goal
 
 pub returns : goal.returns

@@ -1,6 +1,4 @@
 -- `deltas_finding`: one test.
-use mathlib.Core.Path.{sym, ◌∙◌}
-use borrow.Author.Rules.{rules}
 use Rattle.profile_rules.specs.Rules.{deltas_finding}
 use Rattle.profile_rules.proofs.deltas_finding.Goals as goal
 

@@ -1,5 +1,4 @@
 -- `first_of`: the first finding decides.
-use borrow.Author.Rules.{rules}
 use Rattle.profile_rules.proofs.first_of.Goals as goal
 
 pub returns-in-Kept : goal.returns-in-Kept

@@ -1,6 +1,5 @@
 -- `spline_finding`: the rules of a spline in their order.
 use Rattle.profile_rules.specs.Rules.{spline_finding}
-use borrow.Author.Rules.{rules}
 use Rattle.profile_rules.proofs.spline_finding.Goals as goal
 
 pub returns : goal.returns

@@ -1,5 +1,4 @@
 -- `within_at`: one number of the slice, which stands for itself.
-use borrow.Author.Rules.{rules}
 use lib.IntN.{pos}
 use lib.ListN.{get_or}
 use mir.Syntax.{w32}

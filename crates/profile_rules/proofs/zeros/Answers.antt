@@ -1,8 +1,6 @@
 use mathlib.Core.Path.{◌≡◌, sym, ap, ◌∙◌}
-use Prim.Native.Nat.{ℕ, suc, ◌+◌, ◌-◌, ◌≤◌}
+use Prim.Native.Nat.{ℕ, suc, ◌+◌, ◌-◌}
 use native.Mathlib.Omega.{arith}
-use borrow.Author.Rules.{rules}
-use borrow.Author.Tests.{not-true, not-false}
 use Rattle.profile_rules.specs.Rules.{zero_from}
 use Rattle.profile_rules.proofs.Rules.{zero_fails, zero_passes, zero_end}
 use Rattle.profile_rules.proofs.zeros.Goals as goal
@@ -18,7 +16,7 @@ pub returns-then-not-within_at : goal.returns-then-not-within_at
 returns-then-not-within_at c =
     let a = c.args in
     let v = c.loop-i in
-    sym (v.invariant.1 ∙ zero_fails a.c.now (a.from + v.i) (a.n - v.i) (omega arith) (sym c.within_at.ensures ∙ not-true _ c.if-not-within_at.true))
+    sym (v.invariant.1 ∙ zero_fails a.c.now (a.from + v.i) (a.n - v.i) (omega arith) (sym c.within_at.ensures ∙ c.if-not-within_at.true))
 
 pub loop-i-preserved : goal.loop-i-preserved
 loop-i-preserved c =
@@ -27,7 +25,7 @@ loop-i-preserved c =
     let p : suc (a.from + v.i) ≡ a.from + (v.i + 1) = omega arith in
     let q : a.n - v.i - 1 ≡ a.n - (v.i + 1) = omega arith in (
       omega arith,
-      v.invariant.1 ∙ zero_passes a.c.now (a.from + v.i) (a.n - v.i) (omega arith) (sym c.within_at.ensures ∙ not-false _ c.if-not-within_at.false)
+      v.invariant.1 ∙ zero_passes a.c.now (a.from + v.i) (a.n - v.i) (omega arith) (sym c.within_at.ensures ∙ c.if-not-within_at.false)
           ∙ ap (λ (m : ℕ). zero_from a.c.now m (a.n - v.i - 1)) p ∙ ap (λ (m : ℕ). zero_from a.c.now (a.from + (v.i + 1)) m) q,
     )
 

@@ -1,11 +1,7 @@
 -- `zeros`: what the test of all says is what the test of those left says.
-use mathlib.Core.Path.{◌≡◌, sym, ap, ◌∙◌}
-use Prim.Native.Nat.{ℕ, suc, ◌+◌, ◌-◌, ◌≤◌}
-use native.Mathlib.Omega.{arith}
-use borrow.Author.Rules.{rules}
-use borrow.Author.Tests.{not-true, not-false}
+use mathlib.Core.Path.{◌≡◌}
+use Prim.Native.Nat.{◌+◌, ◌-◌, ◌≤◌}
 use Rattle.profile_rules.specs.Rules.{zero_from}
-use Rattle.profile_rules.proofs.Rules.{zero_fails, zero_passes, zero_end}
 use Rattle.profile_rules.proofs.zeros.Given as goal
 
 abbrev pub invariant-loop-i : goal.invariant-loop-i
