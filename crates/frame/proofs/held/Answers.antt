@@ -1,5 +1,4 @@
 use borrow.Author.Rules.{rules}
-use mathlib.Core.Logic.{⊎_elim}
 use mathlib.Core.Path.{◌≡◌}
 use Prim.Native.Nat.{◌≤◌, ◌-◌, ◌+◌}
 use native.Mathlib.Omega.{arith}
@@ -7,6 +6,7 @@ use lib.ListN.{length, get_or}
 use Rattle.frame.specs.Frame.{end_from, held_from, held_of}
 use Rattle.frame.proofs.Laws.{case_within, end_more, held_found, held_passed, held_done, whole_within}
 use Rattle.frame.proofs.held.Goals as goal
+use Rattle.frame.proofs.held.Goals.{then-words-at, else-words-at}
 
 pub bounds-words-2 : goal.bounds-words-2
 bounds-words-2 c = omega (arith, whole_within _ c.requires)
@@ -30,7 +30,14 @@ pub overflow_add-at : goal.overflow_add-at
 overflow_add-at c = omega (arith, case_within _ _ _ (omega arith) c.loop-left.invariant.0)
 
 pub loop-left-preserved : goal.loop-left-preserved
-loop-left-preserved c = (end_more _ _ _ (omega arith) c.size_of_case-at.ensures c.loop-left.invariant.0, ⊎_elim (λ w. omega (arith, held_found c.args.words.now c.args.kind c.loop-left.left c.loop-left.at c.loop-left.found (omega arith) c.size_of_case-at.ensures c.loop-left.invariant.1 w.0.taken)) (λ w. omega (arith, held_passed c.args.words.now c.args.kind c.loop-left.left c.loop-left.at c.loop-left.found (omega arith) c.size_of_case-at.ensures c.loop-left.invariant.1 w.0.left)) c.if-words-at.branch, ⊎_elim (λ w. omega arith) (λ w. omega arith) c.if-words-at.branch)
+loop-left-preserved c = (
+  end_more _ _ _ (omega arith) c.size_of_case-at.ensures c.loop-left.invariant.0,
+  elim c.if-words-at.branch [
+    | then-words-at w ↦ omega (arith, held_found c.args.words.now c.args.kind c.loop-left.left c.loop-left.at c.loop-left.found (omega arith) c.size_of_case-at.ensures c.loop-left.invariant.1 w.if-words-at.true)
+    | else-words-at w ↦ omega (arith, held_passed c.args.words.now c.args.kind c.loop-left.left c.loop-left.at c.loop-left.found (omega arith) c.size_of_case-at.ensures c.loop-left.invariant.1 w.if-words-at.false)
+  ],
+  elim c.if-words-at.branch [ then-words-at w ↦ omega arith | else-words-at w ↦ omega arith ],
+)
 
 pub returns : goal.returns
 returns c = held_done _ _ _ _ _ (omega arith) c.loop-left.invariant.1

@@ -12,7 +12,7 @@ pub slice_bounds-checksum-end : goal.slice_bounds-checksum-end
 slice_bounds-checksum-end c = simp length-take (omega arith)
 
 pub returns-then-sum-words : goal.returns-then-sum-words
-returns-then-sum-words c = settled_whole _ _ c.if1.false c.checksum-sum.ensures c.if-sum-words.true
+returns-then-sum-words c = settled_whole _ _ c.if-end-last.false c.checksum-sum.ensures c.if-sum-words.true
 
 pub returns-else-sum-words : goal.returns-else-sum-words
-returns-else-sum-words c = settled_damaged _ _ c.if1.false c.checksum-sum.ensures c.if-sum-words.false
+returns-else-sum-words c = settled_damaged _ _ c.if-end-last.false c.checksum-sum.ensures c.if-sum-words.false
