@@ -1,6 +1,5 @@
 -- By the place of the digits: none kept, some, all, or past the largest value.
 use mathlib.Core.Path.{sym, ◌∙◌}
-use borrow.Author.Rules.{rules}
 use lib.Ieee.{of_bits, div}
 use Rattle.to_f32.proofs.Narrowing.{high, low, none, endless}
 use Rattle.to_f32.proofs.narrow_above.Goals as goal

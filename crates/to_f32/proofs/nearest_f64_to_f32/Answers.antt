@@ -3,7 +3,6 @@ use mathlib.Core.Path.{◌≡◌, refl, sym, ap, ◌∙◌}
 use mathlib.Core.Bool.{true, false, not, ◌&&◌}
 use Prim.Native.Nat.{zero, suc, ◌*◌, zero-le}
 use native.Mathlib.Nat.{zero-lt-suc, mul-one, zero-mul}
-use borrow.Author.Rules.{rules}
 use lib.Dec.{T, eqb, T_not}
 use lib.Ieee.{Float, nan, inf, fin, binary32, binary64, up, down, round, fits, is_nan, of_bits, div, neg, lt, eq}
 use lib.Ieee.Fits.{down_pos, and_l, and_i, round-fits}

@@ -1,6 +1,5 @@
 -- The magnitude's float with the sign of z.
 use mathlib.Core.Path.{◌≡◌, ap, sym, ◌∙◌}
-use borrow.Author.Rules.{rules}
 use lib.IntN.{pos, nat_abs}
 use lib.Ieee.{binary32}
 use mir.Facts.{to_z-of_z}

@@ -1,8 +1,7 @@
 -- Past 2 ^ 24 the leading 24 digits, rounded, times their power of two.
 use mathlib.Core.Path.{sym, subst}
-use Prim.Native.Nat.{ℕ, ◌≤◌, ◌<◌, ◌-◌}
+use Prim.Native.Nat.{ℕ, ◌≤◌}
 use native.Mathlib.Omega.{arith}
-use borrow.Author.Rules.{rules}
 use lib.Count.{count_leading_zeros}
 use lib.Ieee.{binary32}
 use Rattle.numbers.proofs.Near.{Sized, sized, whole_64, few}
@@ -19,10 +18,9 @@ overflow_sub-k c = go (count_leading_zeros 64 c.args.n) ((let h_has : Sized c.ar
     go z h = omega arith
 
 pub shifted-q-requires : goal.shifted-q-requires
-shifted-q-requires c = go (count_leading_zeros 64 c.args.n) ((let h_has : Sized c.args.n (count_leading_zeros 64 c.args.n) = sized c.args.n c.if-n-le16777216.false c.ranges.n.fits in h_has)).some
-  where
-    go : (z : ℕ) → z ≤ 39 → (0 < 40 - z) × (40 - z < 64)
-    go z h = omega arith
+shifted-q-requires c =
+    let h = (sized c.args.n c.if-n-le16777216.false c.ranges.n.fits).some in
+    record { fact_1 = omega (arith, h); fact_2 = omega (arith, h) }
 
 pub int_to_float-result-else-n-le16777216 : goal.int_to_float-result-else-n-le16777216
 int_to_float-result-else-n-le16777216 c = castable binary32 c.shifted-q.result (subst (λ (z : ℕ). z ≤ 16777216) (sym c.shifted-q.ensures) (few c.args.n (count_leading_zeros 64 c.args.n) ((let h_has : Sized c.args.n (count_leading_zeros 64 c.args.n) = sized c.args.n c.if-n-le16777216.false c.ranges.n.fits in h_has))))

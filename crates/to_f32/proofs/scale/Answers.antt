@@ -1,5 +1,4 @@
 -- A power below 2 ^ 23 is a digit of the pattern, any other its field.
-use borrow.Author.Rules.{rules}
 use Prim.Native.Nat.{◌-◌, ◌*◌, ◌%◌, ◌^◌}
 use Rattle.to_f32.proofs.Pattern.{low_power, high_power, power_no_nan}
 use Rattle.to_f32.proofs.scale.Goals as goal

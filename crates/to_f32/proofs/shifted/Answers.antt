@@ -4,7 +4,6 @@ use mathlib.Core.Path.{◌≡◌, sym, ap, ◌∙◌, subst}
 use Prim.Native.Nat.{ℕ, ◌+◌, ◌/◌, ◌*◌, ◌%◌, ◌^◌, ◌≤◌, ◌<◌}
 use native.Mathlib.Nat.{lt_of_lt_of_le, one-mul, mod-lt, le_of_lt}
 use native.Mathlib.Omega.{arith}
-use borrow.Author.Rules.{rules}
 use lib.Pow.{pow_pos, pow_mono, shl_exact, shr_lt}
 use lib.Dec.{lit<}
 use mir.Syntax.{w64}
@@ -32,36 +31,36 @@ room n k h p l = subst (λ (z : ℕ). n / z < 2 ^ 63) (sym (d-is k l)) (shr_lt 6
     go k h = omega arith
 
 pub nonzero_div-q : goal.nonzero_div-q
-nonzero_div-q c = d-pos c.args.k c.requires.1
+nonzero_div-q c = d-pos c.args.k c.requires.fact_2
 
 pub nonzero_rem-r : goal.nonzero_rem-r
-nonzero_rem-r c = d-pos c.args.k c.requires.1
+nonzero_rem-r c = d-pos c.args.k c.requires.fact_2
 
 pub overflow_sub-s : goal.overflow_sub-s
-overflow_sub-s c = le_of_lt (mod-lt c.args.n (d-pos c.args.k c.requires.1))
+overflow_sub-s c = le_of_lt (mod-lt c.args.n (d-pos c.args.k c.requires.fact_2))
 
 pub overflow_add-result : goal.overflow_add-result
 overflow_add-result c =
-    go (c.args.n / d c.args.k) (room c.args.n c.args.k c.ranges.n.fits c.requires.0 c.requires.1)
+    go (c.args.n / d c.args.k) (room c.args.n c.args.k c.ranges.n.fits c.requires.fact_1 c.requires.fact_2)
   where
     go : (q : ℕ) → q < 9223372036854775808 → Fits w64 (q + 1)
     go q h = omega arith
 
 pub overflow_add-result-else-s-r : goal.overflow_add-result-else-s-r
 overflow_add-result-else-s-r c =
-    go (c.args.n / d c.args.k) (room c.args.n c.args.k c.ranges.n.fits c.requires.0 c.requires.1)
+    go (c.args.n / d c.args.k) (room c.args.n c.args.k c.ranges.n.fits c.requires.fact_1 c.requires.fact_2)
   where
     go : (q : ℕ) → q < 9223372036854775808 → Fits w64 (q + q % 2)
     go q h = omega arith
 
 pub returns-then-r-s : goal.returns-then-r-s
 returns-then-r-s c =
-    below_half c.args.n (d c.args.k) c.if-r-s.true ∙ ap (closest c.args.n) (d-is c.args.k c.requires.1)
+    below_half c.args.n (d c.args.k) c.if-r-s.true ∙ ap (closest c.args.n) (d-is c.args.k c.requires.fact_2)
 
 pub returns-then-s-r : goal.returns-then-s-r
 returns-then-s-r c =
-    above_half c.args.n (d c.args.k) c.if-s-r.true ∙ ap (closest c.args.n) (d-is c.args.k c.requires.1)
+    above_half c.args.n (d c.args.k) c.if-s-r.true ∙ ap (closest c.args.n) (d-is c.args.k c.requires.fact_2)
 
 pub returns-else-s-r : goal.returns-else-s-r
 returns-else-s-r c =
-    at_half c.args.n (d c.args.k) (mod-lt c.args.n (d-pos c.args.k c.requires.1)) c.if-r-s.false c.if-s-r.false ∙ ap (closest c.args.n) (d-is c.args.k c.requires.1)
+    at_half c.args.n (d c.args.k) (mod-lt c.args.n (d-pos c.args.k c.requires.fact_2)) c.if-r-s.false c.if-s-r.false ∙ ap (closest c.args.n) (d-is c.args.k c.requires.fact_2)
