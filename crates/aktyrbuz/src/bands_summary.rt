@@ -7,8 +7,7 @@ ghost use Rattle.aktyrbuz.specs.BandsExported.{bands_leaves, bands_export};
 
 use told::{tell, told_bands};
 
-#[unsafe(no_mangle)]
-pub extern "C" fn aktyrbuz_bands(
+pub fn aktyrbuz_bands(
     segments: &[f32],
     owners: &[u64],
     segment_count: u32,
@@ -44,8 +43,7 @@ pub extern "C" fn aktyrbuz_bands(
     told.number
 }
 
-#[unsafe(no_mangle)]
-pub extern "C" fn aktyrbuz_band(
+pub fn aktyrbuz_band(
     segments: &[f32],
     owners: &[u64],
     segment_count: u32,

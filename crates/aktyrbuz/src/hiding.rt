@@ -5,8 +5,7 @@ ghost use Rattle.aktyrbuz.specs.Exported.{hide_leaves, hide_export};
 
 use told::{tell, told_hide};
 
-#[unsafe(no_mangle)]
-pub extern "C" fn aktyrbuz_hide(
+pub fn aktyrbuz_hide(
     bits: &mut [u8],
     desk: u32,
     spline: u64,

@@ -1,4 +1,4 @@
-// The exported functions, on numbers and slices: the static library.
+// The exported functions, on numbers and slices; the crate `aktyrbuz_c` hands them to C.
 // Every call but the logarithm returns its code's number and fills five numbers: the place, then the counts, then zeros.
 #![tactic(auto)]
 
@@ -27,15 +27,13 @@ use told_lists::{told_read, told_write};
 use told_tables::{told_build, told_draw, told_reach};
 
 // The natural logarithm of an f32.
-#[unsafe(no_mangle)]
-pub extern "C" fn aktyrbuz_ln(x: f32) -> f32
+pub fn aktyrbuz_ln(x: f32) -> f32
     ensures { result ≡ ln_of x }
 {
     approximations::ln(x)
 }
 
-#[unsafe(no_mangle)]
-pub extern "C" fn aktyrbuz_read(
+pub fn aktyrbuz_read(
     list: &[u32],
     configured: u32,
     pixels: u32,
@@ -61,8 +59,7 @@ pub extern "C" fn aktyrbuz_read(
     told.number
 }
 
-#[unsafe(no_mangle)]
-pub extern "C" fn aktyrbuz_write(
+pub fn aktyrbuz_write(
     counts: &[u32],
     starts: &[f32],
     deltas: &[i32],
@@ -90,8 +87,7 @@ pub extern "C" fn aktyrbuz_write(
     told.number
 }
 
-#[unsafe(no_mangle)]
-pub extern "C" fn aktyrbuz_build(
+pub fn aktyrbuz_build(
     counts: &[u32],
     starts: &[f32],
     deltas: &[i32],
@@ -137,8 +133,7 @@ pub extern "C" fn aktyrbuz_build(
     told.number
 }
 
-#[unsafe(no_mangle)]
-pub extern "C" fn aktyrbuz_draw(
+pub fn aktyrbuz_draw(
     segments: &[f32],
     owners: &[u64],
     segment_count: u32,
@@ -182,8 +177,7 @@ pub extern "C" fn aktyrbuz_draw(
     told.number
 }
 
-#[unsafe(no_mangle)]
-pub extern "C" fn aktyrbuz_reach(
+pub fn aktyrbuz_reach(
     segments: &[f32],
     owners: &[u64],
     segment_count: u32,

@@ -6,8 +6,7 @@ ghost use Rattle.aktyrbuz.specs.MakersExported.{check_leaves, check_export};
 use told::tell;
 use told_tables::told_check;
 
-#[unsafe(no_mangle)]
-pub extern "C" fn aktyrbuz_check(
+pub fn aktyrbuz_check(
     segments: &[f32],
     segment_count: u32,
     height: u32,

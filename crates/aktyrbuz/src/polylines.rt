@@ -8,8 +8,7 @@ ghost use Rattle.aktyrbuz.specs.Polylines.{points_leaves, points_export};
 use told::tell;
 use told_lists::told_write;
 
-#[unsafe(no_mangle)]
-pub extern "C" fn aktyrbuz_points_read(
+pub fn aktyrbuz_points_read(
     text: &[u8],
     start: &mut [f32],
     deltas: &mut [i32],
@@ -23,8 +22,7 @@ pub extern "C" fn aktyrbuz_points_read(
     told.number
 }
 
-#[unsafe(no_mangle)]
-pub extern "C" fn aktyrbuz_points_write(
+pub fn aktyrbuz_points_write(
     counts: &[u32],
     starts: &[f32],
     deltas: &[i32],

@@ -9,8 +9,7 @@ ghost use Rattle.aktyrbuz.specs.ProfileExported.{profile_leaves, profile_export,
 
 use told::{tell, told_profile, told_profile_build};
 
-#[unsafe(no_mangle)]
-pub extern "C" fn aktyrbuz_profile(
+pub fn aktyrbuz_profile(
     counts: &[u32],
     starts: &[f32],
     deltas: &[i32],
@@ -34,8 +33,7 @@ pub extern "C" fn aktyrbuz_profile(
     told.number
 }
 
-#[unsafe(no_mangle)]
-pub extern "C" fn aktyrbuz_build_profile(
+pub fn aktyrbuz_build_profile(
     counts: &[u32],
     starts: &[f32],
     deltas: &[i32],

@@ -8,8 +8,7 @@ ghost use Rattle.aktyrbuz.specs.Exported.{read_leaves, read_export, write_leaves
 use told::tell;
 use told_lists::{told_read, told_write};
 
-#[unsafe(no_mangle)]
-pub extern "C" fn aktyrbuz_trace_read(
+pub fn aktyrbuz_trace_read(
     bytes: &[u8],
     counts: &mut [u32],
     starts: &mut [f32],
@@ -25,8 +24,7 @@ pub extern "C" fn aktyrbuz_trace_read(
     told.number
 }
 
-#[unsafe(no_mangle)]
-pub extern "C" fn aktyrbuz_trace_write(
+pub fn aktyrbuz_trace_write(
     counts: &[u32],
     starts: &[f32],
     deltas: &[i32],

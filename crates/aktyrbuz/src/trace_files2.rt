@@ -9,8 +9,7 @@ ghost use Rattle.aktyrbuz.specs.Trace2Exported.{file_export};
 use told::tell;
 use told_lists::{told_file, told_write};
 
-#[unsafe(no_mangle)]
-pub extern "C" fn aktyrbuz_trace_read2(
+pub fn aktyrbuz_trace_read2(
     bytes: &[u8],
     counts: &mut [u32],
     starts: &mut [f32],
@@ -26,8 +25,7 @@ pub extern "C" fn aktyrbuz_trace_read2(
     told.number
 }
 
-#[unsafe(no_mangle)]
-pub extern "C" fn aktyrbuz_trace_write2(
+pub fn aktyrbuz_trace_write2(
     counts: &[u32],
     starts: &[f32],
     deltas: &[i32],
