@@ -9,7 +9,7 @@ use Rattle.polyline_pairs.proofs.grown.Goals as goal
 
 pub returns-then-b-eq44 : goal.returns-then-b-eq44
 unfolding grown_by
-returns-then-b-eq44 c = rw (to_z-of_z {w = w32} {z = c.signed.result} (record { sfits = c.signed.type-inv }), c.signed.ensures, eq-eqb c.args.b 44 c.if-b-eq44.true)
+returns-then-b-eq44 c = rw (to_z-of_z {w = w32} {z = c.signed.result} (record { sfits = c.signed.type_inv }), c.signed.ensures, eq-eqb c.args.b 44 c.if-b-eq44.true)
 
 pub returns-then-b-eq45 : goal.returns-then-b-eq45
 unfolding grown_by

@@ -8,4 +8,4 @@ use Rattle.polyline_pairs.proofs.spot.Goals as goal
 
 pub returns : goal.returns
 unfolding spot_of
-returns c = rw (to_z-of_z {w = w32} {z = c.args.f.x} (record { sfits = omega (arith, c.requires.x) }), to_z-of_z {w = w32} {z = c.signed.result} (record { sfits = c.signed.type-inv }), c.signed.ensures)
+returns c = rw (to_z-of_z {w = w32} {z = c.args.f.x} (record { sfits = omega (arith, c.requires.x) }), to_z-of_z {w = w32} {z = c.signed.result} (record { sfits = c.signed.type_inv }), c.signed.ensures)

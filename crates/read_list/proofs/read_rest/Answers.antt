@@ -40,7 +40,7 @@ returns-in-Stop c =
 
 pub returns-else-used-rest : goal.returns-else-used-rest
 returns-else-used-rest c =
-    let z = to_z-of_z {w = w32} {z = c.unpack_signed-adjustment.result} (record { sfits = c.unpack_signed-adjustment.type-inv }) ∙ c.unpack_signed-adjustment.ensures in
+    let z = to_z-of_z {w = w32} {z = c.unpack_signed-adjustment.result} (record { sfits = c.unpack_signed-adjustment.type_inv }) ∙ c.unpack_signed-adjustment.ensures in
     let a = c.args in
     let g = c.read_splines in
     let rest = take (length a.list.now - 1) (drop 1 a.list.now) in

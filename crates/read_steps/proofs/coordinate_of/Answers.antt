@@ -13,7 +13,7 @@ returns-then-first c = rw c.if-first.true (to_z_pos w64 (omega arith))
 pub returns-else-first : goal.returns-else-first
 returns-else-first c =
     let zl = to_z-of_z {w = w64} {z = c.args.last} c.ranges.last in
-    let zu = to_z-of_z {w = w32} {z = c.unpack_signed.result} (record { sfits = c.unpack_signed.type-inv }) in
+    let zu = to_z-of_z {w = w32} {z = c.unpack_signed.result} (record { sfits = c.unpack_signed.type_inv }) in
     rw c.if-first.false
-    (to_z-of_z {w = w64} {z = c.moved.result} (record { sfits = c.moved.type-inv }) ∙ c.moved.ensures
+    (to_z-of_z {w = w64} {z = c.moved.result} (record { sfits = c.moved.type_inv }) ∙ c.moved.ensures
     ∙ rw (zl, zu, c.unpack_signed.ensures))

@@ -33,7 +33,7 @@ loop-i-preserved c =
     let a = c.args in
     let v = c.loop-i in
     let x = c.in-Value.a in
-    let z = to_z-of_z {w = w32} {z = c.unpack_signed.result} (record { sfits = c.unpack_signed.type-inv }) ∙ c.unpack_signed.ensures in (
+    let z = to_z-of_z {w = w32} {z = c.unpack_signed.result} (record { sfits = c.unpack_signed.type_inv }) ∙ c.unpack_signed.ensures in (
       omega arith,
       simp length-set v.invariant.1,
       keep_one v.out a.out.now v.i _ v.invariant.2,

@@ -42,8 +42,8 @@ loop-left-preserved c =
     let v = c.loop-left in
     let x = c.in-Both.a in
     let y = c.in-Both.b in
-    let zx = to_z-of_z {w = w32} {z = c.unpack_signed.result} (record { sfits = c.unpack_signed.type-inv }) ∙ c.unpack_signed.ensures in
-    let zy = to_z-of_z {w = w32} {z = c.unpack_signed-in-loop-left.result} (record { sfits = c.unpack_signed-in-loop-left.type-inv }) ∙ c.unpack_signed-in-loop-left.ensures in (
+    let zx = to_z-of_z {w = w32} {z = c.unpack_signed.result} (record { sfits = c.unpack_signed.type_inv }) ∙ c.unpack_signed.ensures in
+    let zy = to_z-of_z {w = w32} {z = c.unpack_signed-in-loop-left.result} (record { sfits = c.unpack_signed-in-loop-left.type_inv }) ∙ c.unpack_signed-in-loop-left.ensures in (
       omega arith,
       simp length-set v.invariant.1,
       omega (arith, c.rest-1.given.2),

@@ -30,8 +30,8 @@ pub returns-then-far : goal.returns-then-far
 returns-then-far c =
     let a = c.args in
     let v = c.loop-left in
-    let zx = to_z-of_z {w = w64} {z = c.coordinate_of-x.result} (record { sfits = c.coordinate_of-x.type-inv }) in
-    let zy = to_z-of_z {w = w64} {z = c.coordinate_of-y.result} (record { sfits = c.coordinate_of-y.type-inv }) in
+    let zx = to_z-of_z {w = w64} {z = c.coordinate_of-x.result} (record { sfits = c.coordinate_of-x.type_inv }) in
+    let zy = to_z-of_z {w = w64} {z = c.coordinate_of-y.result} (record { sfits = c.coordinate_of-y.type_inv }) in
     let judged : beyond pos_limit c.coordinate_of-x.result c.coordinate_of-y.result ≡ true
     = judge zx zy c.far.ensures c.if-far.true in
     filled_stop _ (take v.i v.out) _ _ Code.Coord (a.total - length v.rest.now)
@@ -39,8 +39,8 @@ returns-then-far c =
 
 pub start_of-requires : goal.start_of-requires
 start_of-requires c =
-    let zx = to_z-of_z {w = w64} {z = c.coordinate_of-x.result} (record { sfits = c.coordinate_of-x.type-inv }) in
-    let zy = to_z-of_z {w = w64} {z = c.coordinate_of-y.result} (record { sfits = c.coordinate_of-y.type-inv }) in
+    let zx = to_z-of_z {w = w64} {z = c.coordinate_of-x.result} (record { sfits = c.coordinate_of-x.type_inv }) in
+    let zy = to_z-of_z {w = w64} {z = c.coordinate_of-y.result} (record { sfits = c.coordinate_of-y.type_inv }) in
     let judged : beyond pos_limit c.coordinate_of-x.result c.coordinate_of-y.result ≡ false
     = judge zx zy c.far.ensures c.if-far.false in
     let near = not_far c.coordinate_of-x.result c.coordinate_of-y.result judged in
@@ -48,8 +48,8 @@ start_of-requires c =
 
 pub start_of-requires-in-loop-left : goal.start_of-requires-in-loop-left
 start_of-requires-in-loop-left c =
-    let zx = to_z-of_z {w = w64} {z = c.coordinate_of-x.result} (record { sfits = c.coordinate_of-x.type-inv }) in
-    let zy = to_z-of_z {w = w64} {z = c.coordinate_of-y.result} (record { sfits = c.coordinate_of-y.type-inv }) in
+    let zx = to_z-of_z {w = w64} {z = c.coordinate_of-x.result} (record { sfits = c.coordinate_of-x.type_inv }) in
+    let zy = to_z-of_z {w = w64} {z = c.coordinate_of-y.result} (record { sfits = c.coordinate_of-y.type_inv }) in
     let judged : beyond pos_limit c.coordinate_of-x.result c.coordinate_of-y.result ≡ false
     = judge zx zy c.far.ensures c.if-far.false in
     let near = not_far c.coordinate_of-x.result c.coordinate_of-y.result judged in
@@ -66,8 +66,8 @@ slice_bounds-rest-start c = omega (arith, ap length (pair_is c.loop-left.rest.no
 
 pub loop-left-preserved : goal.loop-left-preserved
 loop-left-preserved c =
-    let zx = to_z-of_z {w = w64} {z = c.coordinate_of-x.result} (record { sfits = c.coordinate_of-x.type-inv }) in
-    let zy = to_z-of_z {w = w64} {z = c.coordinate_of-y.result} (record { sfits = c.coordinate_of-y.type-inv }) in
+    let zx = to_z-of_z {w = w64} {z = c.coordinate_of-x.result} (record { sfits = c.coordinate_of-x.type_inv }) in
+    let zy = to_z-of_z {w = w64} {z = c.coordinate_of-y.result} (record { sfits = c.coordinate_of-y.type_inv }) in
     let judged : beyond pos_limit c.coordinate_of-x.result c.coordinate_of-y.result ≡ false
     = judge zx zy c.far.ensures c.if-far.false in
     let near = not_far c.coordinate_of-x.result c.coordinate_of-y.result judged in

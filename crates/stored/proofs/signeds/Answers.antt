@@ -16,7 +16,7 @@ pub overflow_add-i : goal.overflow_add-i
 overflow_add-i c = omega (arith, c.loop-i.invariant.size, c.loop-i.invariant.some)
 
 pub loop-i-preserved : goal.loop-i-preserved
-loop-i-preserved c = filling_more _ c.loop-i.i c.loop-i.invariant (omega (arith, c.loop-i.invariant.size)) (to_z-of_z {w = w32} {z = c.signed_at.result} (record { sfits = c.signed_at.type-inv }) ∙ c.signed_at.ensures)
+loop-i-preserved c = filling_more _ c.loop-i.i c.loop-i.invariant (omega (arith, c.loop-i.invariant.size)) (to_z-of_z {w = w32} {z = c.signed_at.result} (record { sfits = c.signed_at.type_inv }) ∙ c.signed_at.ensures)
 
 pub returns : goal.returns
 returns c = filling_all _ c.loop-i.i c.loop-i.invariant (omega (arith, c.loop-i.invariant.size))

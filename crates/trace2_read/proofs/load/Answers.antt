@@ -15,7 +15,7 @@ load_parts-requires c =
 pub returns : goal.returns
 returns c =
     let a = c.args in
-    let z = to_z-of_z {w = w32} {z = c.signed-adjustment.result} (record { sfits = c.signed-adjustment.type-inv }) in
+    let z = to_z-of_z {w = w32} {z = c.signed-adjustment.result} (record { sfits = c.signed-adjustment.type_inv }) in
     let n = c.number_at.ensures in
     all_loaded 9 a.bytes.now (rooms_of a.counts.now a.starts.now a.deltas.now a.coefficients.now) _ _ _ _ _ _ _ _ _ _ _
     c.requires c.number_at-s.ensures c.number_at-p.ensures (z ∙ c.signed-adjustment.ensures ∙ ap signed_in n) c.load_parts.ensures

@@ -18,7 +18,7 @@ pub loop-i-preserved : goal.loop-i-preserved
 loop-i-preserved c =
     let a = c.args in
     let v = c.loop-i in
-    let z = to_z-of_z {w = w32} {z = c.signed.result} (record { sfits = c.signed.type-inv }) in (
+    let z = to_z-of_z {w = w32} {z = c.signed.result} (record { sfits = c.signed.type_inv }) in (
       omega arith,
       simp length-set v.invariant.1,
       load_more signed_in a.bytes.now a.from a.n (omega arith) a.out.now v.out v.i _ _ (omega arith) (omega arith) c.number_at.ensures (z ∙ c.signed.ensures) v.invariant.2,

@@ -9,19 +9,19 @@ use Rattle.trace_load.proofs.start_in.Goals as goal
 
 pub overflow_cast-signed : goal.overflow_cast-signed
 overflow_cast-signed c =
-    let z = to_z-of_z {w = w32} {z = c.signed.result} (record { sfits = c.signed.type-inv }) in
-    rw z (record { sfits = omega (arith, c.signed.type-inv) })
+    let z = to_z-of_z {w = w32} {z = c.signed.result} (record { sfits = c.signed.type_inv }) in
+    rw z (record { sfits = omega (arith, c.signed.type_inv) })
 
 pub start_of-requires : goal.start_of-requires
 start_of-requires c =
-    let z = to_z-of_z {w = w32} {z = c.signed.result} (record { sfits = c.signed.type-inv }) in
-    let y = to_z-of_z {w = w64} {z = c.signed.result} (record { sfits = omega (arith, c.signed.type-inv) }) in
+    let z = to_z-of_z {w = w32} {z = c.signed.result} (record { sfits = c.signed.type_inv }) in
+    let y = to_z-of_z {w = w64} {z = c.signed.result} (record { sfits = omega (arith, c.signed.type_inv) }) in
     rw (z, y, c.signed.ensures) (placed_small c.args.number c.requires)
 
 pub returns : goal.returns
 unfolding start_in
 returns c =
     let s = c.signed in
-    let z = to_z-of_z {w = w32} {z = s.result} (record { sfits = s.type-inv }) in
-    let y = to_z-of_z {w = w64} {z = s.result} (record { sfits = omega (arith, s.type-inv) }) in
+    let z = to_z-of_z {w = w32} {z = s.result} (record { sfits = s.type_inv }) in
+    let y = to_z-of_z {w = w64} {z = s.result} (record { sfits = omega (arith, s.type_inv) }) in
     c.start_of.ensures ∙ rw (z, y, s.ensures)

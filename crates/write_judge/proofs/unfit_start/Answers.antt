@@ -15,7 +15,7 @@ unfolding of_bits neg
 int_to_float-back c =
     let b = between c.args.x c.if-x.true c.if-x-2.true in
     let t = c.truncating_f32_to_i64-whole in
-    let z = to_z-of_z {w = w64} {z = t.result} (record { sfits = t.type-inv }) ∙ t.ensures in
+    let z = to_z-of_z {w = w64} {z = t.result} (record { sfits = t.type_inv }) ∙ t.ensures in
     rw z (small_float (to_signed 63 c.args.x) b.small)
 
 pub float_to_bits-x : goal.float_to_bits-x
@@ -28,7 +28,7 @@ unfolding of_bits neg
 float_to_bits-back c =
     let b = between c.args.x c.if-x.true c.if-x-2.true in
     let t = c.truncating_f32_to_i64-whole in
-    let z = to_z-of_z {w = w64} {z = t.result} (record { sfits = t.type-inv }) ∙ t.ensures in
+    let z = to_z-of_z {w = w64} {z = t.result} (record { sfits = t.type_inv }) ∙ t.ensures in
     let w = to_signed 63 c.args.x in
     rw z (fit_number (of_int binary32 w) (whole_fit w b.small))
 
@@ -38,7 +38,7 @@ returns-then-x-back c =
     let x = c.args.x in
     let b = between x c.if-x.true c.if-x-2.true in
     let t = c.truncating_f32_to_i64-whole in
-    let z = to_z-of_z {w = w64} {z = t.result} (record { sfits = t.type-inv }) ∙ t.ensures in
+    let z = to_z-of_z {w = w64} {z = t.result} (record { sfits = t.type_inv }) ∙ t.ensures in
     bits_same x (subst T (sym c.well_formed.0.1) tt) b.small (rw z at c.if-x-back.true)
 
 pub returns-else-x-back : goal.returns-else-x-back
@@ -46,7 +46,7 @@ unfolding of_bits neg
 returns-else-x-back c =
     let x = c.args.x in
     let t = c.truncating_f32_to_i64-whole in
-    let z = to_z-of_z {w = w64} {z = t.result} (record { sfits = t.type-inv }) ∙ t.ensures in
+    let z = to_z-of_z {w = w64} {z = t.result} (record { sfits = t.type_inv }) ∙ t.ensures in
     bits_other x (subst T (sym c.well_formed.0.1) tt) (rw z at c.if-x-back.false)
 
 pub returns-else-x-2 : goal.returns-else-x-2

@@ -13,21 +13,21 @@ overflow_mul-values c =
     let a = c.args in
     let l = c.limit in
     let e = sym c.judge.ensures ∙ c.in-Fine.is in
-    omega (arith, size_fits a.counts.now a.starts.now a.deltas.now a.coefficients.now l.result e l.type-inv, c.well_formed.1.1.0.1)
+    omega (arith, size_fits a.counts.now a.starts.now a.deltas.now a.coefficients.now l.result e l.type_inv, c.well_formed.1.1.0.1)
 
 pub overflow_add-values : goal.overflow_add-values
 overflow_add-values c =
     let a = c.args in
     let l = c.limit in
     let e = sym c.judge.ensures ∙ c.in-Fine.is in
-    omega (arith, size_fits a.counts.now a.starts.now a.deltas.now a.coefficients.now l.result e l.type-inv, c.well_formed.1.1.0.1)
+    omega (arith, size_fits a.counts.now a.starts.now a.deltas.now a.coefficients.now l.result e l.type_inv, c.well_formed.1.1.0.1)
 
 pub overflow_add-values-in-Fine : goal.overflow_add-values-in-Fine
 overflow_add-values-in-Fine c =
     let a = c.args in
     let l = c.limit in
     let e = sym c.judge.ensures ∙ c.in-Fine.is in
-    omega (arith, size_fits a.counts.now a.starts.now a.deltas.now a.coefficients.now l.result e l.type-inv, c.well_formed.1.1.0.1)
+    omega (arith, size_fits a.counts.now a.starts.now a.deltas.now a.coefficients.now l.result e l.type_inv, c.well_formed.1.1.0.1)
 
 pub returns-then-room-values : goal.returns-then-room-values
 returns-then-room-values c =
@@ -42,7 +42,7 @@ put_list-requires c =
     let a = c.args in
     let l = c.limit in
     let e = sym c.judge.ensures ∙ c.in-Fine.is in
-    writable a.counts.now a.starts.now a.deltas.now a.coefficients.now l.result _ e l.type-inv c.if-room-values.false
+    writable a.counts.now a.starts.now a.deltas.now a.coefficients.now l.result _ e l.type_inv c.if-room-values.false
 
 pub returns-in-Fault : goal.returns-in-Fault
 returns-in-Fault c =
