@@ -1,5 +1,5 @@
 -- `write_judge::judge` meets its contract: each test and each call is the next of the checks.
-use Rattle.std.proofs.Common.{length, sym, ◌∙◌, arith, rules}
+use Rattle.std.proofs.Common.{length, sym, ◌∙◌, arith}
 use Rattle.write_judge.proofs.Checks.{agreed, none_counted, many_counted, well_counted, content_shape, content_count, content_start, content_rest}
 use Rattle.write_judge.proofs.judge.Goals as goal
 

@@ -1,5 +1,4 @@
-use Rattle.std.proofs.Common.{◌≡◌, ◌+◌, ◌-◌, ◌%◌, ◌≤◌, length, drop, sym, refl, ◌∙◌, arith, rules}
-use Rattle.write_judge.specs.Judge.{first_fault, delta_checks}
+use Rattle.std.proofs.Common.{◌≡◌, ◌+◌, sym, refl, ◌∙◌, arith}
 use Rattle.write_judge.proofs.Checks.{deltas_first, deltas_second, deltas_pass, deltas_end}
 use Rattle.write_judge.proofs.judge_deltas.Goals as goal
 

@@ -1,7 +1,6 @@
 -- `write_judge::judge_deltas` meets its contract: what the checks of all pairs say is what those of the pairs left say.
-use Rattle.std.proofs.Common.{◌≡◌, ◌+◌, ◌-◌, ◌%◌, ◌≤◌, length, drop, sym, refl, ◌∙◌, arith, rules}
+use Rattle.std.proofs.Common.{◌≡◌, ◌+◌, ◌-◌, ◌%◌, ◌≤◌, length, drop}
 use Rattle.write_judge.specs.Judge.{first_fault, delta_checks}
-use Rattle.write_judge.proofs.Checks.{deltas_first, deltas_second, deltas_pass, deltas_end}
 use Rattle.write_judge.proofs.judge_deltas.Given as goal
 
 abbrev pub invariant-loop-i : goal.invariant-loop-i

@@ -1,6 +1,4 @@
-use Rattle.std.proofs.Common.{◌≡◌, ◌+◌, ◌-◌, ◌*◌, ◌≤◌, length, get_or, drop, sym, refl, ◌∙◌, arith, rules}
-use Rattle.shape.specs.Shape.{points_of}
-use Rattle.write_judge.specs.Judge.{first_fault, spline_checks}
+use Rattle.std.proofs.Common.{◌≡◌, ◌-◌, ◌*◌, get_or, drop, sym, refl, ◌∙◌, arith}
 use Rattle.shape.proofs.Shape.{sum_turn}
 use Rattle.write_judge.proofs.Checks.{length_part, spline_over, spline_wild, spline_pass, splines_end}
 use Rattle.write_judge.proofs.judge_splines.Goals as goal

@@ -1,9 +1,7 @@
 -- `write_judge::judge_splines` meets its contract: what the checks of all splines say is what those of the splines left say.
-use Rattle.std.proofs.Common.{◌≡◌, ◌+◌, ◌-◌, ◌*◌, ◌≤◌, length, get_or, drop, sym, refl, ◌∙◌, arith, rules}
+use Rattle.std.proofs.Common.{◌≡◌, ◌+◌, ◌-◌, ◌*◌, ◌≤◌, length, drop}
 use Rattle.shape.specs.Shape.{points_of}
 use Rattle.write_judge.specs.Judge.{first_fault, spline_checks}
-use Rattle.shape.proofs.Shape.{sum_turn}
-use Rattle.write_judge.proofs.Checks.{length_part, spline_over, spline_wild, spline_pass, splines_end}
 use Rattle.write_judge.proofs.judge_splines.Given as goal
 
 abbrev pub invariant-loop-i : goal.invariant-loop-i

@@ -1,5 +1,4 @@
-use Rattle.std.proofs.Common.{◌≡◌, ◌+◌, ◌-◌, ◌%◌, ◌≤◌, true, eqb, length, drop, sym, refl, ◌∙◌, arith, rules, ne_eqb}
-use Rattle.write_judge.specs.Judge.{first_fault, start_checks}
+use Rattle.std.proofs.Common.{◌≡◌, ◌+◌, eqb, sym, refl, ◌∙◌, arith, ne_eqb}
 use Rattle.write_judge.proofs.Checks.{starts_first, starts_second, starts_pass, starts_end}
 use Rattle.write_judge.proofs.judge_starts.Goals as goal
 

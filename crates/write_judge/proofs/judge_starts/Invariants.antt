@@ -1,7 +1,6 @@
 -- `write_judge::judge_starts` meets its contract: what the checks of all pairs say is what those of the pairs left say.
-use Rattle.std.proofs.Common.{◌≡◌, ◌+◌, ◌-◌, ◌%◌, ◌≤◌, true, eqb, length, drop, sym, refl, ◌∙◌, arith, rules, ne_eqb}
+use Rattle.std.proofs.Common.{◌≡◌, ◌+◌, ◌-◌, ◌%◌, ◌≤◌, true, eqb, length, drop}
 use Rattle.write_judge.specs.Judge.{first_fault, start_checks}
-use Rattle.write_judge.proofs.Checks.{starts_first, starts_second, starts_pass, starts_end}
 use Rattle.write_judge.proofs.judge_starts.Given as goal
 
 abbrev pub invariant-loop-i : goal.invariant-loop-i

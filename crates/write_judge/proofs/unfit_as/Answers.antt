@@ -1,5 +1,5 @@
 -- `write_judge::unfit_as` meets its contract: by cases on whether the start is the first.
-use Rattle.std.proofs.Common.{sym, ◌∙◌, rules}
+use Rattle.std.proofs.Common.{sym, ◌∙◌}
 use Rattle.write_judge.proofs.Starts.{unfit_any, fit_first, fit_later}
 use Rattle.write_judge.proofs.unfit_as.Goals as goal
 

@@ -8,7 +8,7 @@ pub truncating_f32_to_i64-whole-requires : goal.truncating_f32_to_i64-whole-requ
 unfolding of_bits neg
 truncating_f32_to_i64-whole-requires c =
     let b = between c.args.x c.if-x.true c.if-x-2.true in
-    (b.above, b.beneath)
+    record { lower_bound = b.above; upper_bound = b.beneath }
 
 pub int_to_float-back : goal.int_to_float-back
 unfolding of_bits neg

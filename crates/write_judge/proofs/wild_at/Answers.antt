@@ -1,5 +1,5 @@
 -- `write_judge::wild_at` meets its contract: the number is itself when it is read, and its order to -2^30 and 2^30 gives its magnitude.
-use Rattle.std.proofs.Common.{get_or, pos, to_z-of_z, w32, rules}
+use Rattle.std.proofs.Common.{get_or, pos, to_z-of_z, w32}
 use Rattle.write_judge.proofs.Checks.{wild_above, wild_below}
 use Rattle.write_judge.proofs.wild_at.Goals as goal
 
