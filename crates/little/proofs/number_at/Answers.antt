@@ -2,7 +2,6 @@
 use mathlib.Core.Path.{sym}
 use native.Mathlib.Omega.{arith}
 use Rattle.little.proofs.Little.{number_is}
-use borrow.Author.Rules.{rules}
 use Rattle.little.proofs.number_at.Goals as goal
 
 pub overflow_mul-low : goal.overflow_mul-low

@@ -8,7 +8,6 @@ use mir.Val.{to_z}
 use mir.Facts.{to_z_pos, to_z-of_z}
 use borrow.Author.Tests.{le-ltb}
 use Rattle.list.proofs.Signed.{minus_half}
-use borrow.Author.Rules.{rules}
 use Rattle.little.proofs.signed.Goals as goal
 
 minus : (u : ℕ) → 2 ^ 31 ≤ u → negsuc 0 -ℤ to_z w32 (4294967295 - u) ≡ negsuc (2 ^ 32 - suc u)
