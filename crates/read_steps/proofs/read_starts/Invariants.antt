@@ -18,7 +18,7 @@ use Rattle.read_steps.proofs.Turns.{keep_two, onto_none, filled_done, filled_sto
 use Rattle.read_steps.proofs.read_starts.Given as goal
 
 abbrev pub invariant-loop-left : goal.invariant-loop-left
-invariant-loop-left l = (l.i + 2 * l.left ≡ 2 * l.n) × (length l.out ≡ length l.initial.out) × (length l.rest ≤ l.total) × (drop l.i l.out ≡ drop l.i l.initial.out) × (mag (to_z w64 l.last_x) < 2 ^ 23) × (mag (to_z w64 l.last_y) < 2 ^ 23) × (floats (starts_in l.total true (pos 0) (pos 0) l.n l.list) ≡ onto (take l.i l.out) (floats (starts_in l.total l.first (to_z w64 l.last_x) (to_z w64 l.last_y) l.left l.rest)))
+invariant-loop-left l = (l.i + 2 * l.left ≡ 2 * l.n) × (length l.out ≡ length l.initial.out) × (length l.rest ≤ l.total) × (drop l.i l.out ≡ drop l.i l.initial.out) × (mag l.last_x < 2 ^ 23) × (mag l.last_y < 2 ^ 23) × (floats (starts_in l.total true (pos 0) (pos 0) l.n l.list) ≡ onto (take l.i l.out) (floats (starts_in l.total l.first l.last_x l.last_y l.left l.rest)))
 
 abbrev pub decreases-loop-left : goal.decreases-loop-left
 decreases-loop-left l = l.left
