@@ -1,8 +1,6 @@
 -- `read_steps::coordinate_of` meets its contract, by what `moved` and `unpack_signed` ensure.
 use mathlib.Core.Path.{◌∙◌}
-use Prim.Native.Nat.{◌-◌}
 use native.Mathlib.Omega.{arith}
-use borrow.Author.Rules.{rules}
 use mir.Syntax.{w32, w64}
 use mir.Facts.{to_z-of_z, to_z_pos}
 use Rattle.read_steps.proofs.coordinate_of.Goals as goal

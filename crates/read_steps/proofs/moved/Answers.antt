@@ -2,7 +2,7 @@
 use native.Mathlib.Omega.{arith}
 use mir.Syntax.{w32, w64}
 use mir.Val.{SFits}
-use lib.IntN.{ℤ, ◌+ℤ◌}
+use lib.IntN.{◌+ℤ◌}
 use mir.Facts.{to_z-of_z}
 use Rattle.read_steps.proofs.Numbers.{sum_mag}
 use Rattle.read_steps.proofs.moved.Goals as goal

@@ -1,12 +1,11 @@
 use mathlib.Core.Path.{◌≡◌, refl, ap, ◌∙◌, sym}
-use Prim.Native.Nat.{◌-◌, ◌≤◌}
+use Prim.Native.Nat.{◌-◌}
 use native.Mathlib.Omega.{arith}
-use borrow.Author.Rules.{rules}
-use lib.ListN.{length, take, drop, length-set}
+use lib.ListN.{length, take, length-set}
 use native.Mathlib.Nat.{sub-zero}
 use mir.Syntax.{w32}
 use mir.Facts.{to_z-of_z}
-use Rattle.list.specs.List.{onto, coefficients_in}
+use Rattle.list.specs.List.{coefficients_in}
 use Rattle.codes.specs.declared.Code.{Code}
 use Rattle.list.proofs.Buffers.{next_is}
 use Rattle.read_steps.proofs.Turns.{keep_one, onto_none, filled_done, filled_stop, coefficients_short, coefficients_more}

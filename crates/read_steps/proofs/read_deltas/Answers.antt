@@ -1,11 +1,10 @@
 use mathlib.Core.Path.{◌≡◌, refl, ap, ◌∙◌, sym}
-use Prim.Native.Nat.{◌+◌, ◌-◌, ◌*◌, ◌≤◌}
+use Prim.Native.Nat.{◌-◌}
 use native.Mathlib.Omega.{arith}
-use borrow.Author.Rules.{rules}
-use lib.ListN.{length, take, drop, length-set}
+use lib.ListN.{length, take, length-set}
 use mir.Syntax.{w32}
 use mir.Facts.{to_z-of_z}
-use Rattle.list.specs.List.{onto, deltas_in}
+use Rattle.list.specs.List.{deltas_in}
 use Rattle.codes.specs.declared.Code.{Code}
 use Rattle.read_steps.proofs.Turns.{keep_two, onto_none, filled_done, filled_stop, pair_is, deltas_short, deltas_wild, deltas_more}
 use Rattle.read_steps.proofs.read_deltas.Goals as goal
@@ -46,7 +45,7 @@ loop-left-preserved c =
     let zy = to_z-of_z {w = w32} {z = c.unpack_signed-in-loop-left.result} (record { sfits = c.unpack_signed-in-loop-left.type_inv }) ∙ c.unpack_signed-in-loop-left.ensures in (
       omega arith,
       simp length-set v.invariant.1,
-      omega (arith, c.rest-1.given.2),
+      omega (arith, c.rest-1.given.1),
       keep_two v.out a.out.now v.i _ _ v.invariant.3,
       rw (zx, zy) (deltas_more a.total a.n v.left v.i a.list.now v.rest.now v.out x y v.invariant.4 (omega arith) (omega arith) (sym c.two.ensures ∙ c.in-Both.is) (sym c.wild.ensures ∙ c.if-wild.false)),
     )

@@ -1,17 +1,13 @@
 use mathlib.Core.Path.{◌≡◌, refl, ap, ◌∙◌, sym}
 use mathlib.Core.Bool.{true, false}
-use Prim.Native.Nat.{◌+◌, ◌-◌, ◌*◌, ◌≤◌, ◌<◌, ◌^◌}
+use Prim.Native.Nat.{◌-◌}
 use native.Mathlib.Omega.{arith}
-use borrow.Author.Rules.{rules}
-use lib.ListN.{length, take, drop, length-set}
-use lib.IntN.{pos}
-use lib.Signed.{mag}
+use lib.ListN.{length, take, length-set}
 use mir.Syntax.{w64}
 use mir.Val.{to_z}
 use mir.Facts.{to_z-of_z}
-use Rattle.list.specs.List.{pos_limit, beyond, onto, starts_in}
+use Rattle.list.specs.List.{pos_limit, beyond, starts_in}
 use Rattle.codes.specs.declared.Code.{Code}
-use Rattle.read_steps.specs.Steps.{floats}
 use Rattle.read_steps.proofs.Numbers.{not_far, judge, as_small}
 use Rattle.read_steps.proofs.Turns.{keep_two, onto_none, filled_done, filled_stop, pair_is, starts_short, starts_far, starts_more}
 use Rattle.read_steps.proofs.read_starts.Goals as goal
@@ -24,7 +20,7 @@ returns-in_default c =
     let a = c.args in
     let v = c.loop-left in
     filled_stop _ (take v.i v.out) _ _ Code.Short a.total
-    (v.invariant.6 ∙ rw (starts_short a.total v.first (to_z w64 v.last-x) (to_z w64 v.last-y) v.left v.rest.now (omega arith) (sym c.two.ensures ∙ c.in_default.is)))
+    (v.invariant.6 ∙ rw (starts_short a.total v.first (to_z w64 v.last_x-bits) (to_z w64 v.last_y-bits) v.left v.rest.now (omega arith) (sym c.two.ensures ∙ c.in_default.is)))
 
 pub returns-then-far : goal.returns-then-far
 returns-then-far c =
@@ -35,7 +31,7 @@ returns-then-far c =
     let judged : beyond pos_limit c.coordinate_of-x.result c.coordinate_of-y.result ≡ true
     = judge zx zy c.far.ensures c.if-far.true in
     filled_stop _ (take v.i v.out) _ _ Code.Coord (a.total - length v.rest.now)
-    (v.invariant.6 ∙ rw (starts_far a.total v.first (to_z w64 v.last-x) (to_z w64 v.last-y) c.coordinate_of-x.result c.coordinate_of-y.result v.left v.rest.now c.in-Both.a c.in-Both.b (omega arith) (sym c.two.ensures ∙ c.in-Both.is) c.coordinate_of-x.ensures c.coordinate_of-y.ensures judged))
+    (v.invariant.6 ∙ rw (starts_far a.total v.first (to_z w64 v.last_x-bits) (to_z w64 v.last_y-bits) c.coordinate_of-x.result c.coordinate_of-y.result v.left v.rest.now c.in-Both.a c.in-Both.b (omega arith) (sym c.two.ensures ∙ c.in-Both.is) c.coordinate_of-x.ensures c.coordinate_of-y.ensures judged))
 
 pub start_of-requires : goal.start_of-requires
 start_of-requires c =
@@ -79,12 +75,12 @@ loop-left-preserved c =
     let uy = c.in-Both.b in (
       omega arith,
       simp length-set v.invariant.1,
-      omega (arith, c.rest-1.given.2),
+      omega (arith, c.rest-1.given.1),
       keep_two v.out a.out.now v.i _ _ v.invariant.3,
       as_small zx near.0,
       as_small zy near.1,
       rw (c.start_of.ensures, c.start_of-in-loop-left.ensures, zx, zy)
-          (starts_more a.total a.n v.left v.i a.list.now v.rest.now v.out v.first (to_z w64 v.last-x) (to_z w64 v.last-y) x y ux uy
+          (starts_more a.total a.n v.left v.i a.list.now v.rest.now v.out v.first (to_z w64 v.last_x-bits) (to_z w64 v.last_y-bits) x y ux uy
           v.invariant.6 (omega arith) (omega arith) (sym c.two.ensures ∙ c.in-Both.is) c.coordinate_of-x.ensures c.coordinate_of-y.ensures judged),
     )
 

@@ -1,20 +1,12 @@
 -- `read_steps::read_starts` meets its contract. What is read stands before `i`, and the rest of the list, after the last start, gives what is left.
-use mathlib.Core.Path.{◌≡◌, refl, ap, ◌∙◌, sym}
-use mathlib.Core.Bool.{true, false}
-use Prim.Native.Nat.{◌+◌, ◌-◌, ◌*◌, ◌≤◌, ◌<◌, ◌^◌}
-use native.Mathlib.Omega.{arith}
-use borrow.Author.Rules.{rules}
-use lib.ListN.{length, take, drop, length-set}
+use mathlib.Core.Path.{◌≡◌}
+use mathlib.Core.Bool.{true}
+use Prim.Native.Nat.{◌+◌, ◌*◌, ◌≤◌, ◌<◌, ◌^◌}
+use lib.ListN.{length, take, drop}
 use lib.IntN.{pos}
 use lib.Signed.{mag}
-use mir.Syntax.{w64}
-use mir.Val.{to_z}
-use mir.Facts.{to_z-of_z}
-use Rattle.list.specs.List.{pos_limit, beyond, onto, starts_in}
-use Rattle.codes.specs.declared.Code.{Code}
+use Rattle.list.specs.List.{onto, starts_in}
 use Rattle.read_steps.specs.Steps.{floats}
-use Rattle.read_steps.proofs.Numbers.{not_far, judge, as_small}
-use Rattle.read_steps.proofs.Turns.{keep_two, onto_none, filled_done, filled_stop, pair_is, starts_short, starts_far, starts_more}
 use Rattle.read_steps.proofs.read_starts.Given as goal
 
 abbrev pub invariant-loop-left : goal.invariant-loop-left

@@ -2,7 +2,6 @@
 use mathlib.Core.Path.{ap, sym, ◌∙◌}
 use native.Mathlib.Omega.{arith}
 use lib.ListN.{length}
-use borrow.Author.Rules.{rules}
 use Rattle.list.proofs.Buffers.{next_is}
 use Rattle.read_steps.proofs.Turns.{pair_none, pair_one, pair_both}
 use Rattle.read_steps.proofs.two.Goals as goal
