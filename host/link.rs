@@ -1,4 +1,4 @@
-// What the build scripts of host/ share: links static libraries that `rt staticlib` makes, or those in the directory STATIC_LIBRARIES.
+// What the build scripts of host/ share: links static libraries that `./library` and `rt lib` make, or those in the directory STATIC_LIBRARIES.
 
 use std::path::Path;
 
@@ -12,7 +12,7 @@ fn link(names: &[&str]) {
         println!("cargo:rerun-if-changed={}", file.display());
         if !file.exists() {
             println!(
-                "cargo::error={} is missing: make it with `rt staticlib {name}`",
+                "cargo::error={} is missing: make it with `./library`, or `rt lib` in crates/{name}",
                 file.display()
             );
         }

@@ -1,11 +1,12 @@
-# What `./gauge`, `./library` and `./test` share: whether the kit is one that README.md names, a line that tells how far the proving is, and where the prover has its scratch files.
+# What `./gauge`, `./library` and `./test` share: whether the kit is one that README.md names, a line that tells how far the proving is, and the static libraries.
 # Sourced with $top, the repository's top.
 #   kit_ready                  whether rt can be used; else $kit_missing says in a line what is wrong
 #   proving_starts WHO CRATE.. counts from now on, under this name, the crates that are proved of these and all that they need
 #   proving_ends               no more of it
+#   static_library CRATE NAME  proves a static library and writes target/staticlib/libNAME.a
 # At a terminal the line stays in its place; elsewhere there is one every half minute. It goes to standard error.
 
-telling='' scratch=''
+telling=''
 
 kit_ready() {
     kit_missing='the command rt of the Rattle kit is not on PATH, and nothing is proved without it: put the bin folder of the kit there'
@@ -31,7 +32,7 @@ crates_of() { # CRATE..
             m = split(needs[c], d, " ")
             for (k = 1; k <= m; k++) take(d[k])
         }
-        /^[a-z]/ { needs[$1] = $2 }
+        /^[a-z]/ { sub(/ .*/, "", $1); needs[$1] = $2 }
         END {
             n = split(named, names, " ")
             for (i = 1; i <= n; i++) take(names[i])
@@ -40,13 +41,11 @@ crates_of() { # CRATE..
         }' "$top/crates.txt"
 }
 
-# What rt has left in a folder since the telling began: so many files that say one of these words.
-left_since() { # FOLDER WORDS
-    find "$top/target/$1" -name '*.res' -newer "$mark" -exec grep -lEx "$2" {} + 2>/dev/null | wc -l
-}
+# How many crates rt has built since the telling began.
+built_since() { find "$top"/crates/*/out/rlib/stamp -newer "$mark" 2>/dev/null | wc -l; }
 
 # A background process is not reached by an interrupt, so it looks whether its script is still there.
-tell_on() { # WHO CRATES EDITS
+tell_on() { # WHO CRATES
     began=$(date +%s)
     turn=0
     while kill -0 $$ 2>/dev/null; do
@@ -54,49 +53,27 @@ tell_on() { # WHO CRATES EDITS
         turn=$((turn + 1))
         [ -t 2 ] || [ $((turn % 30)) -eq 0 ] || continue
         took=$(($(date +%s) - began))
-        line="$1: $(left_since log 'proved|built') of $2 crates proved"
-        refused=$(left_since must-fail refused)
-        [ "$refused" -eq 0 ] || line="$line, $refused of $3 wrong versions refused"
-        line="$line, $((took / 60)) min $((took % 60)) s"
+        line="$1: $(built_since) of $2 crates proved, $((took / 60)) min $((took % 60)) s"
         if [ -t 2 ]; then printf '\r%s\033[K\r' "$line" >&2; else printf '%s\n' "$line" >&2; fi
     done
-    scratch_away
 }
 
-# The prover hands itself the modules of a crate as files, thousands a check, and removes them: on a disk that took up to a third of a check's processor time.
-# So they stand in memory, unless TMPDIR names another place, too little is free, or nothing may be started there, as rt does with the programs that it has built.
-scratch_in_memory() {
-    memory=/dev/shm
-    [ -z "${TMPDIR-}" ] && [ -w "$memory" ] && [ "$(df -Pk "$memory" | awk 'NR == 2 { print $4 }')" -ge 2097152 ] || return 0
-    scratch=$(mktemp -d "$memory/aktyrbuz.XXXXXX") || { scratch=''; return 0; }
-    printf '#!/bin/sh\n' >"$scratch/trial" && chmod 755 "$scratch" "$scratch/trial"
-    if "$scratch/trial" 2>/dev/null; then TMPDIR=$scratch && export TMPDIR; else scratch_away; fi
-}
-
-scratch_away() {
-    [ -n "$scratch" ] || return 0
-    rm -rf "$scratch"
-    [ "${TMPDIR-}" != "$scratch" ] || unset TMPDIR
-    scratch=''
-}
-
-# rt starts so many crates or edits together and waits for all of them: with two a processor idles at the end of each round, and with a dozen each takes a tenth longer, likely since they share a cache.
 proving_starts() { # WHO CRATE..
     who=$1
     shift
-    RT_JOBS=${RT_JOBS:-4}
-    export RT_JOBS
-    scratch_in_memory
     mark=$top/host/target/proving.mark
     mkdir -p "$top/host/target" && : >"$mark"
-    tell_on "$who" "$(crates_of "$@")" "$(find "$top/crates" -path '*/must-fail/*.edit' | wc -l)" >/dev/null &
+    tell_on "$who" "$(crates_of "$@")" >/dev/null &
     telling=$!
 }
 
 proving_ends() {
-    scratch_away
     [ -n "$telling" ] || return 0
     { kill "$telling" && wait "$telling"; } 2>/dev/null
     telling=''
     [ ! -t 2 ] || printf '\033[K' >&2
+}
+
+static_library() { # CRATE NAME
+    mkdir -p "$top/target/staticlib" && (cd "$top/crates/$1" && rt lib) && cp "$top/crates/$1/out/lib$1.a" "$top/target/staticlib/lib$2.a"
 }
