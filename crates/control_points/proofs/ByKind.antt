@@ -1,5 +1,5 @@
 -- A start, told by kind, is the number of Rust's `as`.
-use mathlib.Core.Path.{◌≡◌, refl, sym, ap, ◌∙◌}
+use mathlib.Core.Path.{◌≡◌, refl, ap, ◌∙◌}
 use mathlib.Core.Bool.{Bool, true, false, cond, true≢false}
 use Prim.Native.Nat.{ℕ, zero, suc, ◌+◌, ◌-◌, ◌*◌, ◌/◌, ◌^◌}
 use lib.Dec.{ltb}
@@ -7,14 +7,12 @@ use lib.IntN.{ℤ, pos, neg_ℤ}
 use lib.Signed.{lt_z}
 use lib.Ieee.{Float, nan, inf, fin, Format, binary32, prec, emax, low, up, down, is_nan, round, units, odd, to_signed}
 use lib.Ieee.Fits.{round_is}
-use Rattle.wholes.specs.Whole.{half, whole_by, round_of}
-use Rattle.kinds.specs.Kind.{kind_by, cut_i32, saturated_i32, within}
-use Rattle.kinds.specs.declared.KindI32.{KindI32}
+use Rattle.wholes.specs.Whole.{half, whole_by}
+use Rattle.kinds.specs.Kind.{kind_by, cut_i32, saturated_i32}
 use Rattle.kinds.specs.declared.KindI32.TheVariants as I32
 use Rattle.kinds.proofs.ByKind.{saturated_i32_lem}
 use Rattle.control_points.specs.ControlPoints.{coordinate_by, rounded_of}
 use Rattle.control_points.specs.ByKind.{taken, StartByKind}
-use Rattle.control_points.specs.declared.Coordinate.TheVariants as W
 
 -- a number that is held to the range of an i32 is no coordinate where that changed it
 by_tests : (a b : Bool) (z : ℤ) → coordinate_by (cond a I32.Above (cond b I32.Below (I32.Exact z))) ≡ taken (saturated_i32 (cond a I32.Above (cond b I32.Below (I32.Exact z))))

@@ -15,7 +15,6 @@ use Rattle.control_points.specs.Refusals.{InRange, Beyond, Inside, Outside, Smal
 use Rattle.control_points.specs.declared.Pair.{Pair}
 use Rattle.control_points.specs.declared.Coordinate.{Coordinate}
 use Rattle.control_points.specs.declared.Coordinate.TheVariants as W
-use Rattle.control_points.specs.declared.Start.{Start}
 use Rattle.control_points.specs.declared.Start.TheVariants as S
 use Rattle.control_points.proofs.ByKind.{start_by_kind}
 

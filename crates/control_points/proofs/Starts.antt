@@ -18,7 +18,7 @@ picked true i z w h = absurd (let e : ◌≡◌ {A = ℕ} 0 1 = cc in omega arit
 picked false true z w h = (refl, cc)
 picked false false z w h = absurd (let e : ◌≡◌ {A = ℕ} 0 1 = cc in omega arith)
 
-taken : (x : Float) (w : ℤ) → rounded_of x ≡ W.At w → in_range w ≡ true
+pub taken : (x : Float) (w : ℤ) → rounded_of x ≡ W.At w → in_range w ≡ true
 taken x w h =
     let z = to_signed 31 (round_of binary32 x) in
     let p = picked (is_nan x) (in_range z) z w (sym (start_by_kind x) ∙ h) in

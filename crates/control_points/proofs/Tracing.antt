@@ -1,5 +1,5 @@
 -- A trace by its pairs: a run after j pairs holds the sums up to there, so a pair's four tests are the statements on those sums; the first pair that is refused stops the trace.
-use mathlib.Core.Path.{◌≡◌, refl, sym, ap, subst, ◌∙◌}
+use mathlib.Core.Path.{◌≡◌, refl, ap, subst, ◌∙◌}
 use mathlib.Core.Bool.{Bool, true, false}
 use mathlib.Core.List.{List}
 use mathlib.Core.Logic.{◌⊎◌, inl, inr}

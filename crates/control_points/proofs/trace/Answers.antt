@@ -1,10 +1,7 @@
-use mathlib.Core.Path.{◌≡◌, refl, sym, ◌∙◌}
-use Prim.Native.Nat.{◌-◌, ◌*◌, ◌/◌, ◌≤◌}
+use mathlib.Core.Path.{refl, sym, ◌∙◌}
 use native.Mathlib.Omega.{arith}
-use borrow.Author.Rules.{rules}
-use lib.ListN.{length, drop, length-drop}
-use Rattle.control_points.specs.ControlPoints.{trace_from, trace_of, run_at}
-use Rattle.control_points.specs.Asked.{Held}
+use lib.ListN.{length-drop}
+use Rattle.control_points.specs.ControlPoints.{trace_of, run_at}
 use Rattle.control_points.proofs.Steps.{step_held, turn_stop, turn_on, trace_done}
 use Rattle.control_points.proofs.trace.Goals as goal
 

@@ -1,12 +1,9 @@
 -- The invariant: what is left to trace from the run gives what the whole gives from the start.
-use mathlib.Core.Path.{◌≡◌, refl, sym, ◌∙◌}
+use mathlib.Core.Path.{◌≡◌}
 use Prim.Native.Nat.{◌-◌, ◌*◌, ◌/◌, ◌≤◌}
-use native.Mathlib.Omega.{arith}
-use borrow.Author.Rules.{rules}
-use lib.ListN.{length, drop, length-drop}
-use Rattle.control_points.specs.ControlPoints.{trace_from, trace_of, run_at}
+use lib.ListN.{length, drop}
+use Rattle.control_points.specs.ControlPoints.{trace_from}
 use Rattle.control_points.specs.Asked.{Held}
-use Rattle.control_points.proofs.Steps.{step_held, turn_stop, turn_on, trace_done}
 use Rattle.control_points.proofs.trace.Given as goal
 
 abbrev pub invariant-loop-k : goal.invariant-loop-k

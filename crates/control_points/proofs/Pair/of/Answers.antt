@@ -1,5 +1,4 @@
 -- Both numbers are in the slice, and each is an i32 as it stands there.
-use borrow.Author.Rules.{rules}
 use mir.Syntax.{w32}
 use mir.Facts.{to_z-of_z}
 use Rattle.control_points.specs.ControlPoints.{pair_at}
