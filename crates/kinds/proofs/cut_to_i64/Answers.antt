@@ -9,7 +9,7 @@ use Rattle.kinds.proofs.cut_to_i64.Goals as goal
 
 pub truncating_f32_to_i64-requires : goal.truncating_f32_to_i64-requires
 unfolding of_bits neg
-truncating_f32_to_i64-requires c =  record { lower_bound = yes c.if-x.true; upper_bound = yes c.if-x-2.true }
+truncating_f32_to_i64-requires c = record { lower_bound = yes c.if-x.true; upper_bound = yes c.if-x-2.true }
 
 pub returns-then-x-2 : goal.returns-then-x-2
 unfolding of_bits neg
