@@ -30,7 +30,7 @@ returns-then-q-n c =
     let high : r * r < m * 8388608 + r = subst (λ (z : ℕ). z < m * 8388608 + r) q c.if-q-n.true in
     inr (
       c.if-bits-lt2139095040.true,
-      sum_is b r ∙ ap (λ (z : ℕ). place_bits b * 2 ^ 23 + z) (tested (m * 8388608) r low high ∙ ap nearest_root (whole_is b m (elim c.if-t-lt8388608.branch [ inl h ↦ inl (h.0.taken, h.1) | inr h ↦ inr (h.0.left, h.1) ]))),
+      sum_is b r ∙ ap (λ (z : ℕ). place_bits b * 2 ^ 23 + z) (tested (m * 8388608) r low high ∙ ap nearest_root (whole_is b m (elim c.if-t-lt8388608.branch [ goal.then-t-lt8388608 w ↦ inl (w.if-t-lt8388608.true, w.m-is) | goal.else-t-lt8388608 w ↦ inr (w.if-t-lt8388608.false, w.m-is) ]))),
     )
 
 pub returns-else-q-n : goal.returns-else-q-n

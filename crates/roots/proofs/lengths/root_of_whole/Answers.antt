@@ -40,10 +40,7 @@ overflow_sub-t-then-n-lt281474976710656 c = omega (arith, (let h_most : (count_l
 
 pub placed-requires : goal.placed-requires
 placed-requires c =
-    (
-      subst (λ (z : ℕ). 8388608 ≤ z) (sym ((let h_root_is : c.nearest_root.result ≡ nearest_root (((c.args.n) * 2 ^ (2 * (((count_leading_zeros 64 ((c.args.n))) - 16) / 2)))) = c.nearest_root.ensures ∙ ap nearest_root ((let h_is : ((c.args.n) * 2 ^ (2 * (((count_leading_zeros 64 ((c.args.n))) - 16) / 2))) % 2 ^ 64 ≡ ((c.args.n) * 2 ^ (2 * (((count_leading_zeros 64 ((c.args.n))) - 16) / 2))) = raised_is ((c.args.n)) ((let h_some2 : 0 < (c.args.n) = some ((c.args.n)) c.if-n-eq0.false in h_some2)) c.ranges.n.fits c.if-n-lt281474976710656.true in h_is)) in h_root_is))) (raised_root_lo ((c.args.n)) ((let h_some2 : 0 < (c.args.n) = some ((c.args.n)) c.if-n-eq0.false in h_some2)) c.ranges.n.fits c.if-n-lt281474976710656.true),
-      (subst (λ (z : ℕ). z ≤ 16777216) (sym ((let h_root_is : c.nearest_root.result ≡ nearest_root (((c.args.n) * 2 ^ (2 * (((count_leading_zeros 64 ((c.args.n))) - 16) / 2)))) = c.nearest_root.ensures ∙ ap nearest_root ((let h_is : ((c.args.n) * 2 ^ (2 * (((count_leading_zeros 64 ((c.args.n))) - 16) / 2))) % 2 ^ 64 ≡ ((c.args.n) * 2 ^ (2 * (((count_leading_zeros 64 ((c.args.n))) - 16) / 2))) = raised_is ((c.args.n)) ((let h_some2 : 0 < (c.args.n) = some ((c.args.n)) c.if-n-eq0.false in h_some2)) c.ranges.n.fits c.if-n-lt281474976710656.true in h_is)) in h_root_is))) (raised_root_hi ((c.args.n)) ((let h_some2 : 0 < (c.args.n) = some ((c.args.n)) c.if-n-eq0.false in h_some2)) c.ranges.n.fits c.if-n-lt281474976710656.true), go ((count_leading_zeros 64 ((c.args.n))))),
-    )
+    record { fact_1 = subst (λ (z : ℕ). 8388608 ≤ z) (sym ((let h_root_is : c.nearest_root.result ≡ nearest_root (((c.args.n) * 2 ^ (2 * (((count_leading_zeros 64 ((c.args.n))) - 16) / 2)))) = c.nearest_root.ensures ∙ ap nearest_root ((let h_is : ((c.args.n) * 2 ^ (2 * (((count_leading_zeros 64 ((c.args.n))) - 16) / 2))) % 2 ^ 64 ≡ ((c.args.n) * 2 ^ (2 * (((count_leading_zeros 64 ((c.args.n))) - 16) / 2))) = raised_is ((c.args.n)) ((let h_some2 : 0 < (c.args.n) = some ((c.args.n)) c.if-n-eq0.false in h_some2)) c.ranges.n.fits c.if-n-lt281474976710656.true in h_is)) in h_root_is))) (raised_root_lo ((c.args.n)) ((let h_some2 : 0 < (c.args.n) = some ((c.args.n)) c.if-n-eq0.false in h_some2)) c.ranges.n.fits c.if-n-lt281474976710656.true); fact_2 = subst (λ (z : ℕ). z ≤ 16777216) (sym ((let h_root_is : c.nearest_root.result ≡ nearest_root (((c.args.n) * 2 ^ (2 * (((count_leading_zeros 64 ((c.args.n))) - 16) / 2)))) = c.nearest_root.ensures ∙ ap nearest_root ((let h_is : ((c.args.n) * 2 ^ (2 * (((count_leading_zeros 64 ((c.args.n))) - 16) / 2))) % 2 ^ 64 ≡ ((c.args.n) * 2 ^ (2 * (((count_leading_zeros 64 ((c.args.n))) - 16) / 2))) = raised_is ((c.args.n)) ((let h_some2 : 0 < (c.args.n) = some ((c.args.n)) c.if-n-eq0.false in h_some2)) c.ranges.n.fits c.if-n-lt281474976710656.true in h_is)) in h_root_is))) (raised_root_hi ((c.args.n)) ((let h_some2 : 0 < (c.args.n) = some ((c.args.n)) c.if-n-eq0.false in h_some2)) c.ranges.n.fits c.if-n-lt281474976710656.true); fact_3 = go ((count_leading_zeros 64 ((c.args.n)))) }
   where
     go : (z : ℕ) → 149 - (z - 16) / 2 < 253
     go z = omega arith
@@ -59,7 +56,7 @@ overflow_sub-k c = omega (arith, (let h_few : (count_leading_zeros 64 ((c.args.n
 
 pub kept_root-requires : goal.kept_root-requires
 kept_root-requires c =
-    (go ((count_leading_zeros 64 ((c.args.n)))) ((let h_few : (count_leading_zeros 64 ((c.args.n))) ≤ 15 = z_lt ((c.args.n)) ((let h_some_long : 0 < (c.args.n) = some ((c.args.n)) c.if-n-eq0.false in h_some_long)) c.ranges.n.fits c.if-n-lt281474976710656.false in h_few)), (go2 ((count_leading_zeros 64 ((c.args.n)))), long_hi ((c.args.n)) ((let h_some_long : 0 < (c.args.n) = some ((c.args.n)) c.if-n-eq0.false in h_some_long)) c.ranges.n.fits c.if-n-lt281474976710656.false))
+    record { fact_1 = go ((count_leading_zeros 64 ((c.args.n)))) ((let h_few : (count_leading_zeros 64 ((c.args.n))) ≤ 15 = z_lt ((c.args.n)) ((let h_some_long : 0 < (c.args.n) = some ((c.args.n)) c.if-n-eq0.false in h_some_long)) c.ranges.n.fits c.if-n-lt281474976710656.false in h_few)); fact_2 = go2 ((count_leading_zeros 64 ((c.args.n)))); fact_3 = long_hi ((c.args.n)) ((let h_some_long : 0 < (c.args.n) = some ((c.args.n)) c.if-n-eq0.false in h_some_long)) c.ranges.n.fits c.if-n-lt281474976710656.false }
   where
     go : (z : ℕ) → z ≤ 15 → 0 < (17 - z) / 2
     go z h = omega arith
@@ -69,10 +66,7 @@ kept_root-requires c =
 
 pub placed-requires-else-n-lt281474976710656 : goal.placed-requires-else-n-lt281474976710656
 placed-requires-else-n-lt281474976710656 c =
-    (
-      subst (λ (z : ℕ). 8388608 ≤ z) (sym c.kept_root.ensures) (long_root_lo ((c.args.n)) ((let h_some_long : 0 < (c.args.n) = some ((c.args.n)) c.if-n-eq0.false in h_some_long)) c.ranges.n.fits c.if-n-lt281474976710656.false),
-      (subst (λ (z : ℕ). z ≤ 16777216) (sym c.kept_root.ensures) (long_root_hi ((c.args.n)) ((let h_some_long : 0 < (c.args.n) = some ((c.args.n)) c.if-n-eq0.false in h_some_long)) c.ranges.n.fits c.if-n-lt281474976710656.false), go ((count_leading_zeros 64 ((c.args.n))))),
-    )
+    record { fact_1 = subst (λ (z : ℕ). 8388608 ≤ z) (sym c.kept_root.ensures) (long_root_lo ((c.args.n)) ((let h_some_long : 0 < (c.args.n) = some ((c.args.n)) c.if-n-eq0.false in h_some_long)) c.ranges.n.fits c.if-n-lt281474976710656.false); fact_2 = subst (λ (z : ℕ). z ≤ 16777216) (sym c.kept_root.ensures) (long_root_hi ((c.args.n)) ((let h_some_long : 0 < (c.args.n) = some ((c.args.n)) c.if-n-eq0.false in h_some_long)) c.ranges.n.fits c.if-n-lt281474976710656.false); fact_3 = go ((count_leading_zeros 64 ((c.args.n)))) }
   where
     go : (z : ℕ) → 149 + (17 - z) / 2 < 253
     go z = omega arith
