@@ -1,6 +1,6 @@
 -- Laws of `hide`: one bit is as asked and every other stays, a desk's bits depend on its own, and each code is given exactly when its table says.
 use mathlib.Core.Path.{◌≡◌, refl, sym, ap, ◌∙◌}
-use mathlib.Core.Bool.{Bool, true, false, cond, ◌&&◌}
+use mathlib.Core.Bool.{Bool, true, false}
 use mathlib.Core.Logic.{◌⊎◌, inl, inr, ⊎_elim, ◌↔◌}
 use mathlib.Core.List.{List}
 use Prim.Native.Nat.{ℕ, ◌<◌, ◌≤◌}
@@ -10,7 +10,6 @@ use lib.ListN.{length, get_or, set, length-set}
 use lib.Seq.{get_or-set_same, get_or-set_other}
 use borrow.Author.Tests.{lt-ltb, le-ltb, ltb-true, ltb-false, eqb-true, eqb-false}
 use Rattle.codes.specs.declared.Code.{Code}
-use Rattle.codes.specs.declared.Code.TheVariants as Code
 use Rattle.desks.specs.Desks.{bit_of}
 use Rattle.desks.specs.Agree.{OwnBitsAlike}
 use Rattle.desks.specs.Hide.{with_bit, HideOutcome, leaves, hide_of, HideRefusal, Hides, none, more}

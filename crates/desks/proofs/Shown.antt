@@ -1,14 +1,14 @@
 -- Laws of what is shown: no more than is listed, alike by sights that agree, and all of it where nothing is hidden.
-use mathlib.Core.Path.{◌≡◌, refl, sym, ap, ◌∙◌, subst}
+use mathlib.Core.Path.{◌≡◌, refl, ap, ◌∙◌, subst}
 use mathlib.Core.Bool.{Bool, true, false, cond, ◌&&◌}
 use mathlib.Core.List.{List, [], ◌∷◌}
-use Prim.Native.Nat.{ℕ, zero, suc, ◌+◌, ◌<◌, ◌≤◌}
+use Prim.Native.Nat.{ℕ, zero, suc, ◌<◌, ◌≤◌}
 use native.Mathlib.Omega.{arith}
 use lib.Dec.{ltb}
 use lib.ListN.{length, get_or}
 use borrow.Author.Tests.{ltb-true}
 use Rattle.desks.specs.Desks.{bit_of, Sight, owner_in, hidden_in, shown, all_owned}
-use Rattle.desks.specs.Agree.{OwnBitsAlike, Agree, NothingHidden}
+use Rattle.desks.specs.Agree.{Agree, NothingHidden}
 
 -- ---- the owners of listed segments
 

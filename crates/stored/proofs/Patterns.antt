@@ -1,7 +1,7 @@
 -- Bit patterns of floats, over the format: a pattern is no NaN's unless its exponent is all ones and its digits are not zero.
 use mathlib.Core.Path.{◌≡◌, sym, ap, ◌∙◌}
 use mathlib.Core.Bool.{Bool, true, false, not, ◌&&◌}
-use Prim.Native.Nat.{ℕ, zero, suc, ◌-◌, ◌/◌, ◌%◌}
+use Prim.Native.Nat.{ℕ, zero, suc, ◌/◌, ◌%◌}
 use native.Mathlib.Omega.{arith}
 use lib.Dec.{T, eqb}
 use lib.Ieee.{Float, Format, binary32, nan, ne, fits, is_nan, to_bits, hid, ones, top, of_fields, of_bits, nan_bits}

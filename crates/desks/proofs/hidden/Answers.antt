@@ -1,5 +1,4 @@
 -- The bit of the byte at the segment's owner.
-use native.Mathlib.Omega.{arith}
 use Rattle.desks.proofs.hidden.Goals as goal
 
 pub returns : goal.returns

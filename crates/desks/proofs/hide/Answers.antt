@@ -1,9 +1,6 @@
 -- Each way out is decided by the tests that led there.
-use mathlib.Core.Path.{◌≡◌, sym}
-use Prim.Native.Nat.{◌<◌, ◌≤◌}
 use native.Mathlib.Omega.{arith}
 use lib.ListN.{length}
-use borrow.Author.Rules.{rules}
 use borrow.Author.Tests.{lt-ltb, le-ltb}
 use Rattle.desks.specs.Hide.{hide_of}
 use Rattle.desks.proofs.hide.Goals as goal

@@ -1,6 +1,5 @@
 -- Either desk's bit taken away, and added where it is asked for.
 use native.Mathlib.Omega.{arith}
-use borrow.Author.Rules.{rules}
 use Rattle.desks.proofs.Bits.{made_first, made_second}
 use Rattle.desks.proofs.with_bit.Goals as goal
 

@@ -1,5 +1,4 @@
 -- `finding::after` goes on by a byte at least.
-use borrow.Author.Rules.{rules}
 use native.Mathlib.Omega.{arith}
 use Rattle.finding.proofs.after.Goals as goal
 

@@ -1,7 +1,6 @@
 -- `finding::attribute` ends: it goes through the element byte by byte.
 use Prim.Native.Nat.{◌-◌, ◌≤◌}
 use lib.ListN.{length}
-use borrow.Author.Rules.{rules}
 use Rattle.finding.proofs.attribute.Given as goal
 
 abbrev pub invariant-loop-at : goal.invariant-loop-at

@@ -1,7 +1,6 @@
 -- `finding::end_of` ends: it goes through the bytes in order.
 use Prim.Native.Nat.{◌-◌, ◌≤◌}
 use lib.ListN.{length}
-use borrow.Author.Rules.{rules}
 use Rattle.finding.proofs.end_of.Given as goal
 
 abbrev pub invariant-loop-at : goal.invariant-loop-at

@@ -1,7 +1,5 @@
-use Prim.Native.Nat.{◌-◌, ◌≤◌}
-use lib.ListN.{length}
 use borrow.Author.Rules.{rules}
-use Rattle.finding.proofs.Passed.{Missing, missing_none, missing_more, found, nowhere}
+use Rattle.finding.proofs.Passed.{missing_none, missing_more, found, nowhere}
 use Rattle.finding.proofs.find.Goals as goal
 
 pub loop-at-init : goal.loop-at-init

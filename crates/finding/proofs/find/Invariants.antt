@@ -1,8 +1,7 @@
 -- `finding::find` meets its contract: at no place that was passed does the word stand.
 use Prim.Native.Nat.{◌-◌, ◌≤◌}
 use lib.ListN.{length}
-use borrow.Author.Rules.{rules}
-use Rattle.finding.proofs.Passed.{Missing, missing_none, missing_more, found, nowhere}
+use Rattle.finding.proofs.Passed.{Missing}
 use Rattle.finding.proofs.find.Given as goal
 
 abbrev pub invariant-loop-at : goal.invariant-loop-at

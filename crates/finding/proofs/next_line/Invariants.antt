@@ -1,7 +1,6 @@
 -- `finding::next_line` ends: each turn goes on by a byte or a comment.
 use Prim.Native.Nat.{◌-◌, ◌≤◌}
 use lib.ListN.{length}
-use borrow.Author.Rules.{rules}
 use Rattle.finding.proofs.next_line.Given as goal
 
 abbrev pub invariant-loop-at : goal.invariant-loop-at

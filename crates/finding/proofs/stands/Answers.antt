@@ -2,7 +2,6 @@
 use mathlib.Core.Path.{refl}
 use native.Mathlib.Omega.{arith}
 use Rattle.finding.proofs.Passed.{too_short, stands_part}
-use borrow.Author.Rules.{rules}
 use Rattle.finding.proofs.stands.Goals as goal
 
 pub returns-then-bytes-at : goal.returns-then-bytes-at

@@ -1,9 +1,7 @@
 use borrow.Author.Rules.{rules}
-use mathlib.Core.Path.{◌≡◌}
-use Prim.Native.Nat.{◌≤◌, ◌<◌, ◌-◌}
+use Prim.Native.Nat.{◌≤◌, ◌<◌}
 use native.Mathlib.Omega.{arith}
-use lib.ListN.{length, drop}
-use Rattle.frame.specs.Frame.{sum_from, sum_of}
+use lib.ListN.{length}
 use Rattle.frame.proofs.Laws.{sum_more, sum_done}
 use Rattle.frame.proofs.checksum.Goals as goal
 

@@ -1,11 +1,8 @@
 -- `frame::checksum` meets its contract: the sum so far, carried on over the words that are left, is the whole sum.
-use borrow.Author.Rules.{rules}
 use mathlib.Core.Path.{◌≡◌}
 use Prim.Native.Nat.{◌≤◌, ◌<◌, ◌-◌}
-use native.Mathlib.Omega.{arith}
 use lib.ListN.{length, drop}
 use Rattle.frame.specs.Frame.{sum_from, sum_of}
-use Rattle.frame.proofs.Laws.{sum_more, sum_done}
 use Rattle.frame.proofs.checksum.Given as goal
 
 abbrev pub invariant-loop-i : goal.invariant-loop-i

@@ -1,11 +1,8 @@
 -- `frame::end_of_cases` meets its contract: the cases that are left end where all do, and no case ends before it begins.
-use borrow.Author.Rules.{rules}
 use mathlib.Core.Path.{◌≡◌}
 use Prim.Native.Nat.{◌≤◌, ◌-◌}
-use native.Mathlib.Omega.{arith}
 use lib.ListN.{length}
 use Rattle.frame.specs.Frame.{end_from, all_end}
-use Rattle.frame.proofs.Laws.{end_more, case_within, end_done, ends_at, ends_past}
 use Rattle.frame.proofs.end_of_cases.Given as goal
 
 abbrev pub invariant-loop-left : goal.invariant-loop-left

@@ -1,9 +1,5 @@
 use borrow.Author.Rules.{rules}
-use mathlib.Core.Path.{◌≡◌}
-use Prim.Native.Nat.{◌≤◌, ◌-◌, ◌+◌}
 use native.Mathlib.Omega.{arith}
-use lib.ListN.{length, get_or}
-use Rattle.frame.specs.Frame.{end_from, held_from, held_of}
 use Rattle.frame.proofs.Laws.{case_within, end_more, held_found, held_passed, held_done, whole_within}
 use Rattle.frame.proofs.held.Goals as goal
 use Rattle.frame.proofs.held.Goals.{then-words-at, else-words-at}

@@ -1,12 +1,8 @@
 -- `frame::held` meets its contract: the cases found and those that are left are all, and in a whole file each lies within.
-use borrow.Author.Rules.{rules}
-use mathlib.Core.Logic.{⊎_elim}
 use mathlib.Core.Path.{◌≡◌}
 use Prim.Native.Nat.{◌≤◌, ◌-◌, ◌+◌}
-use native.Mathlib.Omega.{arith}
 use lib.ListN.{length, get_or}
 use Rattle.frame.specs.Frame.{end_from, held_from, held_of}
-use Rattle.frame.proofs.Laws.{case_within, end_more, held_found, held_passed, held_done, whole_within}
 use Rattle.frame.proofs.held.Given as goal
 
 abbrev pub invariant-loop-left : goal.invariant-loop-left

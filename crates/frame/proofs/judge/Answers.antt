@@ -1,7 +1,6 @@
 -- `frame::judge` meets its contract: each answer is that of the tests that led to it.
 use mathlib.Core.Path.{sym, ◌∙◌}
 use Rattle.frame.proofs.Laws.{judged_short, judged_stranger, judged_version, judged_on, on_past, on_at}
-use borrow.Author.Rules.{rules}
 use Rattle.frame.proofs.judge.Goals as goal
 
 pub returns-then-words-lt4 : goal.returns-then-words-lt4

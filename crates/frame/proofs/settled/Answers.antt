@@ -2,7 +2,6 @@
 use native.Mathlib.Omega.{arith}
 use lib.ListN.{length-take}
 use Rattle.frame.proofs.Laws.{settled_long, settled_whole, settled_damaged}
-use borrow.Author.Rules.{rules}
 use Rattle.frame.proofs.settled.Goals as goal
 
 pub returns-then-end-last : goal.returns-then-end-last

@@ -1,11 +1,9 @@
-use mathlib.Core.Path.{◌≡◌}
-use Prim.Native.Nat.{ℕ, ◌≤◌, ◌<◌, ◌*◌, ◌-◌}
+use Prim.Native.Nat.{◌<◌}
 use native.Mathlib.Omega.{arith}
-use lib.ListN.{length, get_or}
+use lib.ListN.{length}
 use borrow.Author.Rules.{rules}
 use borrow.Author.Count.{below_none}
 use Rattle.io.proofs.Counting.{prefix_len_of_le}
-use Rattle.frame.specs.Frame.{word_at}
 use Rattle.frame.proofs.Laws.{words_more}
 use Rattle.frame.proofs.words_of.Goals as goal
 

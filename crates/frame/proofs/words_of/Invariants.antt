@@ -1,13 +1,8 @@
 -- `frame::words_of` meets its contract: each word below the counter is stored, and the buffer keeps its length.
 use mathlib.Core.Path.{◌≡◌}
 use Prim.Native.Nat.{ℕ, ◌≤◌, ◌<◌, ◌*◌, ◌-◌}
-use native.Mathlib.Omega.{arith}
 use lib.ListN.{length, get_or}
-use borrow.Author.Rules.{rules}
-use borrow.Author.Count.{below_none}
-use Rattle.io.proofs.Counting.{prefix_len_of_le}
 use Rattle.frame.specs.Frame.{word_at}
-use Rattle.frame.proofs.Laws.{words_more}
 use Rattle.frame.proofs.words_of.Given as goal
 
 abbrev pub invariant-loop-i : goal.invariant-loop-i

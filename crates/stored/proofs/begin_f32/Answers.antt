@@ -1,11 +1,5 @@
-use Prim.Native.Nat.{◌-◌}
 use native.Mathlib.Omega.{arith}
-use lib.Ieee.{nan}
-use lib.ListN.{length}
-use borrow.Author.Rules.{rules}
-use borrow.Author.Tests.{not-false}
-use Rattle.stored.specs.Stored.{float_in}
-use Rattle.stored.proofs.Begun.{no_true, Begun, begun_none, begun_more, begun_long}
+use Rattle.stored.proofs.Begun.{no_true, begun_none, begun_more, begun_long}
 use Rattle.stored.proofs.begin_f32.Goals as goal
 
 pub loop-i-init : goal.loop-i-init
@@ -20,7 +14,7 @@ returns-then-not-is_float c = λ e. absurd (no_true e)
 pub loop-i-preserved : goal.loop-i-preserved
 loop-i-preserved c =
     let l = c.loop-i in
-    begun_more _ _ _ _ l.i l.invariant (omega arith) (omega arith) (c.is_float.ensures (not-false _ c.if-not-is_float.false))
+    begun_more _ _ _ _ l.i l.invariant (omega arith) (omega arith) (c.is_float.ensures c.if-not-is_float.false)
 
 pub returns : goal.returns
 returns c =

@@ -1,12 +1,9 @@
 -- The first i values are those of their words.
 use Prim.Native.Nat.{◌-◌}
-use native.Mathlib.Omega.{arith}
 use lib.Ieee.{nan}
 use lib.ListN.{length}
-use borrow.Author.Rules.{rules}
-use borrow.Author.Tests.{not-false}
 use Rattle.stored.specs.Stored.{float_in}
-use Rattle.stored.proofs.Begun.{no_true, Begun, begun_none, begun_more, begun_long}
+use Rattle.stored.proofs.Begun.{Begun}
 use Rattle.stored.proofs.begin_f32.Given as goal
 
 abbrev pub invariant-loop-i : goal.invariant-loop-i

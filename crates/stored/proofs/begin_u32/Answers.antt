@@ -1,8 +1,5 @@
-use Prim.Native.Nat.{ℕ, ◌-◌}
 use native.Mathlib.Omega.{arith}
-use lib.ListN.{length, get_or}
-use borrow.Author.Rules.{rules}
-use Rattle.stored.proofs.Begun.{no_true, Begun, begun_none, begun_more, begun_long}
+use Rattle.stored.proofs.Begun.{no_true, begun_none, begun_more, begun_long}
 use Rattle.stored.proofs.begin_u32.Goals as goal
 
 pub loop-i-init : goal.loop-i-init

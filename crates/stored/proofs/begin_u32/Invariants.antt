@@ -1,9 +1,7 @@
 -- The first i values are their words.
 use Prim.Native.Nat.{ℕ, ◌-◌}
-use native.Mathlib.Omega.{arith}
 use lib.ListN.{length, get_or}
-use borrow.Author.Rules.{rules}
-use Rattle.stored.proofs.Begun.{no_true, Begun, begun_none, begun_more, begun_long}
+use Rattle.stored.proofs.Begun.{Begun}
 use Rattle.stored.proofs.begin_u32.Given as goal
 
 abbrev pub invariant-loop-i : goal.invariant-loop-i

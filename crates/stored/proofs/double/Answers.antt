@@ -2,7 +2,6 @@
 use mathlib.Core.Path.{◌≡◌, refl, ◌∙◌}
 use lib.Ieee.{binary64, nan, div, of_bits}
 use Rattle.stored.proofs.Patterns.{plain, no_digits, others}
-use borrow.Author.Rules.{rules}
 use Rattle.stored.proofs.double.Goals as goal
 
 zero-over-zero : div binary64 (of_bits binary64 0) (of_bits binary64 0) ≡ nan

@@ -2,7 +2,6 @@
 use mathlib.Core.Path.{◌≡◌, refl, ◌∙◌}
 use lib.Ieee.{binary32, nan, div, of_bits}
 use Rattle.stored.proofs.Patterns.{plain, no_digits, others}
-use borrow.Author.Rules.{rules}
 use Rattle.stored.proofs.float.Goals as goal
 
 zero-over-zero : div binary32 (of_bits binary32 0) (of_bits binary32 0) ≡ nan

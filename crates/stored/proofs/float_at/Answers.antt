@@ -2,7 +2,6 @@
 use mathlib.Core.Path.{sym, ap}
 use lib.ListN.{get_or-eq_default}
 use lib.Ieee.{binary32, of_bits}
-use borrow.Author.Rules.{rules}
 use Rattle.stored.proofs.float_at.Goals as goal
 
 pub returns-else-i-words : goal.returns-else-i-words

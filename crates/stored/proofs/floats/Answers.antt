@@ -1,10 +1,6 @@
 use mathlib.Core.Path.{refl}
-use Prim.Native.Nat.{◌-◌}
 use native.Mathlib.Omega.{arith}
-use lib.ListN.{length}
-use borrow.Author.Rules.{rules}
-use Rattle.dequantize.proofs.Tables.{Filling, filling_none, filling_more, filling_all}
-use Rattle.stored.specs.Stored.{float_in}
+use Rattle.dequantize.proofs.Tables.{filling_none, filling_more, filling_all}
 use Rattle.stored.proofs.floats.Goals as goal
 
 pub loop-i-init : goal.loop-i-init

@@ -2,7 +2,6 @@
 use mathlib.Core.Path.{◌∙◌}
 use borrow.Author.Tests.{eqb-true}
 use Rattle.stored.proofs.Begun.{no_true}
-use borrow.Author.Rules.{rules}
 use Rattle.stored.proofs.is_long.Goals as goal
 
 pub returns-then-output-ne2 : goal.returns-then-output-ne2

@@ -1,6 +1,5 @@
 -- There is one word, and it is the number's.
 use Rattle.stored.proofs.Begun.{no_true}
-use borrow.Author.Rules.{rules}
 use Rattle.stored.proofs.is_only_float.Goals as goal
 
 pub returns-then-output-ne1 : goal.returns-then-output-ne1

@@ -1,6 +1,5 @@
 -- There are two words.
 use Rattle.stored.proofs.Begun.{no_true}
-use borrow.Author.Rules.{rules}
 use Rattle.stored.proofs.is_signed.Goals as goal
 
 pub returns-then-output-ne2 : goal.returns-then-output-ne2

@@ -6,7 +6,6 @@ use lib.IntN.{negsuc}
 use mir.Syntax.{w64}
 use mir.Val.{to_z, of_z}
 use Rattle.stored.proofs.Complements.{lacking}
-use borrow.Author.Rules.{rules}
 use Rattle.stored.proofs.signed.Goals as goal
 
 back : (n : ℕ) → n < 2 ^ 64 → of_z w64 (negsuc (18446744073709551615 - n)) ≡ n

@@ -3,7 +3,6 @@ use mathlib.Core.Path.{sym, ap}
 use lib.ListN.{get_or-eq_default}
 use mir.Syntax.{w32}
 use mir.Val.{to_z}
-use borrow.Author.Rules.{rules}
 use Rattle.stored.proofs.signed_at.Goals as goal
 
 pub returns-else-i-words : goal.returns-else-i-words

@@ -6,7 +6,6 @@ use lib.IntN.{negsuc}
 use mir.Syntax.{w32}
 use mir.Val.{to_z, of_z}
 use Rattle.stored.proofs.Complements.{lacking}
-use borrow.Author.Rules.{rules}
 use Rattle.stored.proofs.signed_word.Goals as goal
 
 back : (n : ℕ) → n < 2 ^ 32 → of_z w32 (negsuc (4294967295 - n)) ≡ n

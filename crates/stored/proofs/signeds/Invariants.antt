@@ -1,12 +1,7 @@
 -- The first i cells are set.
-use mathlib.Core.Path.{refl, ◌∙◌}
 use Prim.Native.Nat.{◌-◌}
-use native.Mathlib.Omega.{arith}
 use lib.ListN.{length}
-use mir.Syntax.{w32}
-use mir.Facts.{to_z-of_z}
-use borrow.Author.Rules.{rules}
-use Rattle.dequantize.proofs.Tables.{Filling, filling_none, filling_more, filling_all}
+use Rattle.dequantize.proofs.Tables.{Filling}
 use Rattle.stored.specs.Stored.{signed_in}
 use Rattle.stored.proofs.signeds.Given as goal
 

@@ -1,7 +1,6 @@
 -- `text::after_digit` meets its contract: in each arm the state is known, and the test is the definition's.
 use mathlib.Core.Path.{refl}
 use borrow.Author.Tests.{lt-ltb, le-ltb}
-use borrow.Author.Rules.{rules}
 use Rattle.text.proofs.after_digit.Goals as goal
 
 pub returns-in-Between : goal.returns-in-Between

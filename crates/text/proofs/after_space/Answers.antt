@@ -1,6 +1,5 @@
 -- `text::after_space` meets its contract: in each arm the state is known.
 use mathlib.Core.Path.{refl}
-use borrow.Author.Rules.{rules}
 use Rattle.text.proofs.after_space.Goals as goal
 
 pub returns-in-Between : goal.returns-in-Between

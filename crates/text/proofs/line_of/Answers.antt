@@ -1,7 +1,6 @@
-use Prim.Native.Nat.{◌+◌, ◌-◌, ◌≤◌}
 use native.Mathlib.Omega.{arith}
 use borrow.Author.Rules.{rules}
-use Rattle.text.proofs.Lines.{LineLeft, line_begin, line_more, line_past, line_end}
+use Rattle.text.proofs.Lines.{line_begin, line_more, line_past, line_end}
 use Rattle.text.proofs.line_of.Goals as goal
 
 pub loop-i-init : goal.loop-i-init

@@ -1,8 +1,6 @@
 -- `text::line_of` meets its contract: the line so far, with the line feeds that are left, is the line.
 use Prim.Native.Nat.{◌+◌, ◌-◌, ◌≤◌}
-use native.Mathlib.Omega.{arith}
-use borrow.Author.Rules.{rules}
-use Rattle.text.proofs.Lines.{LineLeft, line_begin, line_more, line_past, line_end}
+use Rattle.text.proofs.Lines.{LineLeft}
 use Rattle.text.proofs.line_of.Given as goal
 
 abbrev pub invariant-loop-i : goal.invariant-loop-i

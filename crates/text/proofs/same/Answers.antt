@@ -1,8 +1,6 @@
 use mathlib.Core.Path.{refl}
-use Prim.Native.Nat.{◌-◌, ◌≤◌}
-use lib.ListN.{length}
 use borrow.Author.Rules.{rules}
-use Rattle.text.proofs.Sameness.{SameLeft, same_short, same_differ, same_more, same_end}
+use Rattle.text.proofs.Sameness.{same_short, same_differ, same_more, same_end}
 use Rattle.text.proofs.same.Goals as goal
 
 pub loop-i-init : goal.loop-i-init

@@ -1,9 +1,7 @@
 -- `text::same` meets its contract: what is left of the two texts decides.
-use mathlib.Core.Path.{refl}
 use Prim.Native.Nat.{◌-◌, ◌≤◌}
 use lib.ListN.{length}
-use borrow.Author.Rules.{rules}
-use Rattle.text.proofs.Sameness.{SameLeft, same_short, same_differ, same_more, same_end}
+use Rattle.text.proofs.Sameness.{SameLeft}
 use Rattle.text.proofs.same.Given as goal
 
 abbrev pub invariant-loop-i : goal.invariant-loop-i

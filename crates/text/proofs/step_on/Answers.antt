@@ -1,7 +1,6 @@
 -- `text::step_on` meets its contract: in each branch the tests so far decide the definition's.
 use mathlib.Core.Path.{sym, ◌∙◌}
 use Rattle.text.proofs.Bytes.{step_space, step_low, step_high, step_digit}
-use borrow.Author.Rules.{rules}
 use Rattle.text.proofs.step_on.Goals as goal
 
 pub returns-then-is_space : goal.returns-then-is_space

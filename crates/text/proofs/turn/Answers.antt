@@ -2,7 +2,6 @@
 use mathlib.Core.Path.{sym, ◌∙◌}
 use native.Mathlib.Omega.{arith}
 use Rattle.text.proofs.Reading.{turn_full, turn_ends, turn_on, turn_stranger, turn_great}
-use borrow.Author.Rules.{rules}
 use Rattle.text.proofs.turn.Goals as goal
 
 pub returns-then-held-values : goal.returns-then-held-values

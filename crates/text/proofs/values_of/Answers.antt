@@ -1,8 +1,5 @@
-use Prim.Native.Nat.{◌+◌, ◌-◌, ◌≤◌}
 use native.Mathlib.Omega.{arith}
-use lib.ListN.{length}
-use borrow.Author.Rules.{rules}
-use Rattle.text.proofs.Reading.{Going, going_begin, going_on, going_stops, going_done}
+use Rattle.text.proofs.Reading.{going_begin, going_on, going_stops, going_done}
 use Rattle.text.proofs.values_of.Goals as goal
 
 pub loop-i-init : goal.loop-i-init

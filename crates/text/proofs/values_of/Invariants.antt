@@ -1,9 +1,7 @@
 -- `text::values_of` meets its contract: before each byte, what is stored and what is left come to the whole text.
-use Prim.Native.Nat.{◌+◌, ◌-◌, ◌≤◌}
-use native.Mathlib.Omega.{arith}
+use Prim.Native.Nat.{◌+◌, ◌-◌}
 use lib.ListN.{length}
-use borrow.Author.Rules.{rules}
-use Rattle.text.proofs.Reading.{Going, going_begin, going_on, going_stops, going_done}
+use Rattle.text.proofs.Reading.{Going}
 use Rattle.text.proofs.values_of.Given as goal
 
 abbrev pub invariant-loop-i : goal.invariant-loop-i
