@@ -3,7 +3,6 @@ use native.Mathlib.Omega.{arith}
 use lib.IntN.{◌-ℤ◌}
 use mir.Syntax.{w32}
 use mir.Facts.{to_z-of_z}
-use borrow.Author.Rules.{rules}
 use Rattle.write_steps.specs.Steps.{whole_of}
 use Rattle.write_judge.proofs.Starts.{fit_signed}
 use Rattle.write_steps.proofs.Values.{fit_fits, apart_fits}

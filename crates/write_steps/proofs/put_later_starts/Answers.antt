@@ -1,8 +1,6 @@
-use Prim.Native.Nat.{◌-◌}
 use native.Mathlib.Omega.{arith}
-use borrow.Author.Rules.{rules}
-use lib.ListN.{length, length-set}
-use Rattle.write_steps.proofs.Stores.{Later, later_begin, later_now, later_more, later_end}
+use lib.ListN.{length-set}
+use Rattle.write_steps.proofs.Stores.{later_begin, later_now, later_more, later_end}
 use Rattle.write_steps.proofs.put_later_starts.Goals as goal
 
 pub loop-i-init : goal.loop-i-init

@@ -1,9 +1,7 @@
 -- `write_steps::put_later_starts` meets its contract: the starts from `i` on are left to store, and they are fit.
 use Prim.Native.Nat.{◌-◌}
-use native.Mathlib.Omega.{arith}
-use borrow.Author.Rules.{rules}
-use lib.ListN.{length, length-set}
-use Rattle.write_steps.proofs.Stores.{Later, later_begin, later_now, later_more, later_end}
+use lib.ListN.{length}
+use Rattle.write_steps.proofs.Stores.{Later}
 use Rattle.write_steps.proofs.put_later_starts.Given as goal
 
 abbrev pub invariant-loop-i : goal.invariant-loop-i

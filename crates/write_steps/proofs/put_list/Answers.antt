@@ -2,7 +2,6 @@
 use mathlib.Core.Path.{refl, ap, ◌∙◌}
 use Prim.Native.Nat.{◌+◌, ◌-◌}
 use native.Mathlib.Omega.{arith}
-use borrow.Author.Rules.{rules}
 use lib.ListN.{length, set, length-set}
 use mir.Syntax.{w32}
 use mir.Facts.{to_z-of_z}
@@ -21,20 +20,20 @@ pub bounds-list-after : goal.bounds-list-after
 bounds-list-after c =
     let a = c.args in
     let h = c.requires in
-    omega (arith, h.pairs, h.fits, c.put_starts.auto.1.0, length-set a.list.now 0 (length a.counts.now - 1))
+    omega (arith, h.pairs, h.fits, c.put_starts.auto.list, length-set a.list.now 0 (length a.counts.now - 1))
 
 pub put_splines-requires : goal.put_splines-requires
 put_splines-requires c =
     let a = c.args in
     let h = c.requires in
-    let o = c.put_starts.new.1.0 in (
+    let o = c.put_starts.new.list in (
       h.points,
       h.rows,
       omega (
         arith,
         h.pairs,
         h.fits,
-        c.put_starts.auto.1.0,
+        c.put_starts.auto.list,
         length-set a.list.now 0 (length a.counts.now - 1),
         length-set o (length a.starts.now + 1) c.pack_signed.result,
       ),
@@ -50,5 +49,5 @@ returns c =
     let after = length a.starts.now + 1 in
     let z = to_z-of_z {w = w32} {z = a.adjustment} c.ranges.adjustment in
     list_stored a.counts.now a.starts.now a.deltas.now a.coefficients.now a.adjustment h.pairs
-    a.list.now (set a.list.now 0 n) o.new.1.0 (set o.new.1.0 after v.result) c.put_splines.new.1.1.1.0
+    a.list.now (set a.list.now 0 n) o.new.list (set o.new.list after v.result) c.put_splines.new.list
     v.result after refl refl o.ensures (v.ensures ∙ ap pack_signed z) refl c.put_splines.ensures

@@ -1,16 +1,10 @@
 -- `write_steps::put_numbers` meets its contract: the numbers from `i` on are left to store.
-use mathlib.Core.Path.{◌≡◌, refl, sym, ap, ◌∙◌}
+use mathlib.Core.Path.{◌≡◌}
 use mathlib.Core.List.{map}
 use Prim.Native.Nat.{◌+◌, ◌-◌, ◌≤◌}
-use native.Mathlib.Omega.{arith}
-use borrow.Author.Rules.{rules}
-use lib.ListN.{length, drop, get_or, length-set}
+use lib.ListN.{length, drop}
 use lib.Seq.{sets}
-use lib.IntN.{pos}
-use mir.Syntax.{w32}
-use mir.Facts.{to_z-of_z}
 use Rattle.list.specs.List.{pack_signed}
-use Rattle.write_steps.proofs.Stores.{numbers_turn, numbers_end}
 use Rattle.write_steps.proofs.put_numbers.Given as goal
 
 abbrev pub invariant-loop-i : goal.invariant-loop-i

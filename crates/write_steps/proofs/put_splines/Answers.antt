@@ -1,10 +1,9 @@
 use mathlib.Core.Path.{refl}
-use Prim.Native.Nat.{◌-◌, ◌*◌}
+use Prim.Native.Nat.{◌*◌}
 use native.Mathlib.Omega.{arith}
-use borrow.Author.Rules.{rules}
-use lib.ListN.{length, get_or}
+use lib.ListN.{get_or}
 use Rattle.write_judge.proofs.Checks.{length_part}
-use Rattle.write_steps.proofs.Stores.{Rows, rows_begin, rows_within, rows_more, rows_end}
+use Rattle.write_steps.proofs.Stores.{rows_begin, rows_within, rows_more, rows_end}
 use Rattle.write_steps.proofs.put_splines.Goals as goal
 
 pub loop-i-init : goal.loop-i-init
@@ -59,7 +58,7 @@ pub loop-i-preserved : goal.loop-i-preserved
 loop-i-preserved c =
     let a = c.args in
     let v = c.loop-i in
-    rows_more a.counts.now a.deltas.now a.coefficients.now a.list.now a.at v.list v.place v.from v.row v.i v.invariant (omega arith) _ _ c.put_spline.new.1.1.1.0 refl refl (length_part a.coefficients.now v.row 128 (omega arith)) c.put_spline.ensures
+    rows_more a.counts.now a.deltas.now a.coefficients.now a.list.now a.at v.list v.place v.from v.row v.i v.invariant (omega arith) _ _ c.put_spline.new.list refl refl (length_part a.coefficients.now v.row 128 (omega arith)) c.put_spline.ensures
 
 pub returns : goal.returns
 returns c =
