@@ -2,7 +2,6 @@
 use mathlib.Core.Path.{ap}
 use Prim.Native.Nat.{◌-◌, ◌*◌}
 use native.Mathlib.Omega.{arith}
-use borrow.Author.Rules.{rules}
 use lib.ListN.{length, take, drop}
 use Rattle.codes.specs.declared.Code.{Code}
 use Rattle.list.proofs.Buffers.{part_tail, next_is}
@@ -39,7 +38,7 @@ slice_bounds-read_coefficients-count c =
     let after = take (length a.list.now - 1) (drop 1 a.list.now) in
     let step = c.read_deltas in
     let done = rw c.in-Done.is at step.ensures in
-    spline_after a.total a.left (length a.deltas.now) a.list.now after n (cc) (omega arith) (omega arith) (part_tail 1 a.list.now) a.deltas.now step.new.1.1.1.0 done
+    spline_after a.total a.left (length a.deltas.now) a.list.now after n (cc) (omega arith) (omega arith) (part_tail 1 a.list.now) a.deltas.now step.new.out done
 
 pub slice_bounds-read_coefficients-start : goal.slice_bounds-read_coefficients-start
 slice_bounds-read_coefficients-start c =
@@ -48,7 +47,7 @@ slice_bounds-read_coefficients-start c =
     let after = take (length a.list.now - 1) (drop 1 a.list.now) in
     let step = c.read_deltas in
     let done = rw c.in-Done.is at step.ensures in
-    omega (arith, spline_after a.total a.left (length a.deltas.now) a.list.now after n (cc) (omega arith) (omega arith) (part_tail 1 a.list.now) a.deltas.now step.new.1.1.1.0 done)
+    omega (arith, spline_after a.total a.left (length a.deltas.now) a.list.now after n (cc) (omega arith) (omega arith) (part_tail 1 a.list.now) a.deltas.now step.new.out done)
 
 pub returns-in-Stop : goal.returns-in-Stop
 returns-in-Stop c =
@@ -57,7 +56,7 @@ returns-in-Stop c =
     let after = take (length a.list.now - 1) (drop 1 a.list.now) in
     let step = c.read_deltas in
     spline_stop _ c.in-Stop.c c.in-Stop.p _ _ _ _
-    (spline_deltas_stop a.total a.left (length a.deltas.now) a.list.now after n (cc) (omega arith) (omega arith) (part_tail 1 a.list.now) a.deltas.now step.new.1.1.1.0 _ _ (rw c.in-Stop.is at step.ensures))
+    (spline_deltas_stop a.total a.left (length a.deltas.now) a.list.now after n (cc) (omega arith) (omega arith) (part_tail 1 a.list.now) a.deltas.now step.new.out _ _ (rw c.in-Stop.is at step.ensures))
 
 pub returns-in-Stop-read_coefficients : goal.returns-in-Stop-read_coefficients
 returns-in-Stop-read_coefficients c =
@@ -68,7 +67,7 @@ returns-in-Stop-read_coefficients c =
     let done = rw c.in-Done.is at step.ensures in
     let last = c.read_coefficients in
     spline_stop _ c.in-Stop-read_coefficients.c c.in-Stop-read_coefficients.p _ _ _ _
-    (spline_coefficients_stop a.total a.left (length a.deltas.now) a.list.now after n (cc) (omega arith) (omega arith) (part_tail 1 a.list.now) a.deltas.now step.new.1.1.1.0 done (take (length after - 2 * n) (drop (2 * n) after)) (part_tail (2 * n) after) a.coefficients.now last.new.1.1.1.0 _ _ (rw c.in-Stop-read_coefficients.is at last.ensures))
+    (spline_coefficients_stop a.total a.left (length a.deltas.now) a.list.now after n (cc) (omega arith) (omega arith) (part_tail 1 a.list.now) a.deltas.now step.new.out done (take (length after - 2 * n) (drop (2 * n) after)) (part_tail (2 * n) after) a.coefficients.now last.new.out _ _ (rw c.in-Stop-read_coefficients.is at last.ensures))
 
 pub returns-in-Done-read_coefficients : goal.returns-in-Done-read_coefficients
 returns-in-Done-read_coefficients c =
@@ -78,4 +77,4 @@ returns-in-Done-read_coefficients c =
     let step = c.read_deltas in
     let done = rw c.in-Done.is at step.ensures in
     let last = c.read_coefficients in
-    spline_done a.total a.left (length a.deltas.now) a.list.now after n (cc) (omega arith) (omega arith) (part_tail 1 a.list.now) a.deltas.now step.new.1.1.1.0 done (take (length after - 2 * n) (drop (2 * n) after)) (part_tail (2 * n) after) a.coefficients.now last.new.1.1.1.0 (rw c.in-Done-read_coefficients.is at last.ensures)
+    spline_done a.total a.left (length a.deltas.now) a.list.now after n (cc) (omega arith) (omega arith) (part_tail 1 a.list.now) a.deltas.now step.new.out done (take (length after - 2 * n) (drop (2 * n) after)) (part_tail (2 * n) after) a.coefficients.now last.new.out (rw c.in-Done-read_coefficients.is at last.ensures)

@@ -1,7 +1,5 @@
-use Prim.Native.Nat.{◌-◌}
 use native.Mathlib.Omega.{arith}
-use borrow.Author.Rules.{rules}
-use Rattle.read_splines.proofs.Splines.{Going, going_start, going_stop, going_done, going_long, going_left, going_turn}
+use Rattle.read_splines.proofs.Splines.{going_start, going_stop, going_done, going_long, going_left, going_turn}
 use Rattle.read_splines.proofs.read_splines.Goals as goal
 
 pub loop-i-init : goal.loop-i-init
@@ -15,7 +13,7 @@ returns-in-Stop c =
     let v = c.loop-i in
     let one = c.read_spline in
     going_stop a.list.now a.total a.limit a.s a.counts.now a.deltas.now a.coefficients.now
-    v.counts v.deltas v.coefficients v.rest.now v.left v.i v.d v.k v.invariant (omega arith) (omega arith) (omega arith) one.new.1.1.1.0 one.new.1.1.1.1.0 c.in-Stop.c c.in-Stop.p (rw c.in-Stop.is at one.ensures) _ _ _
+    v.counts v.deltas v.coefficients v.rest.now v.left v.i v.d v.k v.invariant (omega arith) (omega arith) (omega arith) one.new.deltas one.new.coefficients c.in-Stop.c c.in-Stop.p (rw c.in-Stop.is at one.ensures) _ _ _
 
 pub slice_bounds-rest-count : goal.slice_bounds-rest-count
 slice_bounds-rest-count c =
@@ -23,10 +21,18 @@ slice_bounds-rest-count c =
     let v = c.loop-i in
     let one = c.read_spline in
     going_long a.list.now a.total a.limit a.s a.counts.now a.deltas.now a.coefficients.now
-    v.counts v.deltas v.coefficients v.rest.now v.left v.i v.d v.k v.invariant (omega arith) (omega arith) (omega arith) one.new.1.1.1.0 one.new.1.1.1.1.0 c.in-Count.n (rw c.in-Count.is at one.ensures)
+    v.counts v.deltas v.coefficients v.rest.now v.left v.i v.d v.k v.invariant (omega arith) (omega arith) (omega arith) one.new.deltas one.new.coefficients c.in-Count.n (rw c.in-Count.is at one.ensures)
 
 pub slice_bounds-rest-start : goal.slice_bounds-rest-start
-slice_bounds-rest-start c = omega (arith, sub-rest c)
+slice_bounds-rest-start c =
+    let a = c.args in
+    let v = c.loop-i in
+    let one = c.read_spline in
+    omega (
+      arith,
+      going_long a.list.now a.total a.limit a.s a.counts.now a.deltas.now a.coefficients.now
+          v.counts v.deltas v.coefficients v.rest.now v.left v.i v.d v.k v.invariant (omega arith) (omega arith) (omega arith) one.new.deltas one.new.coefficients c.in-Count.n (rw c.in-Count.is at one.ensures),
+    )
 
 pub overflow_sub-left : goal.overflow_sub-left
 overflow_sub-left c =
@@ -34,7 +40,7 @@ overflow_sub-left c =
     let v = c.loop-i in
     let one = c.read_spline in
     going_left a.list.now a.total a.limit a.s a.counts.now a.deltas.now a.coefficients.now
-    v.counts v.deltas v.coefficients v.rest.now v.left v.i v.d v.k v.invariant (omega arith) (omega arith) (omega arith) one.new.1.1.1.0 one.new.1.1.1.1.0 c.in-Count.n (rw c.in-Count.is at one.ensures)
+    v.counts v.deltas v.coefficients v.rest.now v.left v.i v.d v.k v.invariant (omega arith) (omega arith) (omega arith) one.new.deltas one.new.coefficients c.in-Count.n (rw c.in-Count.is at one.ensures)
 
 pub loop-i-preserved : goal.loop-i-preserved
 loop-i-preserved c =
@@ -42,7 +48,7 @@ loop-i-preserved c =
     let v = c.loop-i in
     let one = c.read_spline in
     going_turn a.list.now a.total a.limit a.s a.counts.now a.deltas.now a.coefficients.now
-    v.counts v.deltas v.coefficients v.rest.now v.left v.i v.d v.k v.invariant (omega arith) (omega arith) (omega arith) one.new.1.1.1.0 one.new.1.1.1.1.0 c.in-Count.n (rw c.in-Count.is at one.ensures)
+    v.counts v.deltas v.coefficients v.rest.now v.left v.i v.d v.k v.invariant (omega arith) (omega arith) (omega arith) one.new.deltas one.new.coefficients c.in-Count.n (rw c.in-Count.is at one.ensures)
 
 pub returns : goal.returns
 returns c =

@@ -1,8 +1,6 @@
 -- `read_splines::read_splines` meets its contract. The invariant `Going` says how far the buffers are filled and what the rest of the list still gives.
 use Prim.Native.Nat.{◌-◌}
-use native.Mathlib.Omega.{arith}
-use borrow.Author.Rules.{rules}
-use Rattle.read_splines.proofs.Splines.{Going, going_start, going_stop, going_done, going_long, going_left, going_turn}
+use Rattle.read_splines.proofs.Splines.{Going}
 use Rattle.read_splines.proofs.read_splines.Given as goal
 
 abbrev pub invariant-loop-i : goal.invariant-loop-i
