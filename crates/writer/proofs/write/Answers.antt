@@ -1,7 +1,6 @@
 -- `writer::write` meets its contract: the list is cleared, the description judged, and its values stored where nothing was found.
 use mathlib.Core.Path.{sym, ◌∙◌}
 use native.Mathlib.Omega.{arith}
-use borrow.Author.Rules.{rules}
 use lib.ListN.{length}
 use mir.Syntax.{w32}
 use mir.Facts.{to_z-of_z}
@@ -35,7 +34,7 @@ returns-then-room-values c =
     let l = c.limit in
     let e = sym c.judge.ensures ∙ c.in-Fine.is in
     answer_room a.counts.now a.starts.now a.deltas.now a.coefficients.now a.adjustment a.configured a.pixels (length a.list.now) l.result l.ensures e
-    c.clear_u32.new.0 c.clear_u32.ensures c.if-room-values.true
+    c.clear_u32.new.cells c.clear_u32.ensures c.if-room-values.true
 
 pub put_list-requires : goal.put_list-requires
 put_list-requires c =
@@ -49,7 +48,7 @@ returns-in-Fault c =
     let a = c.args in
     let l = c.limit in
     answer_fault a.counts.now a.starts.now a.deltas.now a.coefficients.now a.adjustment a.configured a.pixels (length a.list.now) l.result l.ensures _ _
-    c.clear_u32.new.0 c.clear_u32.ensures (sym c.judge.ensures ∙ c.in-Fault.is)
+    c.clear_u32.new.cells c.clear_u32.ensures (sym c.judge.ensures ∙ c.in-Fault.is)
 
 pub returns-else-room-values : goal.returns-else-room-values
 returns-else-room-values c =
@@ -58,4 +57,4 @@ returns-else-room-values c =
     let e = sym c.judge.ensures ∙ c.in-Fine.is in
     let z = to_z-of_z {w = w32} {z = a.adjustment} c.ranges.adjustment in
     answer_done a.counts.now a.starts.now a.deltas.now a.coefficients.now a.adjustment a.configured a.pixels (length a.list.now) l.result l.ensures e
-    c.clear_u32.new.0 c.put_list.new.1.1.1.1.1.0 c.clear_u32.ensures c.if-room-values.false (rw z at c.put_list.ensures)
+    c.clear_u32.new.cells c.put_list.new.list c.clear_u32.ensures c.if-room-values.false (rw z at c.put_list.ensures)
