@@ -12,12 +12,12 @@ use Rattle.band_sums.proofs.sum_band.Goals as goal
 pub sum_rows-requires : goal.sum_rows-requires
 sum_rows-requires c =
     let A = c.args in
-    let h = band_begins A.height A.b c.requires.1.0 in
+    let h = band_begins A.height A.b c.requires.b_bound.0 in
     let e : c.if-first-rows.end ≡ min (64 * A.b + 64) A.height = ⊎_elim (λ w. omega arith) (λ w. omega arith) c.if-first-rows.branch in
-    record { lent = c.requires.0; y_le_end = (omega (arith, h, e), omega (arith, e), c.requires.1.1) }
+    record { lent = c.requires.lent; y_le_end = (omega (arith, h, e), omega (arith, e), c.requires.b_bound.1) }
 
 pub returns : goal.returns
 returns c =
     let A = c.args in
     let e : c.if-first-rows.end ≡ min (64 * A.b + 64) A.height = ⊎_elim (λ w. omega arith) (λ w. omega arith) c.if-first-rows.branch in
-    band_sum (table_of A.segments.now A.segment_count_lem A.entries.now A.entry_count_lem A.row_starts.now A.height) (sight_of A.owners.now A.splines A.bits.now A.desk) A.width A.b (64 * A.b) c.if-first-rows.end refl e c.sum_rows.ensures
+    band_sum (table_of A.segments.now A.segment_count A.entries.now A.entry_count A.row_starts.now A.height) (sight_of A.owners.now A.splines A.bits.now A.desk) A.width A.b (64 * A.b) c.if-first-rows.end refl e c.sum_rows.ensures

@@ -17,14 +17,14 @@ returns-then-segment_count-i c =
     let A = c.args in
     let l = c.loop-j in
     let t = c.loop-j-test.true in
-    sym (l.invariant.8 ∙ over_not_below A.segments.now A.segment_count_lem (sight_of A.owners.now A.splines A.bits.now A.desk) A.width A.e A.entries.now l.invariant.2 l.total l.j t (le-ltb _ _ c.if-segment_count-i.true))
+    sym (l.invariant.8 ∙ over_not_below A.segments.now A.segment_count (sight_of A.owners.now A.splines A.bits.now A.desk) A.width A.e A.entries.now l.invariant.2 l.total l.j t (le-ltb _ _ c.if-segment_count-i.true))
 
 pub returns-then-splines-owners : goal.returns-then-splines-owners
 returns-then-splines-owners c =
     let A = c.args in
     let l = c.loop-j in
     let t = c.loop-j-test.true in
-    sym (l.invariant.8 ∙ over_not_owned A.segments.now A.segment_count_lem (sight_of A.owners.now A.splines A.bits.now A.desk) A.width A.e A.entries.now l.invariant.2 l.total l.j t (le-ltb (get_or A.owners.now (get_or A.entries.now l.j 0) 0) A.splines (omega arith)))
+    sym (l.invariant.8 ∙ over_not_owned A.segments.now A.segment_count (sight_of A.owners.now A.splines A.bits.now A.desk) A.width A.e A.entries.now l.invariant.2 l.total l.j t (le-ltb (get_or A.owners.now (get_or A.entries.now l.j 0) 0) A.splines (omega arith)))
 
 pub loop-j-preserved : goal.loop-j-preserved
 loop-j-preserved c =
@@ -43,11 +43,11 @@ loop-j-preserved c =
       l.invariant.6,
       omega (arith, m, l.invariant.7),
       l.invariant.8
-          ∙ over_next A.segments.now A.segment_count_lem s A.width A.e A.entries.now l.invariant.2 l.total _ l.j t (lt-ltb _ _ c.if-segment_count-i.false) (lt-ltb (get_or A.owners.now (get_or A.entries.now l.j 0) 0) A.splines (omega arith)) q,
+          ∙ over_next A.segments.now A.segment_count s A.width A.e A.entries.now l.invariant.2 l.total _ l.j t (lt-ltb _ _ c.if-segment_count-i.false) (lt-ltb (get_or A.owners.now (get_or A.entries.now l.j 0) 0) A.splines (omega arith)) q,
     )
 
 pub returns : goal.returns
 returns c =
     let A = c.args in
     let l = c.loop-j in
-    sym (l.invariant.8 ∙ over_none A.segments.now A.segment_count_lem (sight_of A.owners.now A.splines A.bits.now A.desk) A.width A.e A.entries.now l.invariant.2 l.total l.j l.invariant.0 c.loop-j-test.false)
+    sym (l.invariant.8 ∙ over_none A.segments.now A.segment_count (sight_of A.owners.now A.splines A.bits.now A.desk) A.width A.e A.entries.now l.invariant.2 l.total l.j l.invariant.0 c.loop-j-test.false)

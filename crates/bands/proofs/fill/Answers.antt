@@ -11,29 +11,29 @@ use Rattle.bands.proofs.Whole.{good_on, goods_on, goods_off, goods_begin, goods_
 use Rattle.bands.proofs.fill.Goals as goal
 
 pub bands_in-bands-requires : goal.bands_in-bands-requires
-bands_in-bands-requires c = c.requires.0.counts.table.low
+bands_in-bands-requires c = c.requires.lent.counts.table.low
 
 pub loop-b-init : goal.loop-b-init
 loop-b-init c =
     let A = c.args in
-    (omega arith, refl, put_none _ _, goods_begin (table_of A.segments.now A.segment_count_lem A.entries.now A.entry_count_lem A.row_starts.now A.height) (sight_of A.owners.now A.splines A.bits.now A.desk))
+    (omega arith, refl, put_none _ _, goods_begin (table_of A.segments.now A.segment_count A.entries.now A.entry_count A.row_starts.now A.height) (sight_of A.owners.now A.splines A.bits.now A.desk))
 
 pub sum_band-requires : goal.sum_band-requires
-sum_band-requires c =  record { lent = c.requires.0; b_bound = (omega (arith, c.bands_in-bands.ensures), c.requires.1.1) }
+sum_band-requires c =  record { lent = c.requires.lent; b_bound = (omega (arith, c.bands_in-bands.ensures), c.requires.height_in_bounds.1) }
 
 pub returns-in_default : goal.returns-in_default
 returns-in_default c =
     let A = c.args in
     let l = c.loop-b in
     let g = sym c.sum_band.ensures ∙ c.in_default.is in
-    record { value = sym (l.invariant.3 ∙ goods_off (table_of A.segments.now A.segment_count_lem A.entries.now A.entry_count_lem A.row_starts.now A.height) (sight_of A.owners.now A.splines A.bits.now A.desk) l.b (was_bad _ _ g)); cells_after = λ e. absurd (not_so e) }
+    record { value = sym (l.invariant.3 ∙ goods_off (table_of A.segments.now A.segment_count A.entries.now A.entry_count A.row_starts.now A.height) (sight_of A.owners.now A.splines A.bits.now A.desk) l.b (was_bad _ _ g)); cells_after = λ e. absurd (not_so e) }
 
 pub put-requires : goal.put-requires
 put-requires c =
     let A = c.args in
     let l = c.loop-b in
     let h : l.b < bands_in A.height = omega (arith, c.bands_in-bands.ensures, c.loop-b-test.true) in
-    let k = cells_fit A.height l.b (length A.cells.now) h c.requires.1.0 in
+    let k = cells_fit A.height l.b (length A.cells.now) h c.requires.height_in_bounds.0 in
     let g : 5 * l.b + 5 ≤ length l.cells = omega (arith, k, l.invariant.1) in
     g
 
@@ -47,8 +47,8 @@ loop-b-preserved c =
     let w = was_good _ _ g in (
       n,
       put_length l.cells _ (5 * l.b) _ v ∙ l.invariant.1,
-      put_next A.cells.now (band_numbers (table_of A.segments.now A.segment_count_lem A.entries.now A.entry_count_lem A.row_starts.now A.height) (sight_of A.owners.now A.splines A.bits.now A.desk) A.width) l.cells _ l.b (5 * l.b) _ l.invariant.2 refl w.1 v,
-      l.invariant.3 ∙ goods_on (table_of A.segments.now A.segment_count_lem A.entries.now A.entry_count_lem A.row_starts.now A.height) (sight_of A.owners.now A.splines A.bits.now A.desk) l.b w.0,
+      put_next A.cells.now (band_numbers (table_of A.segments.now A.segment_count A.entries.now A.entry_count A.row_starts.now A.height) (sight_of A.owners.now A.splines A.bits.now A.desk) A.width) l.cells _ l.b (5 * l.b) _ l.invariant.2 refl w.1 v,
+      l.invariant.3 ∙ goods_on (table_of A.segments.now A.segment_count A.entries.now A.entry_count A.row_starts.now A.height) (sight_of A.owners.now A.splines A.bits.now A.desk) l.b w.0,
     )
 
 pub returns : goal.returns
@@ -57,4 +57,4 @@ returns c =
     let l = c.loop-b in
     let h : bands_in A.height ≤ l.b = omega (arith, c.bands_in-bands.ensures, c.loop-b-test.false) in
     let e : l.b ≡ bands_in A.height = omega (arith, c.bands_in-bands.ensures, c.loop-b-test.false, l.invariant.0) in
-    record { value = sym (l.invariant.3 ∙ goods_end (table_of A.segments.now A.segment_count_lem A.entries.now A.entry_count_lem A.row_starts.now A.height) (sight_of A.owners.now A.splines A.bits.now A.desk) l.b h); cells_after = λ k. l.invariant.2 ∙ ap (put_bands A.cells.now (band_numbers (table_of A.segments.now A.segment_count_lem A.entries.now A.entry_count_lem A.row_starts.now A.height) (sight_of A.owners.now A.splines A.bits.now A.desk) A.width)) e }
+    record { value = sym (l.invariant.3 ∙ goods_end (table_of A.segments.now A.segment_count A.entries.now A.entry_count A.row_starts.now A.height) (sight_of A.owners.now A.splines A.bits.now A.desk) l.b h); cells_after = λ k. l.invariant.2 ∙ ap (put_bands A.cells.now (band_numbers (table_of A.segments.now A.segment_count A.entries.now A.entry_count A.row_starts.now A.height) (sight_of A.owners.now A.splines A.bits.now A.desk) A.width)) e }

@@ -39,7 +39,7 @@ pub bands_in-requires : goal.bands_in-requires
 unfolding counts_good_for
 bands_in-requires c =
     let A = c.args in
-    let f = counts_facts_for (table_of A.segments.now A.segment_count_lem A.entries.now A.entry_count_lem A.row_starts.now A.height) (sight_of A.owners.now A.splines A.bits.now A.desk) (sym c.counts_good-counted.ensures ∙ not-false _ c.if-not-counted.false) in
+    let f = counts_facts_for (table_of A.segments.now A.segment_count A.entries.now A.entry_count A.row_starts.now A.height) (sight_of A.owners.now A.splines A.bits.now A.desk) (sym c.counts_good-counted.ensures ∙ not-false _ c.if-not-counted.false) in
     f.table.low
 
 pub returns-then-room-bands_in : goal.returns-then-room-bands_in

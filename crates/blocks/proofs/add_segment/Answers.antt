@@ -93,8 +93,8 @@ loop-a-preserved c =
     let g = c.block.ensures in
     let h = le_of_lt b.ensures.0 in
     let t0 = block_turn A.segment A.y A.x 0 _ l.a b.result _ A.r0.now l.r0 _ l.invariant.6 refl h b.ensures.1 l.invariant.7 g.r0_after in
-    let t1 = block_turn A.segment A.y A.x 1 _ l.a b.result _ A.r1.now l.r1 _ l.invariant.6 refl h (omega (arith, b.ensures.1, c.requires.0)) l.invariant.8 g.r1_after.0 in
-    let t2 = block_turn A.segment A.y A.x 2 _ l.a b.result _ A.r2.now l.r2 _ l.invariant.6 refl h (omega (arith, b.ensures.1, c.requires.1)) l.invariant.9 g.r1_after.1 in (
+    let t1 = block_turn A.segment A.y A.x 1 _ l.a b.result _ A.r1.now l.r1 _ l.invariant.6 refl h (omega (arith, b.ensures.1, c.requires.0)) l.invariant.8 g.r1_after in
+    let t2 = block_turn A.segment A.y A.x 2 _ l.a b.result _ A.r2.now l.r2 _ l.invariant.6 refl h (omega (arith, b.ensures.1, c.requires.1)) l.invariant.9 g.r2_after in (
       b.ensures.1,
       refl,
       l.invariant.2,

@@ -30,47 +30,47 @@ module _ (t : Table) (owners : List ℕ) where
 pub returns-then-segment_count-gt16777216 : goal.returns-then-segment_count-gt16777216
 returns-then-segment_count-gt16777216 c =
     let A = c.args in
-    let t = table_of A.segments.now A.segment_count_lem A.entries.now A.entry_count_lem A.row_starts.now A.height in
+    let t = table_of A.segments.now A.segment_count A.entries.now A.entry_count A.row_starts.now A.height in
     overrun t A.owners.now (many_segments (omega arith))
 
 pub returns-then-segments-segment_count : goal.returns-then-segments-segment_count
 returns-then-segments-segment_count c =
     let A = c.args in
-    let t = table_of A.segments.now A.segment_count_lem A.entries.now A.entry_count_lem A.row_starts.now A.height in
+    let t = table_of A.segments.now A.segment_count A.entries.now A.entry_count A.row_starts.now A.height in
     overrun t A.owners.now (segments_short (omega arith))
 
 pub returns-then-entry_count-gt1073741824 : goal.returns-then-entry_count-gt1073741824
 returns-then-entry_count-gt1073741824 c =
     let A = c.args in
-    let t = table_of A.segments.now A.segment_count_lem A.entries.now A.entry_count_lem A.row_starts.now A.height in
+    let t = table_of A.segments.now A.segment_count A.entries.now A.entry_count A.row_starts.now A.height in
     overrun t A.owners.now (many_entries c.if-entry_count-gt1073741824.true)
 
 pub returns-then-entries-entry_count : goal.returns-then-entries-entry_count
 returns-then-entries-entry_count c =
     let A = c.args in
-    let t = table_of A.segments.now A.segment_count_lem A.entries.now A.entry_count_lem A.row_starts.now A.height in
+    let t = table_of A.segments.now A.segment_count A.entries.now A.entry_count A.row_starts.now A.height in
     overrun t A.owners.now (entries_short c.if-entries-entry_count.true)
 
 pub returns-then-height-gt8388608 : goal.returns-then-height-gt8388608
 returns-then-height-gt8388608 c =
     let A = c.args in
-    let t = table_of A.segments.now A.segment_count_lem A.entries.now A.entry_count_lem A.row_starts.now A.height in
+    let t = table_of A.segments.now A.segment_count A.entries.now A.entry_count A.row_starts.now A.height in
     overrun t A.owners.now (high c.if-height-gt8388608.true)
 
 pub returns-then-row_starts-height : goal.returns-then-row_starts-height
 returns-then-row_starts-height c =
     let A = c.args in
-    let t = table_of A.segments.now A.segment_count_lem A.entries.now A.entry_count_lem A.row_starts.now A.height in
+    let t = table_of A.segments.now A.segment_count A.entries.now A.entry_count A.row_starts.now A.height in
     overrun t A.owners.now (starts_short c.if-row_starts-height.true)
 
 pub returns-then-owners-segment_count : goal.returns-then-owners-segment_count
 returns-then-owners-segment_count c =
     let A = c.args in
-    let t = table_of A.segments.now A.segment_count_lem A.entries.now A.entry_count_lem A.row_starts.now A.height in
+    let t = table_of A.segments.now A.segment_count A.entries.now A.entry_count A.row_starts.now A.height in
     short t A.owners.now (omega arith)
 
 pub returns : goal.returns
 returns c =
     let A = c.args in
-    let t = table_of A.segments.now A.segment_count_lem A.entries.now A.entry_count_lem A.row_starts.now A.height in
+    let t = table_of A.segments.now A.segment_count A.entries.now A.entry_count A.row_starts.now A.height in
     fit t A.owners.now (record { few_segments = c.if-segment_count-gt16777216.false; segments_fit = c.if-segments-segment_count.false; few_entries = c.if-entry_count-gt1073741824.false; entries_fit = c.if-entries-entry_count.false; low = c.if-height-gt8388608.false; starts_fit = c.if-row_starts-height.false }) (omega arith)

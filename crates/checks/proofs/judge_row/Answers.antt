@@ -36,7 +36,7 @@ pub entries_good-requires : goal.entries_good-requires
 unfolding counts_good_for
 entries_good-requires c =
     let A = c.args in
-    let f = counts_facts_for (table_of A.segments.now A.segment_count_lem A.entries.now A.entry_count_lem A.row_starts.now A.height) (sight_of A.owners.now A.splines A.bits.now A.desk) (sym c.counts_good-counted.ensures ∙ not-false c.counts_good-counted.result c.if-not-counted.false) in
+    let f = counts_facts_for (table_of A.segments.now A.segment_count A.entries.now A.entry_count A.row_starts.now A.height) (sight_of A.owners.now A.splines A.bits.now A.desk) (sym c.counts_good-counted.ensures ∙ not-false c.counts_good-counted.result c.if-not-counted.false) in
     (f.table.entries_fit, omega arith, f.owners_fit)
 
 pub returns-then-entries_good : goal.returns-then-entries_good

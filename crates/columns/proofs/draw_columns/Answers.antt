@@ -17,16 +17,13 @@ returns-then-to-from c =
     let g = c.greatest-from.ensures in
     let l = c.least-to.ensures in
     let t = c.if-to-from.true in
-    let A = c.args in (
-      omega (arith, count_between A.first A.past A.x0 A.n),
-      (
-        ranged_none (λ x v. shaded A.segment A.y x 0 v) _ A.first A.past A.x0 A.n (omega arith),
-        (
-          ranged_none (λ x v. shaded A.segment A.y x 1 v) _ A.first A.past A.x0 A.n (omega arith),
-          ranged_none (λ x v. shaded A.segment A.y x 2 v) _ A.first A.past A.x0 A.n (omega arith),
-        ),
-      ),
-    )
+    let A = c.args in
+    record {
+      value = omega (arith, count_between A.first A.past A.x0 A.n);
+      r0_after = ranged_none (λ x v. shaded A.segment A.y x 0 v) _ A.first A.past A.x0 A.n (omega arith);
+      r1_after = ranged_none (λ x v. shaded A.segment A.y x 1 v) _ A.first A.past A.x0 A.n (omega arith);
+      r2_after = ranged_none (λ x v. shaded A.segment A.y x 2 v) _ A.first A.past A.x0 A.n (omega arith);
+    }
 
 pub returns : goal.returns
 returns c =
@@ -37,13 +34,10 @@ returns c =
     let lt : from < to = c.if-to-from.false in
     let e = c.add_segment.ensures in
     let A = c.args in
-    let h = c.requires in (
-      omega (arith, count_between A.first A.past A.x0 A.n),
-      (
-        ranged_part (λ x v. shaded A.segment A.y x 0 v) A.r0.now _ A.first A.past A.x0 A.n from to p q lt h.1.0 e.r0_after,
-        (
-          ranged_part (λ x v. shaded A.segment A.y x 1 v) A.r1.now _ A.first A.past A.x0 A.n from to p q lt h.1.1 e.r1_after.0,
-          ranged_part (λ x v. shaded A.segment A.y x 2 v) A.r2.now _ A.first A.past A.x0 A.n from to p q lt h.1.2 e.r1_after.1,
-        ),
-      ),
-    )
+    let h = c.requires in
+    record {
+      value = omega (arith, count_between A.first A.past A.x0 A.n);
+      r0_after = ranged_part (λ x v. shaded A.segment A.y x 0 v) A.r0.now _ A.first A.past A.x0 A.n from to p q lt h.n_in_bounds.0 e.r0_after;
+      r1_after = ranged_part (λ x v. shaded A.segment A.y x 1 v) A.r1.now _ A.first A.past A.x0 A.n from to p q lt h.n_in_bounds.1 e.r1_after;
+      r2_after = ranged_part (λ x v. shaded A.segment A.y x 2 v) A.r2.now _ A.first A.past A.x0 A.n from to p q lt h.n_in_bounds.2 e.r2_after;
+    }

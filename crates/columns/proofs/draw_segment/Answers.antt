@@ -9,13 +9,10 @@ returns c =
     let p = c.at-segment.ensures in
     let q = c.columns-columns.ensures in
     let e = c.draw_columns.ensures in
-    let h = c.requires.1.0.0 in (
-      count_columns A.segments.now A.i A.x0 A.n _ _ _ p q h e.value,
-      (
-        draw_columns 0 A.segments.now A.i A.y A.x0 A.n _ _ _ _ p q h e.r0_after.0,
-        (
-          draw_columns 1 A.segments.now A.i A.y A.x0 A.n _ _ _ _ p q h e.r0_after.1.0,
-          draw_columns 2 A.segments.now A.i A.y A.x0 A.n _ _ _ _ p q h e.r0_after.1.1,
-        ),
-      ),
-    )
+    let h = c.requires.n_bound.0 in
+    record {
+      value = count_columns A.segments.now A.i A.x0 A.n _ _ _ p q h e.value;
+      r0_after = draw_columns 0 A.segments.now A.i A.y A.x0 A.n _ _ _ _ p q h e.r0_after;
+      r1_after = draw_columns 1 A.segments.now A.i A.y A.x0 A.n _ _ _ _ p q h e.r1_after;
+      r2_after = draw_columns 2 A.segments.now A.i A.y A.x0 A.n _ _ _ _ p q h e.r2_after;
+    }

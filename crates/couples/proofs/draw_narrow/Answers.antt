@@ -8,44 +8,43 @@ use Rattle.couples.proofs.draw_narrow.Goals as goal
 
 pub squares_at-requires : goal.squares_at-requires
 squares_at-requires c =
-    let h = c.requires.0 in
+    let h = c.requires.x0_le_first in
     (omega arith, refl, omega arith, h.8)
 
 pub squares_at-requires-2 : goal.squares_at-requires-2
 squares_at-requires-2 c =
-    let h = c.requires.0 in
+    let h = c.requires.x0_le_first in
     (omega arith, refl, omega arith, h.8)
 
 pub roots-requires : goal.roots-requires
-roots-requires c = (omega arith, c.type_inv.v.ensures.0)
+roots-requires c = (omega arith, c.squares_at.ensures.v_len)
 
 pub roots-requires-2 : goal.roots-requires-2
-roots-requires-2 c = (omega arith, c.type_inv.w.ensures.0)
+roots-requires-2 c = (omega arith, c.squares_at-2.ensures.v_len)
 
 pub intensities_at-requires : goal.intensities_at-requires
-intensities_at-requires c = (omega arith, ap length c.type_inv.v.ensures ∙ length_edit _ _ ∙ c.type_inv.v.ensures.0)
+intensities_at-requires c = (omega arith, ap length c.roots.ensures ∙ length_edit _ _ ∙ c.squares_at.ensures.v_len)
 
 pub intensities_at-requires-2 : goal.intensities_at-requires-2
-intensities_at-requires-2 c = (omega arith, ap length c.type_inv.w.ensures ∙ length_edit _ _ ∙ c.type_inv.w.ensures.0)
+intensities_at-requires-2 c = (omega arith, ap length c.roots-2.ensures ∙ length_edit _ _ ∙ c.squares_at-2.ensures.v_len)
 
 pub add_in-requires : goal.add_in-requires
 add_in-requires c =
     let h = c.requires in
-    record { x0_le_first = (h.0.0, h.0.1, h.0.2); past_bound = (h.1.0.0, h.1.0.1, h.1.0.2) }
+    record { x0_le_first = (h.x0_le_first.0, h.x0_le_first.1, h.x0_le_first.2); past_bound = (h.past_bound.0, h.past_bound.1, h.past_bound.2) }
 
 pub add_in-requires-2 : goal.add_in-requires-2
 add_in-requires-2 c =
     let h = c.requires in
     let e = c.add_in.ensures in
-    record { x0_le_first = (h.0.4, h.0.5, h.0.6); past_bound = (still_within _ _ _ _ _ e.r0_after h.1.1.0, still_within _ _ _ _ _ e.r1_after.0 h.1.1.1, still_within _ _ _ _ _ e.r1_after.1 h.1.1.2) }
+    record { x0_le_first = (h.x0_le_first.4, h.x0_le_first.5, h.x0_le_first.6); past_bound = (still_within _ _ _ _ _ e.r0_after h.past_bound_2.0, still_within _ _ _ _ _ e.r1_after h.past_bound_2.1, still_within _ _ _ _ _ e.r2_after h.past_bound_2.2) }
 
 pub returns : goal.returns
 returns c =
     let A = c.args in
-    let v = held A.one A.y A.p.first _ _ _ _ c.type_inv.v.ensures.0 (omega arith) c.type_inv.v.ensures.1 c.type_inv.v.ensures c.type_inv.v.ensures in
-    let w = held A.two A.y A.q.first _ _ _ _ c.type_inv.w.ensures.0 (omega arith) c.type_inv.w.ensures.1 c.type_inv.w.ensures c.type_inv.w.ensures in
+    let v = held A.one A.y A.p.first _ _ _ _ c.squares_at.ensures.v_len (omega arith) c.squares_at.ensures.holds c.roots.ensures c.intensities_at.ensures in
+    let w = held A.two A.y A.q.first _ _ _ _ c.squares_at-2.ensures.v_len (omega arith) c.squares_at-2.ensures.holds c.roots-2.ensures c.intensities_at-2.ensures in
     let e = c.add_in.ensures in
-    let f = c.add_in-2.ensures in record { r0_after = added_two A.one A.two A.p A.q _ _ A.y A.x0 0 A.r0.now _ _ v w e.r0_after f.r0_after; r1_after = (
-        added_two A.one A.two A.p A.q _ _ A.y A.x0 1 A.r1.now _ _ v w e.r1_after.0 f.r1_after.0,
-        added_two A.one A.two A.p A.q _ _ A.y A.x0 2 A.r2.now _ _ v w e.r1_after.1 f.r1_after.1,
-      ); r2_after =  }
+    let f = c.add_in-2.ensures in record { r0_after = added_two A.one A.two A.p A.q _ _ A.y A.x0 0 A.r0.now _ _ v w e.r0_after f.r0_after; r1_after =
+        added_two A.one A.two A.p A.q _ _ A.y A.x0 1 A.r1.now _ _ v w e.r1_after f.r1_after; r2_after =
+        added_two A.one A.two A.p A.q _ _ A.y A.x0 2 A.r2.now _ _ v w e.r2_after f.r2_after }

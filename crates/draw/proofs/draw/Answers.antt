@@ -47,10 +47,10 @@ draw_entries-requires c =
 pub returns-in-Fault : goal.returns-in-Fault
 returns-in-Fault c =
     let A = c.args in
-    answer_fault (table_of A.segments.now A.segment_count_lem A.entries.now A.entry_count_lem A.row_starts.now A.height) (sight_of A.owners.now A.splines A.bits.now A.desk) A.y A.x0 A.n (three A.r0.now A.r1.now A.r2.now) (sym c.judge.ensures ∙ c.in-Fault.is)
+    answer_fault (table_of A.segments.now A.segment_count A.entries.now A.entry_count A.row_starts.now A.height) (sight_of A.owners.now A.splines A.bits.now A.desk) A.y A.x0 A.n (three A.r0.now A.r1.now A.r2.now) (sym c.judge.ensures ∙ c.in-Fault.is)
 
 pub returns-in-Fine : goal.returns-in-Fine
 returns-in-Fine c =
     let A = c.args in
     let d = c.draw_entries.ensures in
-    answer_done (table_of A.segments.now A.segment_count_lem A.entries.now A.entry_count_lem A.row_starts.now A.height) (sight_of A.owners.now A.splines A.bits.now A.desk) A.y A.x0 A.n (three A.r0.now A.r1.now A.r2.now) (sym c.judge.ensures ∙ c.in-Fine.is) d.value d.r0_after.0 d.r0_after.1.0 d.r0_after.1.1
+    answer_done (table_of A.segments.now A.segment_count A.entries.now A.entry_count A.row_starts.now A.height) (sight_of A.owners.now A.splines A.bits.now A.desk) A.y A.x0 A.n (three A.r0.now A.r1.now A.r2.now) (sym c.judge.ensures ∙ c.in-Fine.is) d.value d.r0_after d.r1_after d.r2_after

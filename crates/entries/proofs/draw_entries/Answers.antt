@@ -14,7 +14,7 @@ use Rattle.entries.proofs.draw_entries.Goals as goal
 
 pub loop-j-init : goal.loop-j-init
 loop-j-init c =
-    (omega arith, refl, refl, refl, c.requires.1.0.0, omega arith, refl, refl, refl, c.requires.1.0.1)
+    (omega arith, refl, refl, refl, c.requires.entries_value.0, omega arith, refl, refl, refl, c.requires.entries_value.1)
 
 pub overflow_cast-first : goal.overflow_cast-first
 overflow_cast-first c = omega (arith, c.type_inv.entries c.loop-j.j)
@@ -29,11 +29,11 @@ draw_two-requires c =
     let t = c.loop-j-test.true in
     let u : l.j < A.e = omega arith in
     let w : l.j + 1 < A.e = omega arith in
-    let f = first_below A.segment_count_lem l.j A.e A.entries.now u c.requires.0.1 l.invariant.4 in
-    let g = first_owned A.owners.now A.splines l.j A.e A.entries.now u c.requires.0.1 l.invariant.9 in
-    let f2 = first_below A.segment_count_lem (l.j + 1) A.e A.entries.now w c.requires.0.1 (rest_below A.segment_count_lem l.j A.e A.entries.now u c.requires.0.1 l.invariant.4) in
-    let g2 = first_owned A.owners.now A.splines (l.j + 1) A.e A.entries.now w c.requires.0.1 (rest_owned A.owners.now A.splines l.j A.e A.entries.now u c.requires.0.1 l.invariant.9) in
-    record { i_in_bounds = omega (arith, f, g, c.requires.0); j_in_bounds = omega (arith, f2, g2, c.requires.0); n_bound = c.requires.1.1.0; n_in_bounds = omega (arith, c.requires.1.1.1, l.invariant.1, l.invariant.2, l.invariant.3) }
+    let f = first_below A.segment_count l.j A.e A.entries.now u c.requires.b_le_e.1 l.invariant.4 in
+    let g = first_owned A.owners.now A.splines l.j A.e A.entries.now u c.requires.b_le_e.1 l.invariant.9 in
+    let f2 = first_below A.segment_count (l.j + 1) A.e A.entries.now w c.requires.b_le_e.1 (rest_below A.segment_count l.j A.e A.entries.now u c.requires.b_le_e.1 l.invariant.4) in
+    let g2 = first_owned A.owners.now A.splines (l.j + 1) A.e A.entries.now w c.requires.b_le_e.1 (rest_owned A.owners.now A.splines l.j A.e A.entries.now u c.requires.b_le_e.1 l.invariant.9) in
+    record { i_in_bounds = omega (arith, f, g, c.requires.b_le_e); j_in_bounds = omega (arith, f2, g2, c.requires.b_le_e); n_bound = c.requires.n_bound; n_in_bounds = omega (arith, c.requires.n_in_bounds, l.invariant.1, l.invariant.2, l.invariant.3) }
 
 pub overflow_add-total : goal.overflow_add-total
 overflow_add-total c =
@@ -44,8 +44,8 @@ overflow_add-total c =
     let w : l.j + 1 < A.e = omega arith in
     omega (
       arith,
-      updates_small s A.segments.now A.x0 A.n A.b A.e A.entries.now (omega arith) c.requires.0.1 c.requires.0.2,
-      total_next_two s A.segments.now A.x0 A.n l.j A.e A.entries.now w c.requires.0.1 l.total _ _ l.invariant.5 c.draw_two.ensures.value,
+      updates_small s A.segments.now A.x0 A.n A.b A.e A.entries.now (omega arith) c.requires.b_le_e.1 c.requires.b_le_e.2,
+      total_next_two s A.segments.now A.x0 A.n l.j A.e A.entries.now w c.requires.b_le_e.1 l.total _ _ l.invariant.5 c.draw_two.ensures.value,
     )
 
 pub loop-j-preserved : goal.loop-j-preserved
@@ -62,28 +62,28 @@ loop-j-preserved c =
       omega arith,
       omega arith,
       omega arith,
-      ap (λ (m : ℕ). all_below A.segment_count_lem (slice m A.e A.entries.now)) two ∙ rest_below A.segment_count_lem (l.j + 1) A.e A.entries.now w c.requires.0.1 (rest_below A.segment_count_lem l.j A.e A.entries.now u c.requires.0.1 l.invariant.4),
-      total_next_two s A.segments.now A.x0 A.n l.j A.e A.entries.now w c.requires.0.1 l.total _ _ l.invariant.5 g.value,
-      rest_next_two s A.segments.now A.x0 A.n l.j A.e A.entries.now w c.requires.0.1 0 A.y l.r0 _ _ l.invariant.6 g.r0_after.0,
-      rest_next_two s A.segments.now A.x0 A.n l.j A.e A.entries.now w c.requires.0.1 1 A.y l.r1 _ _ l.invariant.7 g.r0_after.1.0,
-      rest_next_two s A.segments.now A.x0 A.n l.j A.e A.entries.now w c.requires.0.1 2 A.y l.r2 _ _ l.invariant.8 g.r0_after.1.1,
-      ap (λ (m : ℕ). all_owned A.owners.now A.splines (slice m A.e A.entries.now)) two ∙ rest_owned A.owners.now A.splines (l.j + 1) A.e A.entries.now w c.requires.0.1 (rest_owned A.owners.now A.splines l.j A.e A.entries.now u c.requires.0.1 l.invariant.9),
+      ap (λ (m : ℕ). all_below A.segment_count (slice m A.e A.entries.now)) two ∙ rest_below A.segment_count (l.j + 1) A.e A.entries.now w c.requires.b_le_e.1 (rest_below A.segment_count l.j A.e A.entries.now u c.requires.b_le_e.1 l.invariant.4),
+      total_next_two s A.segments.now A.x0 A.n l.j A.e A.entries.now w c.requires.b_le_e.1 l.total _ _ l.invariant.5 g.value,
+      rest_next_two s A.segments.now A.x0 A.n l.j A.e A.entries.now w c.requires.b_le_e.1 0 A.y l.r0 _ _ l.invariant.6 g.r0_after,
+      rest_next_two s A.segments.now A.x0 A.n l.j A.e A.entries.now w c.requires.b_le_e.1 1 A.y l.r1 _ _ l.invariant.7 g.r1_after,
+      rest_next_two s A.segments.now A.x0 A.n l.j A.e A.entries.now w c.requires.b_le_e.1 2 A.y l.r2 _ _ l.invariant.8 g.r2_after,
+      ap (λ (m : ℕ). all_owned A.owners.now A.splines (slice m A.e A.entries.now)) two ∙ rest_owned A.owners.now A.splines (l.j + 1) A.e A.entries.now w c.requires.b_le_e.1 (rest_owned A.owners.now A.splines l.j A.e A.entries.now u c.requires.b_le_e.1 l.invariant.9),
     )
 
 pub draw_each-requires : goal.draw_each-requires
 draw_each-requires c =
     let l = c.loop-j in
-    record { b_le_e = (l.invariant.0, c.requires.0.1, c.requires.0.2, c.requires.0.3, c.requires.0.4, c.requires.0.5, c.requires.0.6); entries_value = (l.invariant.4, l.invariant.9); n_bound = c.requires.1.1.0; n_in_bounds = omega (arith, c.requires.1.1.1, l.invariant.1, l.invariant.2, l.invariant.3) }
+    record { b_le_e = (l.invariant.0, c.requires.b_le_e.1, c.requires.b_le_e.2, c.requires.b_le_e.3, c.requires.b_le_e.4, c.requires.b_le_e.5, c.requires.b_le_e.6); entries_value = (l.invariant.4, l.invariant.9); n_bound = c.requires.n_bound; n_in_bounds = omega (arith, c.requires.n_in_bounds, l.invariant.1, l.invariant.2, l.invariant.3) }
 
 pub overflow_add-result : goal.overflow_add-result
 overflow_add-result c =
     let A = c.args in
     let s = sight_of A.owners.now A.splines A.bits.now A.desk in
     let l = c.loop-j in
-    omega (arith, updates_small s A.segments.now A.x0 A.n A.b A.e A.entries.now (omega arith) c.requires.0.1 c.requires.0.2, l.invariant.5, c.draw_each.ensures.value)
+    omega (arith, updates_small s A.segments.now A.x0 A.n A.b A.e A.entries.now (omega arith) c.requires.b_le_e.1 c.requires.b_le_e.2, l.invariant.5, c.draw_each.ensures.value)
 
 pub returns : goal.returns
 returns c =
     let l = c.loop-j in
     let g = c.draw_each.ensures in
-    record { value = omega (arith, l.invariant.5, g.value); r0_after = g.r0_after.0 ∙ l.invariant.6; r1_after = g.r0_after.1.0 ∙ l.invariant.7; r2_after = g.r0_after.1.1 ∙ l.invariant.8 }
+    record { value = omega (arith, l.invariant.5, g.value); r0_after = g.r0_after ∙ l.invariant.6; r1_after = g.r1_after ∙ l.invariant.7; r2_after = g.r2_after ∙ l.invariant.8 }

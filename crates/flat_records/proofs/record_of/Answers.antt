@@ -28,23 +28,6 @@ past : (xs : List Float) (us : List ℕ) (c k : ℕ) → c ≤ k → zero_record
 unfolding record_of
 past xs us c k p = rw (le-ltb k c p) refl
 
-pub record-of-spec : {M : Type 1} → statement M
-
-record-of-spec =
-    tie.close
-    (tie.spec
-    zero-record-requires
-    returns
-    zero-record-requires-2
-    returns-2
-    zero-record-requires-3
-    returns-3
-    mul-owner
-    shared-slice-read-owner
-    at-requires
-    joined-requires
-    returns-4)
-
 pub returns-then-count-k : goal.returns-then-count-k
 returns-then-count-k c =
     let A = c.args in

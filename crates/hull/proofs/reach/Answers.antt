@@ -47,9 +47,9 @@ reach_entries-found-requires c =
 pub returns-in-Fault : goal.returns-in-Fault
 returns-in-Fault c =
     let A = c.args in
-    reach_fault (table_of A.segments.now A.segment_count_lem A.entries.now A.entry_count_lem A.row_starts.now A.height) (sight_of A.owners.now A.splines A.bits.now A.desk) A.y A.width (sym c.judge_reach.ensures ∙ c.in-Fault.is)
+    reach_fault (table_of A.segments.now A.segment_count A.entries.now A.entry_count A.row_starts.now A.height) (sight_of A.owners.now A.splines A.bits.now A.desk) A.y A.width (sym c.judge_reach.ensures ∙ c.in-Fault.is)
 
 pub returns-in-Fine : goal.returns-in-Fine
 returns-in-Fine c =
     let A = c.args in
-    reach_done (table_of A.segments.now A.segment_count_lem A.entries.now A.entry_count_lem A.row_starts.now A.height) (sight_of A.owners.now A.splines A.bits.now A.desk) A.y A.width _ (sym c.judge_reach.ensures ∙ c.in-Fine.is) c.reach_entries-found.ensures
+    reach_done (table_of A.segments.now A.segment_count A.entries.now A.entry_count A.row_starts.now A.height) (sight_of A.owners.now A.splines A.bits.now A.desk) A.y A.width _ (sym c.judge_reach.ensures ∙ c.in-Fine.is) c.reach_entries-found.ensures

@@ -12,10 +12,13 @@ returns-then-hides c =
     let A = c.args in
     let s = sight_of A.owners.now A.splines A.bits.now A.desk in
     let t : c.hidden-hides.result ≡ true = c.if-hides.true in
-    let h = sym c.hidden-hides.ensures ∙ t in (
-      omega (arith, hidden_counts s A.segments.now A.y A.x0 A.n A.i h),
-      (hidden_kept s A.segments.now A.y A.x0 A.n A.i 0 A.r0.now h, (hidden_kept s A.segments.now A.y A.x0 A.n A.i 1 A.r1.now h, hidden_kept s A.segments.now A.y A.x0 A.n A.i 2 A.r2.now h)),
-    )
+    let h = sym c.hidden-hides.ensures ∙ t in
+    record {
+      value = omega (arith, hidden_counts s A.segments.now A.y A.x0 A.n A.i h);
+      r0_after = hidden_kept s A.segments.now A.y A.x0 A.n A.i 0 A.r0.now h;
+      r1_after = hidden_kept s A.segments.now A.y A.x0 A.n A.i 1 A.r1.now h;
+      r2_after = hidden_kept s A.segments.now A.y A.x0 A.n A.i 2 A.r2.now h;
+    }
 
 pub draw_segment-requires : goal.draw_segment-requires
 draw_segment-requires c =  record { i_in_bounds = omega arith; n_bound = omega arith; n_in_bounds = omega arith }
@@ -26,10 +29,10 @@ returns-else-hides c =
     let s = sight_of A.owners.now A.splines A.bits.now A.desk in
     let t : c.hidden-hides.result ≡ false = c.if-hides.false in
     let h = sym c.hidden-hides.ensures ∙ t in
-    let e = c.draw_segment.ensures in (
-      shown_counts s A.segments.now A.y A.x0 A.n A.i h e.value,
-      (
-        shown_drawn s A.segments.now A.y A.x0 A.n A.i 0 _ _ h e.r0_after.0,
-        (shown_drawn s A.segments.now A.y A.x0 A.n A.i 1 _ _ h e.r0_after.1.0, shown_drawn s A.segments.now A.y A.x0 A.n A.i 2 _ _ h e.r0_after.1.1),
-      ),
-    )
+    let e = c.draw_segment.ensures in
+    record {
+      value = shown_counts s A.segments.now A.y A.x0 A.n A.i h e.value;
+      r0_after = shown_drawn s A.segments.now A.y A.x0 A.n A.i 0 _ _ h e.r0_after;
+      r1_after = shown_drawn s A.segments.now A.y A.x0 A.n A.i 1 _ _ h e.r1_after;
+      r2_after = shown_drawn s A.segments.now A.y A.x0 A.n A.i 2 _ _ h e.r2_after;
+    }
