@@ -42,7 +42,7 @@ overflow_cast-e c = omega (arith, c.type_inv.row_starts (c.args.y + 1))
 pub reach_entries-found-requires : goal.reach_entries-found-requires
 reach_entries-found-requires c =
     let f = judged_reach _ _ _ _ (sym c.judge_reach.ensures ∙ c.in-Fine.is) in
-    (omega arith, (f.row.table.all_named, f.row.all_owned_lem))
+    record { b_le_e = omega arith; entries_value = (f.row.table.all_named, f.row.all_owned_lem) }
 
 pub returns-in-Fault : goal.returns-in-Fault
 returns-in-Fault c =
