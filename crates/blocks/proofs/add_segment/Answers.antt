@@ -1,10 +1,8 @@
-use mathlib.Core.Path.{◌≡◌, refl, sym, ap, ◌∙◌}
-use Prim.Native.Nat.{◌+◌, ◌-◌, ◌≤◌, ◌^◌, zero-le}
+use mathlib.Core.Path.{refl, sym, ap, ◌∙◌}
+use Prim.Native.Nat.{zero-le}
 use native.Mathlib.Nat.{le_of_lt}
 use native.Mathlib.Omega.{arith}
 use lib.ListN.{length}
-use Rattle.shade.specs.Edit.{edit, first_cells}
-use Rattle.shade.specs.Shade.{dy2, shaded}
 use Rattle.shade.proofs.Edits.{length_edit, edit_none, edit_all}
 use Rattle.blocks.proofs.Blocks.{part_long, block_turn}
 use Rattle.blocks.proofs.add_segment.Goals as goal

@@ -1,13 +1,9 @@
 -- The cells below a of each channel have the segment added, from block to block; one law turns each channel.
-use mathlib.Core.Path.{◌≡◌, refl, sym, ap, ◌∙◌}
-use Prim.Native.Nat.{◌+◌, ◌-◌, ◌≤◌, ◌^◌, zero-le}
-use native.Mathlib.Nat.{le_of_lt}
-use native.Mathlib.Omega.{arith}
+use mathlib.Core.Path.{◌≡◌}
+use Prim.Native.Nat.{◌+◌, ◌-◌, ◌≤◌, ◌^◌}
 use lib.ListN.{length}
 use Rattle.shade.specs.Edit.{edit, first_cells}
 use Rattle.shade.specs.Shade.{dy2, shaded}
-use Rattle.shade.proofs.Edits.{length_edit, edit_none, edit_all}
-use Rattle.blocks.proofs.Blocks.{part_long, block_turn}
 use Rattle.blocks.proofs.add_segment.Given as goal
 
 abbrev pub invariant-loop-a : goal.invariant-loop-a

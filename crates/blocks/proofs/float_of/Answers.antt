@@ -9,7 +9,6 @@ use lib.Ieee.{binary32, of_int, in_float}
 use mir.Syntax.{w32}
 use mir.Val.{hbits}
 use mir.Facts.{to_z_pos}
-use borrow.Author.Rules.{rules}
 use Rattle.numbers.proofs.Units.{castable}
 use Rattle.blocks.proofs.float_of.Goals as goal
 

@@ -1,9 +1,5 @@
-use mathlib.Core.Path.{◌≡◌}
-use Prim.Native.Nat.{◌-◌, ◌≤◌}
 use native.Mathlib.Omega.{arith}
-use lib.ListN.{length, length-set}
-use Rattle.shade.specs.Edit.{edit, first_cells}
-use Rattle.shade.specs.Shade.{intensity_at}
+use lib.ListN.{length-set}
 use Rattle.shade.proofs.Edits.{edit_none, edit_until, stored}
 use Rattle.blocks.proofs.intensities.Goals as goal
 

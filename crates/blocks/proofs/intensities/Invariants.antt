@@ -1,11 +1,9 @@
 -- The cells below k are intensities by the distances that stood there, from turn to turn.
 use mathlib.Core.Path.{◌≡◌}
 use Prim.Native.Nat.{◌-◌, ◌≤◌}
-use native.Mathlib.Omega.{arith}
-use lib.ListN.{length, length-set}
+use lib.ListN.{length}
 use Rattle.shade.specs.Edit.{edit, first_cells}
 use Rattle.shade.specs.Shade.{intensity_at}
-use Rattle.shade.proofs.Edits.{edit_none, edit_until, stored}
 use Rattle.blocks.proofs.intensities.Given as goal
 
 abbrev pub invariant-loop-k : goal.invariant-loop-k

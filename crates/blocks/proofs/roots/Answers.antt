@@ -1,10 +1,5 @@
-use mathlib.Core.Path.{◌≡◌}
-use Prim.Native.Nat.{◌-◌, ◌≤◌}
 use native.Mathlib.Omega.{arith}
-use lib.ListN.{length, length-set}
-use lib.Ieee.{binary32}
-use Rattle.roots.specs.Root.{sqrt_of}
-use Rattle.shade.specs.Edit.{edit, first_cells}
+use lib.ListN.{length-set}
 use Rattle.shade.proofs.Edits.{edit_none, edit_until, stored}
 use Rattle.blocks.proofs.roots.Goals as goal
 

@@ -1,12 +1,10 @@
 -- The cells below k are roots of what stood there, from turn to turn.
 use mathlib.Core.Path.{◌≡◌}
 use Prim.Native.Nat.{◌-◌, ◌≤◌}
-use native.Mathlib.Omega.{arith}
-use lib.ListN.{length, length-set}
+use lib.ListN.{length}
 use lib.Ieee.{binary32}
 use Rattle.roots.specs.Root.{sqrt_of}
 use Rattle.shade.specs.Edit.{edit, first_cells}
-use Rattle.shade.proofs.Edits.{edit_none, edit_until, stored}
 use Rattle.blocks.proofs.roots.Given as goal
 
 abbrev pub invariant-loop-k : goal.invariant-loop-k

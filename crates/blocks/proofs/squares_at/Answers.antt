@@ -1,7 +1,6 @@
 -- The squares of whole fours: the first m are those asked for.
-use mathlib.Core.Path.{refl, ap, ◌∙◌}
+use mathlib.Core.Path.{◌∙◌}
 use native.Mathlib.Omega.{arith}
-use lib.ListN.{length}
 use Rattle.shade.specs.Shade.{Holds}
 use Rattle.blocks.proofs.Blocks.{passed, as_long}
 use Rattle.blocks.proofs.squares_at.Goals as goal

@@ -9,7 +9,6 @@ use borrow.Author.Tests.{lt-ltb, le-ltb}
 use Rattle.segments.specs.declared.Segment.{Segment}
 use Rattle.segments.specs.Segment.{segment_at}
 use Rattle.flat_records.specs.Records.{joined_of, zero_record, record_of}
-use borrow.Author.Rules.{rules}
 use Rattle.flat_records.proofs.record_of.Goals as goal
 
 shown : (xs : List Float) (us : List ℕ) (c k : ℕ) → k < c → k < length xs / 8 → k < length us → joined_of (segment_at xs k) (get_or us k 0) ≡ record_of xs us c k
