@@ -1,9 +1,5 @@
-use mathlib.Core.Path.{◌≡◌, ◌∙◌, ap}
-use Prim.Native.Nat.{◌-◌, ◌*◌, ◌≤◌}
 use native.Mathlib.Omega.{arith}
-use lib.ListN.{length}
-use Rattle.buffers.proofs.Filling.{Filled, filled_length}
-use Rattle.pixels.specs.Pixels.{at, each, pixels_of, floats_of}
+use Rattle.pixels.specs.Pixels.{at, floats_of}
 use Rattle.pixels.proofs.Strips.{strip_begin, strip_more, strip_end, twelve}
 use borrow.Author.Rules.{rules}
 use Rattle.pixels.proofs.floats.Goals as goal

@@ -1,12 +1,9 @@
 -- `pixels::floats`: pixel after pixel is stored behind those before it.
-use mathlib.Core.Path.{◌≡◌, ◌∙◌, ap}
+use mathlib.Core.Path.{◌≡◌}
 use Prim.Native.Nat.{◌-◌, ◌*◌, ◌≤◌}
-use native.Mathlib.Omega.{arith}
 use lib.ListN.{length}
-use Rattle.buffers.proofs.Filling.{Filled, filled_length}
+use Rattle.buffers.proofs.Filling.{Filled}
 use Rattle.pixels.specs.Pixels.{at, each, pixels_of, floats_of}
-use Rattle.pixels.proofs.Strips.{strip_begin, strip_more, strip_end, twelve}
-use borrow.Author.Rules.{rules}
 use Rattle.pixels.proofs.floats.Given as goal
 
 abbrev pub invariant-loop-i : goal.invariant-loop-i

@@ -4,7 +4,6 @@ use lib.Ieee.{binary32, to_bits}
 use lib.Ieee.Compare.{differs_from_itself}
 use Rattle.numbers.proofs.Zero.{yes}
 use Rattle.numbers.proofs.Signs.{nan_no}
-use borrow.Author.Rules.{rules}
 use Rattle.pixels.proofs.pattern.Goals as goal
 
 pub float_to_bits-result : goal.float_to_bits-result

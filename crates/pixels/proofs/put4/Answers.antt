@@ -5,7 +5,6 @@ use native.Mathlib.Omega.{arith}
 use native.Mathlib.Numerals.{add-one}
 use lib.ListN.{length-set}
 use Rattle.pixels.specs.Pixels.{bytes_of}
-use borrow.Author.Rules.{rules}
 use Rattle.pixels.proofs.put4.Goals as goal
 
 add-two : (n : ℕ) → n + 2 ≡ suc (suc n)

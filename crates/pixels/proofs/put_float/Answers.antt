@@ -1,5 +1,4 @@
 -- `pixels::put_float`: the four bytes of the pattern.
-use borrow.Author.Rules.{rules}
 use Rattle.pixels.proofs.put_float.Goals as goal
 
 pub returns : goal.returns

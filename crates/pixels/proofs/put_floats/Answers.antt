@@ -1,6 +1,5 @@
 -- `pixels::put_floats`: twelve bytes, four behind four.
 use Rattle.pixels.proofs.Strips.{stored_floats}
-use borrow.Author.Rules.{rules}
 use Rattle.pixels.proofs.put_floats.Goals as goal
 
 pub returns : goal.returns

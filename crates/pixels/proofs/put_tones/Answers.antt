@@ -1,6 +1,5 @@
 -- `pixels::put_tones`: each byte is its tone.
 use Rattle.pixels.specs.Pixels.{tones_of}
-use borrow.Author.Rules.{rules}
 use Rattle.pixels.proofs.put_tones.Goals as goal
 
 pub returns : goal.returns

@@ -1,7 +1,6 @@
 -- `pixels::tone`: the test at 255 cuts what is greater.
 use native.Mathlib.Omega.{arith}
 use Rattle.pixels.proofs.Strips.{tone_low, tone_high}
-use borrow.Author.Rules.{rules}
 use Rattle.pixels.proofs.tone.Goals as goal
 
 pub returns-then-t-lt255 : goal.returns-then-t-lt255
