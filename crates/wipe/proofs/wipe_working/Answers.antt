@@ -3,4 +3,4 @@ use borrow.Author.Rules.{rules}
 use Rattle.wipe.proofs.wipe_working.Goals as goal
 
 pub returns : goal.returns
-returns c =  record { path_after = c.clear_f32.ensures; walk_after = c.clear_f32-2.ensures }
+returns c = record { path_after = c.clear_f32.ensures; walk_after = c.clear_f32-2.ensures }
