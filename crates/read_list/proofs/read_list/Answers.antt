@@ -3,7 +3,6 @@ use mathlib.Core.Path.{sym, ap, ◌∙◌}
 use Prim.Native.Nat.{◌+◌, ◌-◌, ◌*◌}
 use native.Mathlib.Omega.{arith}
 use lib.ListN.{length, take, drop}
-use borrow.Author.Rules.{rules}
 use Rattle.codes.specs.declared.Code.{Code}
 use Rattle.list.proofs.Buffers.{part_tail, next_is}
 use Rattle.read_list.specs.Rest.{rooms_of}
@@ -51,10 +50,19 @@ slice_bounds-read_rest-count c =
     let g = c.read_starts in
     let rest = take (length a.list.now - 1) (drop 1 a.list.now) in
     read_long a.limit (rooms_of a.counts.now a.starts.now a.deltas.now a.coefficients.now) a.list.now rest v (sym c.head.ensures ∙ c.in-Value.is) c.if-limit-v.false c.if-counts-n.false c.if-starts-n.false c.if-coefficients-n.false (part_tail 1 a.list.now)
-    a.starts.now g.new.1.1.1.0 (rw c.in-Done.is at g.ensures)
+    a.starts.now g.new.out (rw c.in-Done.is at g.ensures)
 
 pub slice_bounds-read_rest-start : goal.slice_bounds-read_rest-start
-slice_bounds-read_rest-start c = omega (arith, sub-read-rest c)
+slice_bounds-read_rest-start c =
+    let a = c.args in
+    let v = c.in-Value.v in
+    let g = c.read_starts in
+    let rest = take (length a.list.now - 1) (drop 1 a.list.now) in
+    omega (
+      arith,
+      read_long a.limit (rooms_of a.counts.now a.starts.now a.deltas.now a.coefficients.now) a.list.now rest v (sym c.head.ensures ∙ c.in-Value.is) c.if-limit-v.false c.if-counts-n.false c.if-starts-n.false c.if-coefficients-n.false (part_tail 1 a.list.now)
+          a.starts.now g.new.out (rw c.in-Done.is at g.ensures),
+    )
 
 pub returns-in-Stop : goal.returns-in-Stop
 returns-in-Stop c =
@@ -63,7 +71,7 @@ returns-in-Stop c =
     let g = c.read_starts in
     let rest = take (length a.list.now - 1) (drop 1 a.list.now) in
     list_stop _ c.in-Stop.c c.in-Stop.p _ _ _ _ _ _ _ _ (read_starts_stop a.limit (rooms_of a.counts.now a.starts.now a.deltas.now a.coefficients.now) a.list.now rest v (sym c.head.ensures ∙ c.in-Value.is) c.if-limit-v.false c.if-counts-n.false c.if-starts-n.false c.if-coefficients-n.false (part_tail 1 a.list.now)
-    a.starts.now g.new.1.1.1.0 c.in-Stop.c c.in-Stop.p (rw c.in-Stop.is at g.ensures))
+    a.starts.now g.new.out c.in-Stop.c c.in-Stop.p (rw c.in-Stop.is at g.ensures))
 
 pub returns-in-Done : goal.returns-in-Done
 returns-in-Done c =
@@ -72,4 +80,4 @@ returns-in-Done c =
     let g = c.read_starts in
     let rest = take (length a.list.now - 1) (drop 1 a.list.now) in
     let t = c.read_rest in read_after a.limit (rooms_of a.counts.now a.starts.now a.deltas.now a.coefficients.now) a.list.now rest v (sym c.head.ensures ∙ c.in-Value.is) c.if-limit-v.false c.if-counts-n.false c.if-starts-n.false c.if-coefficients-n.false (part_tail 1 a.list.now)
-    a.starts.now g.new.1.1.1.0 (rw c.in-Done.is at g.ensures) (take (length rest - 2 * (v + 1)) (drop (2 * (v + 1)) rest)) (part_tail (2 * (v + 1)) rest) t.result a.counts.now t.new.1.1.1.1.0 a.deltas.now t.new.1.1.1.1.1.0 a.coefficients.now t.new.1.1.1.1.1.1.0 t.ensures
+    a.starts.now g.new.out (rw c.in-Done.is at g.ensures) (take (length rest - 2 * (v + 1)) (drop (2 * (v + 1)) rest)) (part_tail (2 * (v + 1)) rest) t.result a.counts.now t.new.counts a.deltas.now t.new.deltas a.coefficients.now t.new.coefficients t.ensures

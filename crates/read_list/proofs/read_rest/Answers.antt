@@ -5,7 +5,6 @@ use native.Mathlib.Omega.{arith}
 use lib.ListN.{length, take, drop}
 use mir.Syntax.{w32}
 use mir.Facts.{to_z-of_z}
-use borrow.Author.Rules.{rules}
 use Rattle.codes.specs.declared.Code.{Code}
 use Rattle.list.proofs.Buffers.{part_tail, next_is}
 use Rattle.read_list.proofs.Whole.{rest_stop, after_short, after_stop, after_trail, after_done}
@@ -28,7 +27,7 @@ returns-then-used-rest c =
     let g = c.read_splines in
     let rest = take (length a.list.now - 1) (drop 1 a.list.now) in
     rest_stop _ Code.Trail _ _ _ _ _ _ _ (after_trail a.total a.limit (length a.deltas.now) a.s a.list.now rest c.in-Value.u (sym c.head.ensures ∙ c.in-Value.is) (part_tail 1 a.list.now)
-    a.counts.now g.new.1.1.1.1.0 a.deltas.now g.new.1.1.1.1.1.0 a.coefficients.now g.new.1.1.1.1.1.1.0 c.in-Count.n (rw c.in-Count.is at g.ensures) (omega arith))
+    a.counts.now g.new.counts a.deltas.now g.new.deltas a.coefficients.now g.new.coefficients c.in-Count.n (rw c.in-Count.is at g.ensures) (omega arith))
 
 pub returns-in-Stop : goal.returns-in-Stop
 returns-in-Stop c =
@@ -36,7 +35,7 @@ returns-in-Stop c =
     let g = c.read_splines in
     let rest = take (length a.list.now - 1) (drop 1 a.list.now) in
     rest_stop _ c.in-Stop.c c.in-Stop.p _ _ _ _ _ _ (after_stop a.total a.limit (length a.deltas.now) a.s a.list.now rest c.in-Value.u (sym c.head.ensures ∙ c.in-Value.is) (part_tail 1 a.list.now)
-    a.counts.now g.new.1.1.1.1.0 a.deltas.now g.new.1.1.1.1.1.0 a.coefficients.now g.new.1.1.1.1.1.1.0 c.in-Stop.c c.in-Stop.p (rw c.in-Stop.is at g.ensures))
+    a.counts.now g.new.counts a.deltas.now g.new.deltas a.coefficients.now g.new.coefficients c.in-Stop.c c.in-Stop.p (rw c.in-Stop.is at g.ensures))
 
 pub returns-else-used-rest : goal.returns-else-used-rest
 returns-else-used-rest c =
@@ -45,4 +44,4 @@ returns-else-used-rest c =
     let g = c.read_splines in
     let rest = take (length a.list.now - 1) (drop 1 a.list.now) in
     rw z (after_done a.total a.limit (length a.deltas.now) a.s a.list.now rest c.in-Value.u (sym c.head.ensures ∙ c.in-Value.is) (part_tail 1 a.list.now)
-    a.counts.now g.new.1.1.1.1.0 a.deltas.now g.new.1.1.1.1.1.0 a.coefficients.now g.new.1.1.1.1.1.1.0 c.in-Count.n (rw c.in-Count.is at g.ensures) (omega arith))
+    a.counts.now g.new.counts a.deltas.now g.new.deltas a.coefficients.now g.new.coefficients c.in-Count.n (rw c.in-Count.is at g.ensures) (omega arith))
