@@ -2,7 +2,6 @@
 use mathlib.Core.Path.{◌≡◌, refl, ◌∙◌}
 use mathlib.Core.List.{[]}
 use native.Mathlib.Omega.{arith}
-use borrow.Author.Rules.{rules}
 use lib.ListN.{length}
 use Rattle.buffers.proofs.Filling.{filled_none, filled_more, filled_all}
 use Rattle.control_points.specs.ControlPoints.{stand_at}

@@ -1,5 +1,4 @@
 -- `curve::first_turn`: the start may be moved by the first double delta, and the stand that it leads to is in the range.
-use borrow.Author.Rules.{rules}
 use Rattle.control_points.specs.ControlPoints.{stand_at}
 use Rattle.control_points.proofs.Walks.{walk_more}
 use Rattle.curve.proofs.first_turn.Goals as goal

@@ -1,5 +1,4 @@
 -- `curve::next_stand`: a walk that was traced can move on.
-use borrow.Author.Rules.{rules}
 use Rattle.control_points.proofs.Walks.{walk_moves}
 use Rattle.curve.proofs.next_stand.Goals as goal
 

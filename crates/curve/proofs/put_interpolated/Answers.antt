@@ -1,8 +1,6 @@
 use mathlib.Core.Path.{◌≡◌, refl}
-use Prim.Native.Nat.{◌+◌, ◌-◌, ◌≤◌}
+use Prim.Native.Nat.{◌+◌}
 use native.Mathlib.Omega.{arith}
-use lib.ListN.{length}
-use lib.Seq.{sets}
 use Rattle.buffers.proofs.Fronts.{sets_more}
 use Rattle.curve.specs.Windows.{window_point}
 use Rattle.curve.specs.Curve.{interpolated, flat}
@@ -18,7 +16,7 @@ loop-i-preserved c =
     let l = c.loop-i in
     let a = c.args in (
       omega arith,
-      omega (arith, c.put2.auto.0),
+      omega (arith, c.put2.auto.out),
       rw (c.put2.ensures, l.invariant.2, c.point-p.ensures, interpolated_more)
           (sets_more (flat (interpolated a.w l.i)) (two (window_point a.w (l.i + 1))) _ a.k _ (omega (arith, length_flat_interpolated a.w l.i))),
     )

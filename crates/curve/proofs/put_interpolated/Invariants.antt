@@ -1,13 +1,9 @@
 -- `curve::put_interpolated`: the invariant is that the first i points are stored.
-use mathlib.Core.Path.{◌≡◌, refl}
-use Prim.Native.Nat.{◌+◌, ◌-◌, ◌≤◌}
-use native.Mathlib.Omega.{arith}
+use mathlib.Core.Path.{◌≡◌}
+use Prim.Native.Nat.{◌-◌, ◌≤◌}
 use lib.ListN.{length}
 use lib.Seq.{sets}
-use Rattle.buffers.proofs.Fronts.{sets_more}
-use Rattle.curve.specs.Windows.{window_point}
 use Rattle.curve.specs.Curve.{interpolated, flat}
-use Rattle.curve.proofs.Paths.{two, interpolated_more, length_flat_interpolated}
 use Rattle.curve.proofs.put_interpolated.Given as goal
 
 abbrev pub invariant-loop-i : goal.invariant-loop-i

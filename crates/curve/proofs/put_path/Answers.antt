@@ -1,11 +1,9 @@
 use mathlib.Core.Path.{◌≡◌, refl}
-use Prim.Native.Nat.{◌+◌, ◌-◌, ◌*◌, ◌/◌, ◌^◌, ◌≤◌, ◌<◌}
+use Prim.Native.Nat.{◌+◌, ◌*◌}
 use native.Mathlib.Omega.{arith}
-use borrow.Author.Rules.{rules}
-use lib.ListN.{length}
-use Rattle.buffers.proofs.Filling.{Filled, filled_none}
+use Rattle.buffers.proofs.Filling.{filled_none}
 use Rattle.control_points.proofs.Walks.{walk_more}
-use Rattle.curve.proofs.Turning.{Under, first_under, next_under, turn_path, path_begin, filled_turn, filled_last}
+use Rattle.curve.proofs.Turning.{first_under, next_under, path_begin, filled_turn, filled_last}
 use Rattle.curve.proofs.put_path.Goals as goal
 
 pub first_turn-t-requires : goal.first_turn-t-requires
@@ -16,26 +14,26 @@ loop-k-init c =
     (omega arith, omega arith, omega arith, omega arith, refl, rw c.first_turn-t.ensures (first_under _ _ c.requires.0 (omega arith)), filled_none _ refl)
 
 pub next_stand-requires : goal.next_stand-requires
-next_stand-requires c = (c.loop.invariant.5.walk, omega arith)
+next_stand-requires c = (c.loop-k.invariant.5.walk, omega arith)
 
 pub next-next-requires : goal.next-next-requires
 next-next-requires c =
-    let l = c.loop in
+    let l = c.loop-k in
     let a = c.args in
     rw c.next_stand.ensures (walk_more l.t.stand a.deltas.now (l.k + 1) (omega arith) l.invariant.5.walk).point
 
 pub loop-k-preserved : goal.loop-k-preserved
 loop-k-preserved c =
-    let l = c.loop in
+    let l = c.loop-k in
     let k = l.k + 1 in
     let m : 32 * k ≡ 32 * l.k + 32 = omega arith in (
       omega arith,
       omega arith,
       omega arith,
       omega arith,
-      omega (arith, c.put_window.auto.0),
-      rw (c.next.ensures, c.next_stand.ensures) (next_under l.t _ k l.invariant.5 (omega arith)),
-      rw (c.put_window.ensures, c.window.ensures, c.next.ensures, c.next_stand.ensures, m)
+      omega (arith, c.put_window.auto.out),
+      rw (c.next-next.ensures, c.next_stand.ensures) (next_under l.t _ k l.invariant.5 (omega arith)),
+      rw (c.put_window.ensures, c.window.ensures, c.next-next.ensures, c.next_stand.ensures, m)
           (filled_turn l.t _ k l.invariant.5 l.out l.invariant.6 (omega arith) (omega arith)),
     )
 

@@ -1,12 +1,9 @@
 -- `curve::put_path`: the invariant is that the turn stands where the windows written so far end, and that what is written and what is left make up the path.
-use mathlib.Core.Path.{◌≡◌, refl}
+use mathlib.Core.Path.{◌≡◌}
 use Prim.Native.Nat.{◌+◌, ◌-◌, ◌*◌, ◌/◌, ◌^◌, ◌≤◌, ◌<◌}
-use native.Mathlib.Omega.{arith}
-use borrow.Author.Rules.{rules}
 use lib.ListN.{length}
-use Rattle.buffers.proofs.Filling.{Filled, filled_none}
-use Rattle.control_points.proofs.Walks.{walk_more}
-use Rattle.curve.proofs.Turning.{Under, first_under, next_under, turn_path, path_begin, filled_turn, filled_last}
+use Rattle.buffers.proofs.Filling.{Filled}
+use Rattle.curve.proofs.Turning.{Under, turn_path}
 use Rattle.curve.proofs.put_path.Given as goal
 
 abbrev pub invariant-loop-k : goal.invariant-loop-k

@@ -1,7 +1,6 @@
 -- `curve::put_window`: a run of stores after a run of stores.
 use mathlib.Core.Path.{refl}
 use Prim.Native.Nat.{◌+◌}
-use borrow.Author.Rules.{rules}
 use Rattle.buffers.proofs.Fronts.{sets_more}
 use Rattle.curve.specs.Curve.{interpolated, flat}
 use Rattle.curve.proofs.Paths.{two, window_flat}

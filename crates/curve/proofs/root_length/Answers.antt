@@ -1,7 +1,6 @@
 -- `curve::root_length`: both numbers are i32 as they stand, and the calls promise what the definition says.
 use mathlib.Core.Path.{ap, ◌∙◌}
 use native.Mathlib.Omega.{arith}
-use borrow.Author.Rules.{rules}
 use mir.Syntax.{w32}
 use mir.Facts.{to_z-of_z}
 use lib.Ieee.{binary32}

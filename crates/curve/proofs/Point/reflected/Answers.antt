@@ -1,5 +1,4 @@
 -- `curve::Point::reflected`: the calls promise what the definition says.
-use borrow.Author.Rules.{rules}
 use Rattle.curve.proofs.Point.reflected.Goals as goal
 
 pub returns : goal.returns

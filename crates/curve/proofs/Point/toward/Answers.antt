@@ -1,5 +1,4 @@
 -- `curve::Point::toward`: the calls promise what the definition says.
-use borrow.Author.Rules.{rules}
 use Rattle.curve.specs.Windows.{toward}
 use Rattle.curve.proofs.Point.toward.Goals as goal
 

@@ -1,5 +1,4 @@
 -- `curve::Turn::last`: the calls promise what the definition says.
-use borrow.Author.Rules.{rules}
 use Rattle.curve.proofs.Turn.last.Goals as goal
 
 pub returns : goal.returns

@@ -1,8 +1,7 @@
 -- `curve::Turn::next`: the calls promise what the definition says.
-use borrow.Author.Rules.{rules}
 use Rattle.curve.specs.Turns.{next_turn}
 use Rattle.curve.proofs.Turn.next.Goals as goal
 
 pub returns : goal.returns
 unfolding next_turn
-returns c = rw (c.root_length-d.ensures, c.of.ensures)
+returns c = rw (c.root_length-d.ensures, c.of-r.ensures)

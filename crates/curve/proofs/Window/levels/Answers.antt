@@ -1,6 +1,5 @@
 -- `curve::Window::levels`: each point is what the call promises, put in from the last call to the first.
 use Rattle.curve.specs.Windows.{levels}
-use borrow.Author.Rules.{rules}
 use Rattle.curve.proofs.Window.levels.Goals as goal
 
 pub returns : goal.returns
@@ -11,6 +10,6 @@ returns c =
       c.toward-b1.ensures,
       c.toward-b0.ensures,
       c.toward-a2.ensures,
-      c.toward2.ensures,
-      c.toward.ensures,
+      c.toward-a1.ensures,
+      c.toward-a0.ensures,
     )

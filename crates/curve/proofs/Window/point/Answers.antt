@@ -1,6 +1,5 @@
 -- `curve::Window::point`: the calls promise what the definition says.
 use Rattle.curve.specs.Windows.{window_point}
-use borrow.Author.Rules.{rules}
 use Rattle.curve.proofs.Window.point.Goals as goal
 
 pub returns : goal.returns
