@@ -4,6 +4,9 @@
 ghost use Rattle.std.specs.Prelude.{◌≡◌, ◌≤◌, length};
 ghost use Rattle.io.specs.Counts.{IsPrefixLen};
 
+use std::fs::File;
+use std::io::{Cursor, Error, ErrorKind, Stdout, Write};
+
 // The bytes of the longest line, and more.
 const LINE: usize = 256;
 
@@ -96,45 +99,89 @@ pub fn write(text: &[u8], numbers: &[u64], out: &mut [u8]) -> usize
     at
 }
 
-// Writes the sentence; whether the whole of it was written.
-fn told(fd: i32, text: &[u8], numbers: &[u64]) -> bool {
+// Writes the sentence to standard error.
+fn told(text: &[u8], numbers: &[u64]) {
     let mut line = [0u8; LINE];
     let n = write(text, numbers, &mut line);
-    io::write_all(fd, &line[..n])
+    io::write_all(2, &line[..n]);
 }
 
-// A sentence into a file: 0 where the whole of it was written, else 1.
-pub fn tell(fd: i32, text: &[u8], numbers: &[u64]) -> u8
-    ensures { result ≤ 1 }
+// A sentence into a file, or why the whole of it was not written.
+pub fn tell(mut file: &File, text: &[u8], numbers: &[u64]) -> std::io::Result<()> {
+    let mut line = [0u8; LINE];
+    let n = write(text, numbers, &mut line);
+    file.write_all(&line[..n])
+}
+
+// How many bytes stand before the last parenthesis and what parts it from them; all where there is none.
+fn before_last(text: &[u8]) -> usize
+    ensures { IsPrefixLen result text.now }
 {
-    if told(fd, text, numbers) { 0 } else { 1 }
+    let mut at = text.len();
+    while 1 < at {
+        at -= 1;
+        if text[at] == b'(' {
+            return at - 1;
+        }
+    }
+    text.len()
+}
+
+// How many bytes of an error's text are told: the number of an error of the system, which stands behind its words, is not.
+fn told_of(why: Error, text: &[u8]) -> usize
+    ensures { IsPrefixLen result text.now }
+{
+    match why.raw_os_error() {
+        Some(_) => before_last(text),
+        None => text.len(),
+    }
+}
+
+// The first n bytes, or all where there are fewer.
+fn first(text: &[u8], n: usize) -> &[u8] {
+    if n < text.len() { &text[..n] } else { text }
+}
+
+// A line that says what failed and why, to standard error.
+pub fn fail(what: &[u8], why: Error) {
+    let mut said = Cursor::new([0u8; LINE]);
+    let _ = write!(said, "{why}");
+    let n = said.position() as usize;
+    let line = said.into_inner();
+    let text = first(&line, n);
+    io::write_all(2, what);
+    io::write_all(2, b": ");
+    io::write_all(2, &text[..told_of(why, text)]);
+    io::write_all(2, b"\n");
 }
 
 // The status where standard output cannot be written: 1, after a line that says why; where its reader has gone away 3, and no word.
-fn unwritten() -> u8
+fn unwritten(why: Error) -> u8
     ensures { result ≤ 3 }
 {
-    if os::errno() == libc::EPIPE {
+    if why.kind() == ErrorKind::BrokenPipe {
         return 3;
     }
-    os::fail(b"standard output");
+    fail(b"standard output", why);
     1
 }
 
 // A result, to standard output; the status so far.
-pub fn out(text: &[u8], numbers: &[u64]) -> u8
+pub fn out(mut to: Stdout, text: &[u8], numbers: &[u64]) -> u8
     ensures { result ≤ 3 }
 {
-    if told(1, text, numbers) {
-        return 0;
+    let mut line = [0u8; LINE];
+    let n = write(text, numbers, &mut line);
+    match to.write_all(&line[..n]) {
+        Ok(()) => 0,
+        Err(why) => unwritten(why),
     }
-    unwritten()
 }
 
 // What is wrong, to standard error; and the status that it leads to.
 pub fn wrong(status: u8, text: &[u8], numbers: &[u64]) -> u8
     ensures { result ≡ status }
 {
-    told(2, text, numbers);
+    told(text, numbers);
     status
 }
