@@ -7,4 +7,4 @@ mod words;
 
 pub use names::{Kind, kind_at, kind_of};
 pub use sizes::{Two, pixel_at, size_at};
-pub use words::{Number, argument, is_argument};
+pub use words::{Number, argument, count, fill, fill_up, is_argument};

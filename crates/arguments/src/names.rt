@@ -1,4 +1,6 @@
 // What a file's name says.
+use crate::words;
+use std::rt::Env;
 
 // What a file's name says of its kind: a picture of either kind, a trace file, a line drawing, or another.
 #[derive(Clone, Copy)]
@@ -38,10 +40,10 @@ pub fn kind_of(path: &[u8]) -> Kind
 }
 
 // What the name that argument i is says.
-pub fn kind_at(i: usize) -> Kind
+pub fn kind_at(rt: &impl Env, i: usize) -> Kind
     ensures { Unit {0} }
 {
     let mut held = io::buffer();
-    let n = os::arg(i, &mut held);
+    let n = words::fill(rt, i, &mut held);
     kind_of(&held[..n])
 }

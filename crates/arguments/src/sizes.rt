@@ -3,6 +3,7 @@ ghost use Rattle.std.specs.Prelude.{◌≤◌};
 
 use crate::words;
 use crate::words::Number;
+use std::rt::Env;
 
 // The size of an image or a pixel of it, by two arguments.
 #[derive(Clone, Copy)]
@@ -19,24 +20,24 @@ fn is_within(n: u32, most: u32) -> bool {
 }
 
 // The two numbers that the arguments from i on say.
-fn two_at(i: u8) -> Two
+fn two_at(rt: &impl Env, i: u8) -> Two
     requires { i ≤ 60 }
 {
-    let Number::Is(a) = words::argument(i as usize) else {
+    let Number::Is(a) = words::argument(rt, i as usize) else {
         return Two::Not;
     };
-    let Number::Is(b) = words::argument(i as usize + 1) else {
+    let Number::Is(b) = words::argument(rt, i as usize + 1) else {
         return Two::Not;
     };
     Two::Are(a, b)
 }
 
 // The width and the height that the arguments from i on say.
-pub fn size_at(i: u8) -> Two
+pub fn size_at(rt: &impl Env, i: u8) -> Two
     requires { i ≤ 60 }
     ensures { Unit {0} }
 {
-    let Two::Are(width, height) = two_at(i) else {
+    let Two::Are(width, height) = two_at(rt, i) else {
         return Two::Not;
     };
     if !is_within(width, 8388608) {
@@ -49,11 +50,11 @@ pub fn size_at(i: u8) -> Two
 }
 
 // The column and the row, in an image of this size, that the arguments from i on say.
-pub fn pixel_at(i: u8, width: u32, height: u32) -> Two
+pub fn pixel_at(rt: &impl Env, i: u8, width: u32, height: u32) -> Two
     requires { i ≤ 60 }
     ensures { Unit {0} }
 {
-    let Two::Are(x, y) = two_at(i) else {
+    let Two::Are(x, y) = two_at(rt, i) else {
         return Two::Not;
     };
     if width <= x {

@@ -1,4 +1,5 @@
 // The commands, by their words.
+use std::rt::Env;
 
 #[derive(Clone, Copy)]
 pub enum Command {
@@ -17,53 +18,53 @@ pub enum Command {
 }
 
 // A command that makes a file or takes one in.
-fn making_at(i: usize) -> Command {
-    if arguments::is_argument(i, b"draw") {
+fn making_at(rt: &impl Env, i: usize) -> Command {
+    if arguments::is_argument(rt, i, b"draw") {
         return Command::Draw;
     }
-    if arguments::is_argument(i, b"trace") {
+    if arguments::is_argument(rt, i, b"trace") {
         return Command::Trace;
     }
-    if arguments::is_argument(i, b"svg") {
+    if arguments::is_argument(rt, i, b"svg") {
         return Command::Svg;
     }
     Command::None
 }
 
 // A command of a table or of a profile, or one of those.
-fn table_at(i: usize) -> Command {
-    if arguments::is_argument(i, b"bands") {
+fn table_at(rt: &impl Env, i: usize) -> Command {
+    if arguments::is_argument(rt, i, b"bands") {
         return Command::Bands;
     }
-    if arguments::is_argument(i, b"table") {
+    if arguments::is_argument(rt, i, b"table") {
         return Command::Table;
     }
-    if arguments::is_argument(i, b"check") {
+    if arguments::is_argument(rt, i, b"check") {
         return Command::Check;
     }
-    if arguments::is_argument(i, b"profile") {
+    if arguments::is_argument(rt, i, b"profile") {
         return Command::Profile;
     }
-    making_at(i)
+    making_at(rt, i)
 }
 
 // The command that argument i is.
-pub fn command_at(i: usize) -> Command
+pub fn command_at(rt: &impl Env, i: usize) -> Command
     ensures { Unit {0} }
 {
-    if arguments::is_argument(i, b"read") {
+    if arguments::is_argument(rt, i, b"read") {
         return Command::Read;
     }
-    if arguments::is_argument(i, b"rows") {
+    if arguments::is_argument(rt, i, b"rows") {
         return Command::Rows;
     }
-    if arguments::is_argument(i, b"touch") {
+    if arguments::is_argument(rt, i, b"touch") {
         return Command::Touch;
     }
-    if arguments::is_argument(i, b"why") {
+    if arguments::is_argument(rt, i, b"why") {
         return Command::Why;
     }
-    table_at(i)
+    table_at(rt, i)
 }
 
 // Whether a command may have so many words behind it; `svg` counts its own.

@@ -2,6 +2,7 @@
 ghost use Rattle.std.specs.Prelude.{◌+◌, ◌≤◌};
 
 use arguments::Number;
+use std::rt::Env;
 
 // `at` is the argument of the next word, `hide` that with the numbers of the hidden traces, 0 where there is none; `profile` and `edition` are editions, that of the profile and that of a trace file, 0 where none is asked for; `good` until a word stands twice or lacks its number.
 #[derive(Clone, Copy)]
@@ -64,12 +65,12 @@ fn with_hide(o: Options) -> Options
     }
 }
 
-fn with_desk(o: Options) -> Options
+fn with_desk(rt: &impl Env, o: Options) -> Options
     requires { o.at ≤ 40 }
     ensures { result.at ≤ o.at + 2 }
 {
     let at = o.at;
-    match arguments::argument(at as usize + 1) {
+    match arguments::argument(rt, at as usize + 1) {
         Number::Is(desk) => Options {
             at: o.at + 2,
             progress: o.progress,
@@ -94,16 +95,16 @@ fn with_desk(o: Options) -> Options
 }
 
 // An edition that is no number, or 0, is none that there is.
-pub fn edition_at(i: usize) -> u32
+pub fn edition_at(rt: &impl Env, i: usize) -> u32
     ensures { 1 ≤ result }
 {
-    match arguments::argument(i) {
+    match arguments::argument(rt, i) {
         Number::Is(edition) => if edition == 0 { 3 } else { edition },
         Number::Not => 3,
     }
 }
 
-fn with_profile(o: Options) -> Options
+fn with_profile(rt: &impl Env, o: Options) -> Options
     requires { o.at ≤ 40 }
     ensures { result.at ≤ o.at + 2 }
 {
@@ -114,13 +115,13 @@ fn with_profile(o: Options) -> Options
         high: o.high,
         hide: o.hide,
         desk: o.desk,
-        profile: edition_at(at as usize + 1),
+        profile: edition_at(rt, at as usize + 1),
         edition: o.edition,
         good: if o.profile == 0 { o.good } else { false },
     }
 }
 
-fn with_edition(o: Options) -> Options
+fn with_edition(rt: &impl Env, o: Options) -> Options
     requires { o.at ≤ 40 }
     ensures { result.at ≤ o.at + 2 }
 {
@@ -132,46 +133,46 @@ fn with_edition(o: Options) -> Options
         hide: o.hide,
         desk: o.desk,
         profile: o.profile,
-        edition: edition_at(at as usize + 1),
+        edition: edition_at(rt, at as usize + 1),
         good: if o.edition == 0 { o.good } else { false },
     }
 }
 
 // What the next word adds, where it is an option.
-fn with_word(o: Options) -> Options
+fn with_word(rt: &impl Env, o: Options) -> Options
     requires { o.at ≤ 40 }
     ensures { result.at ≤ o.at + 2 }
 {
     let at = o.at as usize;
-    if arguments::is_argument(at, b"--progress") {
+    if arguments::is_argument(rt, at, b"--progress") {
         return with_progress(o);
     }
-    if arguments::is_argument(at, b"--high") {
+    if arguments::is_argument(rt, at, b"--high") {
         return with_high(o);
     }
-    if arguments::is_argument(at, b"--hide") {
+    if arguments::is_argument(rt, at, b"--hide") {
         return with_hide(o);
     }
-    if arguments::is_argument(at, b"--desk") {
-        return with_desk(o);
+    if arguments::is_argument(rt, at, b"--desk") {
+        return with_desk(rt, o);
     }
-    if arguments::is_argument(at, b"--profile") {
-        return with_profile(o);
+    if arguments::is_argument(rt, at, b"--profile") {
+        return with_profile(rt, o);
     }
-    if arguments::is_argument(at, b"--edition") {
-        return with_edition(o);
+    if arguments::is_argument(rt, at, b"--edition") {
+        return with_edition(rt, o);
     }
     o
 }
 
-// The options that stand from argument `at` on. Progress is told where it is asked for, or to a terminal.
-pub fn options_from(at: u8) -> Options
+// The options that stand from argument `at` on. Progress is told where it is asked for, or where standard error is a terminal.
+pub fn options_from(rt: &impl Env, at: u8, terminal: bool) -> Options
     requires { at ≤ 2 }
     ensures { result.at ≤ 20 }
 {
     let none = Options {
         at: at,
-        progress: libc::isatty(2) == 1,
+        progress: terminal,
         high: false,
         hide: 0,
         desk: 0,
@@ -179,5 +180,11 @@ pub fn options_from(at: u8) -> Options
         edition: 0,
         good: true,
     };
-    with_word(with_word(with_word(with_word(with_word(with_word(none))))))
+    with_word(
+        rt,
+        with_word(
+            rt,
+            with_word(rt, with_word(rt, with_word(rt, with_word(rt, none)))),
+        ),
+    )
 }

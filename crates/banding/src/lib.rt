@@ -4,6 +4,7 @@
 ghost use Rattle.std.specs.Prelude.{◌+◌, ◌*◌, ◌≤◌, length};
 
 use bands::BandsAnswer;
+use std::io::Stdout;
 
 // Five for each band of as many rows as this program has room for.
 const CELLS: usize = 1280;
@@ -29,6 +30,7 @@ fn rows_of(b: u32, height: u32) -> Rows {
 
 // A band that shows entries; the last column is told, not the one past it.
 fn say_shown(
+    to: Stdout,
     b: u32,
     rows: Rows,
     entries: u64,
@@ -41,11 +43,13 @@ fn say_shown(
 {
     if past == 0 {
         return words::out(
+            to,
             b"band #, rows # to #: # entries, segments # to #, no column\n",
             &[wide(b), rows.first, rows.last, entries, least, greatest],
         );
     }
     words::out(
+        to,
         b"band #, rows # to #: # entries, segments # to #, columns # to #\n",
         &[
             wide(b),
@@ -61,7 +65,7 @@ fn say_shown(
 }
 
 // One band, by its five cells.
-fn say_band(b: u32, height: u32, cells: &[u32]) -> u8
+fn say_band(to: Stdout, b: u32, height: u32, cells: &[u32]) -> u8
     ensures { result ≤ 3 }
 {
     if cells.len() < 5 {
@@ -71,6 +75,7 @@ fn say_band(b: u32, height: u32, cells: &[u32]) -> u8
     let entries = wide(cells[0]);
     if entries == 0 {
         return words::out(
+            to,
             b"band #, rows # to #: nothing\n",
             &[wide(b), rows.first, rows.last],
         );
@@ -79,11 +84,11 @@ fn say_band(b: u32, height: u32, cells: &[u32]) -> u8
     let greatest = wide(cells[2]);
     let first = wide(cells[3]);
     let past = wide(cells[4]);
-    say_shown(b, rows, entries, least, greatest, first, past)
+    say_shown(to, b, rows, entries, least, greatest, first, past)
 }
 
 // Every band, one after another.
-fn say_bands(bands: u32, height: u32, cells: &[u32]) -> u8
+fn say_bands(to: Stdout, bands: u32, height: u32, cells: &[u32]) -> u8
     ensures { result ≤ 3 }
 {
     let mut b: u32 = 0;
@@ -92,7 +97,7 @@ fn say_bands(bands: u32, height: u32, cells: &[u32]) -> u8
         if cells.len() < at {
             return 1;
         }
-        let status = say_band(b, height, &cells[at..]);
+        let status = say_band(to, b, height, &cells[at..]);
         if status != 0 {
             return status;
         }
@@ -103,6 +108,7 @@ fn say_bands(bands: u32, height: u32, cells: &[u32]) -> u8
 
 // The bands of a table, without what the bytes hide for the desk, a byte a spline.
 pub fn say(
+    to: Stdout,
     segments: &[f32],
     owners: &[u64],
     segment_count: u32,
@@ -133,6 +139,6 @@ pub fn say(
         &mut cells,
     ) {
         BandsAnswer::Refused(code, place) => refusals::of_building(code, place),
-        BandsAnswer::Done(made) => say_bands(made, height, &cells),
+        BandsAnswer::Done(made) => say_bands(to, made, height, &cells),
     }
 }

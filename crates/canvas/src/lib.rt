@@ -4,6 +4,9 @@
 ghost use Rattle.std.specs.Prelude.{◌≤◌, ◌<◌, length};
 
 use draw::DrawAnswer;
+use files::Named;
+use std::fs::File;
+use std::io::{Error, ErrorKind, Stdout, Write};
 
 // The pixels that are drawn at a time, and the bytes that they take at most.
 const STRIP: u32 = 2048;
@@ -15,9 +18,9 @@ const BYTES: usize = 24576;
 // The bytes of the longest head, and more.
 const HEAD: usize = 64;
 
-// What is asked of a description: what it holds, its rows, its bands, its picture, the traces that have the pixel in this column and row, why the segment of this number sits where it does, its row table, whether that in the file of this argument is it, whether it meets this edition of the profile, its trace file, its list, or its line drawing.
+// What is asked of a description: what it holds, its rows, its bands, its picture, the traces that have the pixel in this column and row, why the segment of this number sits where it does, its row table, whether that in this file is it, whether it meets this edition of the profile, its trace file, its list, or its line drawing.
 #[derive(Clone, Copy)]
-pub enum Asked {
+pub enum Asked<'a> {
     Contents,
     Rows,
     Bands,
@@ -25,31 +28,32 @@ pub enum Asked {
     Touch(u32, u32),
     Why(u32),
     Table,
-    Check(u8),
+    Check(Named<'a>),
     Profile(u32),
     Trace,
     List,
     Drawing,
 }
 
-// What is asked, of an image of this size (no rows and columns where there is none), where a picture of either kind or a file goes, and which argument names the traces that are hidden for the desk (0: none), by which edition of the profile it is to be built (0: by none), and which edition a trace file is to hold (0: a file of version 1).
+// What is asked, of an image of this size (no rows and columns where there is none), where words go, and a picture of either kind or a file, and the text that names the traces that are hidden for the desk (empty: none), by which edition of the profile it is to be built (0: by none), and which edition a trace file is to hold (0: a file of version 1).
 #[derive(Clone, Copy)]
-pub struct Task {
+pub struct Task<'a> {
     pub width: u32,
     pub height: u32,
-    pub asked: Asked,
-    pub fd: i32,
+    pub asked: Asked<'a>,
+    pub to: Stdout,
+    pub file: Option<&'a File>,
     pub floats: bool,
     pub progress: bool,
     pub high: bool,
-    pub hide: u8,
+    pub hide: &'a [u8],
     pub desk: u32,
     pub profile: u32,
     pub edition: u32,
 }
 
 // The pixels of the image, as far as 32 bits hold them; where there is no image they limit nothing.
-pub fn pixels_of(task: Task) -> u32
+pub fn pixels_of(task: Task<'_>) -> u32
     ensures { Unit {0} }
 {
     let width = task.width;
@@ -66,20 +70,21 @@ pub fn pixels_of(task: Task) -> u32
 }
 
 // The counts of a built table, in words; the status so far.
-pub fn say_built(segments: u32, faint: u32, entries: u32, estimate: u64) -> u8
+pub fn say_built(to: Stdout, segments: u32, faint: u32, entries: u32, estimate: u64) -> u8
     ensures { result ≤ 3 }
 {
     words::out(
+        to,
         b"# segments, # of them faint, # entries, estimate #\n",
         &[segments as u64, faint as u64, entries as u64, estimate],
     )
 }
 
-// How many updates a part took; or it was not drawn, or not written.
+// How many updates a part took; or why it was not drawn or not written.
 #[derive(Clone, Copy)]
 enum Took {
     Updates(u64),
-    Failed,
+    Failed(Error),
 }
 
 // The pixels of the next strip, of so many that are left.
@@ -90,26 +95,38 @@ fn strip_of(left: u32) -> u32
     if left < STRIP { left } else { STRIP }
 }
 
-// The first n bytes.
-fn write_front(fd: i32, bytes: &[u8], n: usize) -> bool {
-    if bytes.len() < n {
-        return false;
+// Why a picture is not written that has no file, or that cannot be drawn.
+fn no_reason() -> Error {
+    Error::from(ErrorKind::InvalidInput)
+}
+
+// Writes these bytes of the picture.
+fn put(task: Task<'_>, bytes: &[u8]) -> std::io::Result<()> {
+    match task.file {
+        None => Err(no_reason()),
+        Some(mut file) => file.write_all(bytes),
     }
-    io::write_all(fd, &bytes[..n])
+}
+
+// The first n bytes.
+fn write_front(task: Task<'_>, bytes: &[u8], n: usize) -> std::io::Result<()> {
+    if bytes.len() < n {
+        return Err(no_reason());
+    }
+    put(task, &bytes[..n])
 }
 
 // Writes n pixels.
-fn write_part(task: Task, n: usize, x: &[f32], y: &[f32], b: &[f32]) -> bool
+fn write_part(task: Task<'_>, n: usize, x: &[f32], y: &[f32], b: &[f32]) -> std::io::Result<()>
     requires { (n ≤ 2048) × (n ≤ length x.now) × (n ≤ length y.now) × (n ≤ length b.now) }
 {
     let mut bytes = [0u8; BYTES];
-    let fd = task.fd;
     if task.floats {
         pixels::floats(n, x, y, b, &mut bytes);
-        return write_front(fd, &bytes, 12 * n);
+        return write_front(task, &bytes, 12 * n);
     }
     pixels::tones(n, x, y, b, &mut bytes);
-    write_front(fd, &bytes, 3 * n)
+    write_front(task, &bytes, 3 * n)
 }
 
 // Draws n pixels of row y from x0 on, on black, and writes them.
@@ -121,7 +138,7 @@ fn draw_part(
     entry_count: u32,
     row_starts: &[u32],
     bits: &[u8],
-    task: Task,
+    task: Task<'_>,
     y: u32,
     x0: u32,
     n: u32,
@@ -152,14 +169,11 @@ fn draw_part(
         &mut r1,
         &mut r2,
     ) {
-        DrawAnswer::Refused(_, _) => Took::Failed,
-        DrawAnswer::Done(updates) => {
-            if write_part(task, n as usize, &r0, &r1, &r2) {
-                Took::Updates(updates)
-            } else {
-                Took::Failed
-            }
-        }
+        DrawAnswer::Refused(_, _) => Took::Failed(no_reason()),
+        DrawAnswer::Done(updates) => match write_part(task, n as usize, &r0, &r1, &r2) {
+            Ok(()) => Took::Updates(updates),
+            Err(why) => Took::Failed(why),
+        },
     }
 }
 
@@ -172,7 +186,7 @@ fn draw_row(
     entry_count: u32,
     row_starts: &[u32],
     bits: &[u8],
-    task: Task,
+    task: Task<'_>,
     y: u32,
 ) -> Took {
     let width = task.width;
@@ -180,7 +194,7 @@ fn draw_row(
     let mut x0: u32 = 0;
     while x0 < width {
         let n = strip_of(width - x0);
-        let Took::Updates(updates) = draw_part(
+        let took = draw_part(
             segments,
             owners,
             segment_count,
@@ -192,8 +206,9 @@ fn draw_row(
             y,
             x0,
             n,
-        ) else {
-            return Took::Failed;
+        );
+        let Took::Updates(updates) = took else {
+            return took;
         };
         sum = numbers::saturating_add(sum, updates);
         x0 += n;
@@ -202,7 +217,7 @@ fn draw_row(
 }
 
 // The row that is written after k others: a file of floats begins with the bottom row.
-fn row_after(task: Task, k: u32) -> u32 {
+fn row_after(task: Task<'_>, k: u32) -> u32 {
     let height = task.height;
     if task.floats {
         if k < height { height - 1 - k } else { 0 }
@@ -212,7 +227,7 @@ fn row_after(task: Task, k: u32) -> u32 {
 }
 
 // Every 256 rows, where progress is asked for.
-fn say_progress(task: Task, k: u32) {
+fn say_progress(task: Task<'_>, k: u32) {
     if task.progress {
         if k % 256 == 0 {
             let height = task.height;
@@ -230,7 +245,7 @@ fn draw_rows(
     entry_count: u32,
     row_starts: &[u32],
     bits: &[u8],
-    task: Task,
+    task: Task<'_>,
 ) -> Took {
     let height = task.height;
     let mut sum: u64 = 0;
@@ -238,7 +253,7 @@ fn draw_rows(
     while k < height {
         say_progress(task, k);
         let y = row_after(task, k);
-        let Took::Updates(updates) = draw_row(
+        let took = draw_row(
             segments,
             owners,
             segment_count,
@@ -248,8 +263,9 @@ fn draw_rows(
             bits,
             task,
             y,
-        ) else {
-            return Took::Failed;
+        );
+        let Took::Updates(updates) = took else {
+            return took;
         };
         sum = numbers::saturating_add(sum, updates);
         k += 1;
@@ -258,18 +274,17 @@ fn draw_rows(
 }
 
 // The head of a picture: its kind, its size, and the greatest tone or the order of bytes.
-fn write_head(task: Task) -> bool {
-    let fd = task.fd;
+fn write_head(task: Task<'_>) -> std::io::Result<()> {
     let width = task.width;
     let height = task.height;
     let size = [width as u64, height as u64];
     let mut head = [0u8; HEAD];
     if task.floats {
         let n = words::write(b"PF\n# #\n-1.0\n", &size, &mut head);
-        return io::write_all(fd, &head[..n]);
+        return put(task, &head[..n]);
     }
     let n = words::write(b"P6\n# #\n255\n", &size, &mut head);
-    io::write_all(fd, &head[..n])
+    put(task, &head[..n])
 }
 
 fn index(n: u32) -> usize {
@@ -373,10 +388,10 @@ fn rows_held(
 }
 
 // The status, after a line that says why the picture could not be written.
-fn no_picture() -> u8
+fn no_picture(why: Error) -> u8
     ensures { result ≤ 3 }
 {
-    os::fail(b"the picture");
+    words::fail(b"the picture", why);
     1
 }
 
@@ -389,14 +404,15 @@ pub fn draw(
     entry_count: u32,
     row_starts: &[u32],
     bits: &[u8],
-    task: Task,
+    task: Task<'_>,
 ) -> u8
     ensures { result ≤ 3 }
 {
     let height = task.height;
     let desk = task.desk;
-    if !write_head(task) {
-        return no_picture();
+    let to = task.to;
+    if let Err(why) = write_head(task) {
+        return no_picture(why);
     }
     match draw_rows(
         segments,
@@ -408,8 +424,9 @@ pub fn draw(
         bits,
         task,
     ) {
-        Took::Failed => no_picture(),
+        Took::Failed(why) => no_picture(why),
         Took::Updates(updates) => words::out(
+            to,
             b"# updates, # rows that hold anything\n",
             &[
                 updates,

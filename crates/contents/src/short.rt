@@ -5,6 +5,7 @@ ghost use Rattle.contents.specs.Tries.{tried_status};
 use crate::{Source, telling};
 use codes::Code;
 use reader::ReadAnswer;
+use std::io::Stdout;
 use trace2::FileAnswer;
 
 const SPLINES: usize = 512;
@@ -24,6 +25,7 @@ pub enum Tried {
 
 // The first cells of the buffers are those of so many splines.
 fn say_first(
+    to: Stdout,
     counts: &[u32],
     starts: &[f32],
     splines: u32,
@@ -41,6 +43,7 @@ fn say_first(
         return 1;
     }
     telling::say(
+        to,
         &counts[0..s],
         &starts[0..2 * s],
         points as usize,
@@ -61,6 +64,7 @@ fn refuse_list(code: Code, place: usize, list: &[u32]) -> Tried
 
 // A list that is read in lent rooms.
 fn list_in(
+    to: Stdout,
     list: &[u32],
     counts: &mut [u32; SPLINES],
     starts: &mut [f32; STARTS],
@@ -80,6 +84,7 @@ fn list_in(
     ) {
         ReadAnswer::Refused(code, place) => refuse_list(code, place, list),
         ReadAnswer::Done(splines, points, adjustment) => Tried::Status(say_first(
+            to,
             counts,
             starts,
             splines,
@@ -91,7 +96,7 @@ fn list_in(
 }
 
 // What a list holds.
-pub fn tell_list(list: &[u32]) -> Tried
+pub fn tell_list(to: Stdout, list: &[u32]) -> Tried
     ensures { tried_status result ≤ 3 }
 {
     let mut counts = [0u32; SPLINES];
@@ -99,6 +104,7 @@ pub fn tell_list(list: &[u32]) -> Tried
     let mut deltas = [0i32; DELTAS];
     let mut coefficients = [0i32; COEFFICIENTS];
     list_in(
+        to,
         list,
         &mut counts,
         &mut starts,
@@ -118,6 +124,7 @@ fn refuse_trace(code: Code, place: usize, bytes: &[u8]) -> Tried
 
 // A trace file that is read in lent rooms.
 fn trace_in(
+    to: Stdout,
     bytes: &[u8],
     counts: &mut [u32; SPLINES],
     starts: &mut [f32; STARTS],
@@ -129,6 +136,7 @@ fn trace_in(
     match trace2_read::trace_read2(bytes, counts, starts, deltas, coefficients) {
         FileAnswer::Refused(code, place) => refuse_trace(code, place, bytes),
         FileAnswer::Done(splines, points, adjustment, edition) => Tried::Status(say_first(
+            to,
             counts,
             starts,
             splines,
@@ -140,7 +148,7 @@ fn trace_in(
 }
 
 // What a trace file holds.
-pub fn tell_trace(bytes: &[u8]) -> Tried
+pub fn tell_trace(to: Stdout, bytes: &[u8]) -> Tried
     ensures { tried_status result ≤ 3 }
 {
     let mut counts = [0u32; SPLINES];
@@ -148,6 +156,7 @@ pub fn tell_trace(bytes: &[u8]) -> Tried
     let mut deltas = [0i32; DELTAS];
     let mut coefficients = [0i32; COEFFICIENTS];
     trace_in(
+        to,
         bytes,
         &mut counts,
         &mut starts,

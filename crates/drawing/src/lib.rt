@@ -5,16 +5,18 @@ ghost use Rattle.std.specs.Prelude.{◌≡◌, ◌≤◌};
 ghost use Rattle.drawing.specs.Thickness.{mean_sigma, hundredths_of};
 
 use dequantize::coefficients::inv_adjusted_quant;
+use std::fs::File;
+use std::io::{Error, Stdout, Write};
 use writer::WriteAnswer;
 
 // The text of a spline that has all the points that this program has room for: a pair takes 17 bytes at most, and one parts it from the next.
 const TEXT: usize = 18874386;
 
 // The status, after a line that says why the file could not be written.
-fn unwritten() -> u8
+fn unwritten(why: Error) -> u8
     ensures { result ≤ 3 }
 {
-    os::fail(b"the drawing");
+    words::fail(b"the drawing", why);
     1
 }
 
@@ -49,10 +51,10 @@ fn sigma_of(coefficients: &[i32], k: usize) -> i32 {
     coefficients[128 * k + 96]
 }
 
-// A polyline with this text of points; whether it was written.
-fn line(fd: i32, k: usize, hundredths: u64, text: &[u8]) -> bool {
-    if words::tell(
-        fd,
+// Writes a polyline with this text of points.
+fn line(mut file: &File, k: usize, hundredths: u64, text: &[u8]) -> std::io::Result<()> {
+    words::tell(
+        file,
         b"<polyline id=\"trace-#\" fill=\"none\" stroke=\"black\" stroke-linejoin=\"round\" stroke-width=\"#.##\" points=\"",
         &[
             k as u64,
@@ -60,25 +62,20 @@ fn line(fd: i32, k: usize, hundredths: u64, text: &[u8]) -> bool {
             hundredths / 10 % 10,
             hundredths % 10,
         ],
-    ) != 0
-    {
-        return false;
-    }
-    if !io::write_all(fd, text) {
-        return false;
-    }
-    io::write_all(fd, b"\"/>\n")
+    )?;
+    file.write_all(text)?;
+    file.write_all(b"\"/>\n")
 }
 
 // The first n bytes are the text of points.
-fn line_first(fd: i32, k: usize, hundredths: u64, text: &[u8], n: usize) -> u8
+fn line_first(file: &File, k: usize, hundredths: u64, text: &[u8], n: usize) -> u8
     ensures { result ≤ 3 }
 {
     if text.len() < n {
         return 1;
     }
-    if !line(fd, k, hundredths, &text[0..n]) {
-        return unwritten();
+    if let Err(why) = line(file, k, hundredths, &text[0..n]) {
+        return unwritten(why);
     }
     0
 }
@@ -91,7 +88,7 @@ fn trace(
     coefficients: &[i32],
     adjustment: i32,
     k: usize,
-    fd: i32,
+    file: &File,
     text: &mut [u8],
 ) -> u8
     ensures { result ≤ 3 }
@@ -99,7 +96,7 @@ fn trace(
     let hundredths = thickness(mean_sigma(sigma_of(coefficients, k), adjustment));
     match polyline_write::points_write(counts, starts, deltas, coefficients, k, text) {
         WriteAnswer::Refused(code, place) => refusals::of_building(code, place),
-        WriteAnswer::Done(n) => line_first(fd, k, hundredths, text, n),
+        WriteAnswer::Done(n) => line_first(file, k, hundredths, text, n),
     }
 }
 
@@ -110,7 +107,7 @@ fn traces(
     deltas: &[i32],
     coefficients: &[i32],
     adjustment: i32,
-    fd: i32,
+    file: &File,
     text: &mut [u8],
 ) -> u8
     ensures { result ≤ 3 }
@@ -128,7 +125,7 @@ fn traces(
             coefficients,
             adjustment,
             k,
-            fd,
+            file,
             &mut text[0..room],
         );
         if status != 0 {
@@ -140,15 +137,13 @@ fn traces(
 }
 
 // In this program the pixel in column x and row y has its centre at x, y; in a drawing a pixel begins there. So the drawing begins half a pixel before.
-fn begin(fd: i32, width: u32, height: u32) -> bool {
-    if words::tell(fd, b"<?xml version=\"1.0\" encoding=\"UTF-8\"?>\n", &[]) != 0 {
-        return false;
-    }
+fn begin(file: &File, width: u32, height: u32) -> std::io::Result<()> {
+    words::tell(file, b"<?xml version=\"1.0\" encoding=\"UTF-8\"?>\n", &[])?;
     words::tell(
-        fd,
+        file,
         b"<svg xmlns=\"http://www.w3.org/2000/svg\" width=\"#\" height=\"#\" viewBox=\"-0.5 -0.5 # #\">\n",
         &[width as u64, height as u64, width as u64, height as u64],
-    ) == 0
+    )
 }
 
 // The drawing of a description in an image of this size, each text of points in a room first. The room is lent as an array: its length is then known by its type, and no proof counts its cells.
@@ -160,22 +155,23 @@ fn write_in(
     adjustment: i32,
     width: u32,
     height: u32,
-    fd: i32,
+    to: Stdout,
+    mut file: &File,
     text: &mut [u8; TEXT],
 ) -> u8
     ensures { result ≤ 3 }
 {
-    if !begin(fd, width, height) {
-        return unwritten();
+    if let Err(why) = begin(file, width, height) {
+        return unwritten(why);
     }
-    let status = traces(counts, starts, deltas, coefficients, adjustment, fd, text);
+    let status = traces(counts, starts, deltas, coefficients, adjustment, file, text);
     if status != 0 {
         return status;
     }
-    if !io::write_all(fd, b"</svg>\n") {
-        return unwritten();
+    if let Err(why) = file.write_all(b"</svg>\n") {
+        return unwritten(why);
     }
-    words::out(b"# traces\n", &[counts.len() as u64])
+    words::out(to, b"# traces\n", &[counts.len() as u64])
 }
 
 // The same; the status.
@@ -187,7 +183,8 @@ pub fn write(
     adjustment: i32,
     width: u32,
     height: u32,
-    fd: i32,
+    to: Stdout,
+    file: &File,
 ) -> u8
     ensures { result ≤ 3 }
 {
@@ -200,7 +197,8 @@ pub fn write(
         adjustment,
         width,
         height,
-        fd,
+        to,
+        file,
         &mut text,
     )
 }

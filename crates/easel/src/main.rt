@@ -10,6 +10,10 @@ use arguments::{Kind, Two};
 use build_answer::BuildAnswer;
 use canvas::{Asked, Task};
 use read_list::ReadAnswer;
+use std::fs::File;
+use std::io::{IsTerminal, Stdout};
+use std::os::fd::AsRawFd;
+use std::rt::{Env, Files};
 use text::Parsed;
 
 const BYTES: usize = 65536;
@@ -38,6 +42,9 @@ const ENTRIES: usize = 524288;
 // For 16384 rows.
 const ROW_STARTS: usize = 16385;
 
+// More words than any use has.
+const WORDS: usize = 64;
+
 // The status of what is left to `gauge`.
 const LEFT: u8 = 4;
 
@@ -52,9 +59,10 @@ fn show(
     bits: &[u8],
     estimate: u64,
     faint: u32,
-    task: Task,
+    task: Task<'_>,
 ) -> u8 {
-    let status = canvas::say_built(segment_count, faint, entry_count, estimate);
+    let to = task.to;
+    let status = canvas::say_built(to, segment_count, faint, entry_count, estimate);
     if status != 0 {
         return status;
     }
@@ -77,7 +85,7 @@ fn build_in(
     deltas: &[i32],
     coefficients: &[i32],
     adjustment: i32,
-    task: Task,
+    task: Task<'_>,
     path: &mut [f32; PATH],
     walk: &mut [f32; WALK],
     segments: &mut [f32; SEGMENTS],
@@ -133,7 +141,7 @@ fn build(
     deltas: &[i32],
     coefficients: &[i32],
     adjustment: i32,
-    task: Task,
+    task: Task<'_>,
 ) -> u8 {
     let mut path = [0.0f32; PATH];
     let mut walk = [0.0f32; WALK];
@@ -166,7 +174,7 @@ fn build_first(
     splines: u32,
     points: u32,
     adjustment: i32,
-    task: Task,
+    task: Task<'_>,
 ) -> u8 {
     let s = splines as usize;
     let n = points as usize;
@@ -195,7 +203,7 @@ fn build_first(
 // A list that is read in lent rooms, under the usual configured limit.
 fn read_in(
     list: &[u32],
-    task: Task,
+    task: Task<'_>,
     counts: &mut [u32; SPLINES],
     starts: &mut [f32; STARTS],
     deltas: &mut [i32; DELTAS],
@@ -237,7 +245,7 @@ fn read_first(values: &[u32], n: usize, task: Task) -> u8 {
 }
 
 // The values of a text, the first n of the bytes, go to a room.
-fn parse_first(bytes: &[u8], n: usize, task: Task, values: &mut [u32; VALUES]) -> u8 {
+fn parse_first(bytes: &[u8], n: usize, task: Task<'_>, values: &mut [u32; VALUES]) -> u8 {
     if bytes.len() < n {
         return LEFT;
     }
@@ -248,7 +256,7 @@ fn parse_first(bytes: &[u8], n: usize, task: Task, values: &mut [u32; VALUES]) -
 }
 
 // The text of an open file goes to a room; one that fills it may be longer.
-fn load_in(fd: i32, task: Task, bytes: &mut [u8; BYTES], values: &mut [u32; VALUES]) -> u8 {
+fn load_in(fd: i32, task: Task<'_>, bytes: &mut [u8; BYTES], values: &mut [u32; VALUES]) -> u8 {
     let n = io::read_full(fd, bytes);
     if BYTES <= n {
         return LEFT;
@@ -257,83 +265,101 @@ fn load_in(fd: i32, task: Task, bytes: &mut [u8; BYTES], values: &mut [u32; VALU
 }
 
 // The picture of the list in the file that argument i names.
-fn draw_list(i: u8, task: Task) -> u8 {
+fn draw_list<R: Env + Files<File = File>>(rt: &R, i: u8, task: Task<'_>) -> u8 {
     let mut held = io::buffer();
-    let n = os::arg(i as usize, &mut held);
-    let fd = os::open_read(&held[..n]);
-    if fd < 0 {
+    let n = arguments::fill(rt, i as usize, &mut held);
+    let Ok(file) = files::open(rt, &held[..n]) else {
         return LEFT;
-    }
+    };
     let mut bytes = [0u8; BYTES];
     let mut values = [0u32; VALUES];
-    let status = load_in(fd, task, &mut bytes, &mut values);
-    libc::close(fd);
-    status
+    load_in(file.as_raw_fd(), task, &mut bytes, &mut values)
 }
 
 // The same, into a file of this name.
-fn draw_to(i: u8, width: u32, height: u32, path: &[u8], floats: bool, high: bool) -> u8 {
-    let fd = os::open_overwrite(path);
-    if fd < 2 {
+fn draw_to<R: Env + Files<File = File>>(
+    rt: &R,
+    to: Stdout,
+    terminal: bool,
+    i: u8,
+    width: u32,
+    height: u32,
+    path: &[u8],
+    floats: bool,
+    high: bool,
+) -> u8 {
+    let Ok(file) = files::make(rt, path) else {
+        return LEFT;
+    };
+    if file.as_raw_fd() < 2 {
         return LEFT;
     }
-    let status = draw_list(
+    draw_list(
+        rt,
         i,
         Task {
             width: width,
             height: height,
             asked: Asked::Picture,
-            fd: fd,
+            to: to,
+            file: Some(&file),
             floats: floats,
-            progress: libc::isatty(2) == 1,
+            progress: terminal,
             high: high,
-            hide: 0,
+            hide: &[],
             desk: 0,
             profile: 0,
             edition: 0,
         },
-    );
-    libc::close(fd);
-    status
+    )
 }
 
 // Into the file that argument i + 3 names, as its name asks for.
-fn draw_named(i: u8, width: u32, height: u32, high: bool) -> u8
+fn draw_named<R: Env + Files<File = File>>(
+    rt: &R,
+    to: Stdout,
+    terminal: bool,
+    i: u8,
+    width: u32,
+    height: u32,
+    high: bool,
+) -> u8
     requires { i ≤ 40 }
 {
     let mut held = io::buffer();
-    let n = os::arg(i as usize + 3, &mut held);
-    match arguments::kind_of(&held[..n]) {
-        Kind::Tones => draw_to(i, width, height, &held[..n], false, high),
-        Kind::Floats => draw_to(i, width, height, &held[..n], true, high),
+    let n = arguments::fill(rt, i as usize + 3, &mut held);
+    let path = &held[..n];
+    match arguments::kind_of(path) {
+        Kind::Tones => draw_to(rt, to, terminal, i, width, height, path, false, high),
+        Kind::Floats => draw_to(rt, to, terminal, i, width, height, path, true, high),
         _ => LEFT,
     }
 }
 
 // `draw` at this argument, and four words.
-fn draw(at: u8, high: bool) -> u8
+fn draw<R: Env + Files<File = File>>(rt: &R, to: Stdout, terminal: bool, at: u8, high: bool) -> u8
     requires { at ≤ 3 }
 {
-    if os::arg_count() != at as usize + 5 {
+    if arguments::count(rt, WORDS) != at as usize + 5 {
         return LEFT;
     }
-    if !arguments::is_argument(at as usize, b"draw") {
+    if !arguments::is_argument(rt, at as usize, b"draw") {
         return LEFT;
     }
-    match arguments::size_at(at + 2) {
+    match arguments::size_at(rt, at + 2) {
         Two::Not => LEFT,
-        Two::Are(width, height) => draw_named(at + 1, width, height, high),
+        Two::Are(width, height) => draw_named(rt, to, terminal, at + 1, width, height, high),
     }
 }
 
 // The command, behind the precision where it is named.
-fn run_from(at: u8) -> u8
+fn run_from<R: Env + Files<File = File>>(rt: &R, to: Stdout, terminal: bool, at: u8) -> u8
     requires { at ≤ 2 }
 {
-    if arguments::is_argument(at as usize, b"--high") {
-        return draw(at + 1, true);
+    if arguments::is_argument(rt, at as usize, b"--high") {
+        return draw(rt, to, terminal, at + 1, true);
     }
-    draw(at, false)
+    draw(rt, to, terminal, at, false)
 }
 
 // A status, as one digit; none after an end that is to be quiet.
@@ -343,10 +369,12 @@ fn tell(status: u8) {
     }
 }
 
-fn main() {
-    if arguments::is_argument(1, b"--status") {
-        tell(run_from(2));
+fn main(rt: HostRuntime) {
+    let to = rt.stdout();
+    let terminal = rt.stderr().is_terminal();
+    if arguments::is_argument(&rt, 1, b"--status") {
+        tell(run_from(&rt, to, terminal, 2));
     } else {
-        run_from(1);
+        run_from(&rt, to, terminal, 1);
     }
 }

@@ -1,10 +1,13 @@
 // The bytes of a file, and the values of a text.
 #![tactic(auto)]
 
-ghost use Rattle.std.specs.Prelude.{◌≡◌, ◌≤◌, negsuc, ◌≤ℤ◌};
-ghost use Rattle.io.specs.Counts.{IsPrefixLen};
+ghost use Rattle.std.specs.Prelude.{◌≡◌, ◌≤◌};
 ghost use Rattle.files.specs.Loads.{status_in};
 
+use std::fs::File;
+use std::io::{Error, ErrorKind, Read};
+use std::os::fd::AsRawFd;
+use std::rt::Files;
 use text::Parsed;
 
 // How many bytes or values there are; or the bytes fill their room; or the status, after a line that says what is wrong.
@@ -15,29 +18,34 @@ pub enum Loaded {
     Status(u8),
 }
 
-// The name that argument i is, to standard error.
-fn say_name(i: usize) {
-    let mut held = io::buffer();
-    let n = os::arg(i, &mut held);
-    io::write_all(2, &held[..n]);
+// A file by its name: open, or why it is not.
+#[derive(Clone, Copy)]
+pub struct Named<'a> {
+    pub name: &'a [u8],
+    pub opened: &'a std::io::Result<File>,
 }
 
-// A line that begins with the name that argument i is, and the line in that file; a `#` in what is wrong stands for the number.
-fn at_line(i: usize, line: usize, what: &[u8], number: usize) {
-    say_name(i);
+// A name, to standard error.
+fn say_name(name: &[u8]) {
+    io::write_all(2, name);
+}
+
+// A line that begins with a name, and the line in that file; a `#` in what is wrong stands for the number.
+fn at_line(name: &[u8], line: usize, what: &[u8], number: usize) {
+    say_name(name);
     words::wrong(2, b": line #", &[line as u64]);
     words::wrong(2, what, &[number as u64]);
 }
 
-// The values of the text in the file that argument i names.
-pub fn parse(i: usize, text: &[u8], values: &mut [u32]) -> Loaded
+// The values of the text in the file of this name.
+pub fn parse(name: &[u8], text: &[u8], values: &mut [u32]) -> Loaded
     ensures { status_in result ≤ 2 }
 {
     match text::values_of(text, values) {
         Parsed::Values(n) => Loaded::Count(n),
         Parsed::Stranger(at) => {
             at_line(
-                i,
+                name,
                 text::line_of(text, at),
                 b": a byte that is neither a digit nor white space\n",
                 0,
@@ -46,7 +54,7 @@ pub fn parse(i: usize, text: &[u8], values: &mut [u32]) -> Loaded
         }
         Parsed::Great(at) => {
             at_line(
-                i,
+                name,
                 text::line_of(text, at),
                 b": a number above 4294967295\n",
                 0,
@@ -55,7 +63,7 @@ pub fn parse(i: usize, text: &[u8], values: &mut [u32]) -> Loaded
         }
         Parsed::Full(at) => {
             at_line(
-                i,
+                name,
                 text::line_of(text, at),
                 b": more values than this program has room for, #\n",
                 values.len(),
@@ -66,17 +74,16 @@ pub fn parse(i: usize, text: &[u8], values: &mut [u32]) -> Loaded
 }
 
 // A read that fails, as of a directory, is told from a file that is empty.
-fn can_read(fd: i32) -> bool {
+fn can_read(mut file: &File) -> std::io::Result<usize> {
     let mut one = [0u8; 1];
-    let got = libc::read(fd, &mut one);
-    0 <= got
+    file.read(&mut one)
 }
 
-// The line of a file, named by argument i, that has more bytes than there is room for; the status of a refusal.
-pub fn say_long(i: usize, room: usize) -> u8
+// The line of a file of this name that has more bytes than there is room for; the status of a refusal.
+pub fn say_long(name: &[u8], room: usize) -> u8
     ensures { result ≡ 1 }
 {
-    say_name(i);
+    say_name(name);
     words::wrong(
         1,
         b": longer than this program has room for, # bytes\n",
@@ -84,29 +91,30 @@ pub fn say_long(i: usize, room: usize) -> u8
     )
 }
 
-// The file that argument i names, open; -1 where it is not, after a line that says why.
-pub fn open(i: usize) -> i32
-    ensures { negsuc 0 ≤ℤ result }
-{
-    let mut held = io::buffer();
-    let n = os::arg(i, &mut held);
-    let path = &held[..n];
-    let fd = os::open_read(path);
-    if fd < 0 {
-        os::fail(path);
-        return -1;
+// The file of this name, open. A name that is no text in UTF-8 names none.
+pub fn open<R: Files<File = File>>(rt: &R, name: &[u8]) -> std::io::Result<File> {
+    match std::str::from_utf8(name) {
+        Ok(path) => std::fs::open(rt, path),
+        Err(_) => Err(Error::from(ErrorKind::InvalidFilename)),
     }
-    fd
 }
 
-// The bytes of an open file, which fill the buffer only if there are too many.
-fn read_in(path: &[u8], fd: i32, bytes: &mut [u8]) -> Loaded
+// The same, to be written: made where there is none, and emptied.
+pub fn make<R: Files<File = File>>(rt: &R, name: &[u8]) -> std::io::Result<File> {
+    match std::str::from_utf8(name) {
+        Ok(path) => std::fs::create(rt, path),
+        Err(_) => Err(Error::from(ErrorKind::InvalidFilename)),
+    }
+}
+
+// The bytes of the file of this name, which is open; they fill the buffer only if there are too many.
+pub fn fill(name: &[u8], file: &File, bytes: &mut [u8]) -> Loaded
     ensures { status_in result ≤ 2 }
 {
-    let n = io::read_full(fd, bytes);
+    let n = io::read_full(file.as_raw_fd(), bytes);
     if n == 0 {
-        if !can_read(fd) {
-            os::fail(path);
+        if let Err(why) = can_read(file) {
+            words::fail(name, why);
             return Loaded::Status(2);
         }
         return Loaded::Count(0);
@@ -117,24 +125,15 @@ fn read_in(path: &[u8], fd: i32, bytes: &mut [u8]) -> Loaded
     Loaded::Count(n)
 }
 
-// The bytes of the file that argument i names, which is open.
-pub fn fill(i: usize, fd: i32, bytes: &mut [u8]) -> Loaded
+// The bytes of a file by its name; the status where it is not open, after a line that says why.
+pub fn load(named: Named<'_>, bytes: &mut [u8]) -> Loaded
     ensures { status_in result ≤ 2 }
 {
-    let mut held = io::buffer();
-    let n = os::arg(i, &mut held);
-    read_in(&held[..n], fd, bytes)
-}
-
-// The bytes of the file that argument i names.
-pub fn load(i: usize, bytes: &mut [u8]) -> Loaded
-    ensures { status_in result ≤ 2 }
-{
-    let fd = open(i);
-    if fd < 0 {
-        return Loaded::Status(2);
+    match named.opened {
+        Ok(file) => fill(named.name, file, bytes),
+        Err(why) => {
+            words::fail(named.name, *why);
+            Loaded::Status(2)
+        }
     }
-    let loaded = fill(i, fd, bytes);
-    libc::close(fd);
-    loaded
 }

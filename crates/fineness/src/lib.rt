@@ -4,6 +4,7 @@
 ghost use Rattle.std.specs.Prelude.{◌≤◌, length};
 
 use profile::ProfileAnswer;
+use std::io::Stdout;
 
 // Where the first number other than 0 stands, from one index up to another; the latter where there is none.
 fn first_other(c: &[i32], from: usize, to: usize) -> usize
@@ -194,6 +195,7 @@ pub fn judge(
 
 // The same, with a yes where it meets the edition.
 pub fn say(
+    to: Stdout,
     counts: &[u32],
     starts: &[f32],
     deltas: &[i32],
@@ -208,6 +210,7 @@ pub fn say(
         return status;
     }
     words::out(
+        to,
         b"yes: it meets edition # of the fineness profile\n",
         &[edition as u64],
     )

@@ -9,7 +9,11 @@ use arguments::{Kind, Number, Two, kind_at, kind_of, pixel_at, size_at};
 use asking::{Command, Options};
 use canvas::{Asked, Task};
 use contents::Tried;
-use files::Loaded;
+use files::{Loaded, Named};
+use std::fs::File;
+use std::io::{IsTerminal, Seek, Stdout};
+use std::os::fd::AsRawFd;
+use std::rt::{Env, Files};
 use taking::Wanted;
 
 // As many as a list of 4096 splines and 2^20 points has.
@@ -22,6 +26,17 @@ const BYTES: usize = 33554432;
 const SHORT_BYTES: usize = 65536;
 
 const SHORT_VALUES: usize = 32768;
+
+// More words than any use has.
+const WORDS: usize = 64;
+
+// What a command is asked with: where words go, the options before it, and the text that names the traces that are hidden, which is empty where none are.
+#[derive(Clone, Copy)]
+struct With<'a> {
+    to: Stdout,
+    options: Options,
+    hide: &'a [u8],
+}
 
 fn usage() -> u8 {
     words::wrong(
@@ -48,419 +63,523 @@ fn say_pixel() -> u8 {
 }
 
 // What is asked of a list, the first n of the values.
-fn perform_first(values: &[u32], n: usize, task: Task) -> u8 {
+fn perform_first(values: &[u32], n: usize, task: Task<'_>) -> u8 {
     if values.len() < n {
         return 2;
     }
     rooms::of_list(&values[0..n], task)
 }
 
-// What is asked of the text in the file that argument i names, whose values go to a room.
-fn perform_text(i: usize, text: &[u8], task: Task, values: &mut [u32; VALUES]) -> u8 {
-    match files::parse(i, text, values) {
+// What is asked of the text in the file of this name, whose values go to a room.
+fn perform_text(name: &[u8], text: &[u8], task: Task<'_>, values: &mut [u32; VALUES]) -> u8 {
+    match files::parse(name, text, values) {
         Loaded::Long => 2,
         Loaded::Status(status) => status,
         Loaded::Count(n) => perform_first(values, n, task),
     }
 }
 
-// What is asked of the first n bytes, which the file that argument i names has.
-fn perform_bytes(i: usize, bytes: &[u8], n: usize, task: Task, values: &mut [u32; VALUES]) -> u8 {
+// What is asked of the first n bytes, which the file of this name has.
+fn perform_bytes(
+    name: &[u8],
+    bytes: &[u8],
+    n: usize,
+    task: Task<'_>,
+    values: &mut [u32; VALUES],
+) -> u8 {
     if bytes.len() < n {
         return 2;
     }
-    match kind_at(i) {
+    match kind_of(name) {
         Kind::Trace => rooms::of_trace(&bytes[0..n], task),
-        _ => perform_text(i, &bytes[0..n], task, values),
+        _ => perform_text(name, &bytes[0..n], task, values),
     }
 }
 
-// What is asked of an open file, which argument i names. The rooms are lent as arrays: the length of each is then known by its type, and no proof counts its cells.
+// What is asked of an open file of this name. The rooms are lent as arrays: the length of each is then known by its type, and no proof counts its cells.
 fn perform_in(
-    i: usize,
-    fd: i32,
-    task: Task,
+    name: &[u8],
+    file: &File,
+    task: Task<'_>,
     bytes: &mut [u8; BYTES],
     values: &mut [u32; VALUES],
 ) -> u8 {
-    match files::fill(i, fd, bytes) {
-        Loaded::Long => files::say_long(i, BYTES - 1),
+    match files::fill(name, file, bytes) {
+        Loaded::Long => files::say_long(name, BYTES - 1),
         Loaded::Status(status) => status,
-        Loaded::Count(n) => perform_bytes(i, bytes, n, task, values),
+        Loaded::Count(n) => perform_bytes(name, bytes, n, task, values),
     }
 }
 
 // What is asked of an open file, in rooms for all that this program takes.
-fn perform_long(i: usize, fd: i32, task: Task) -> u8 {
+fn perform_long(name: &[u8], file: &File, task: Task<'_>) -> u8 {
     let mut bytes = [0u8; BYTES];
     let mut values = [0u32; VALUES];
-    perform_in(i, fd, task, &mut bytes, &mut values)
+    perform_in(name, file, task, &mut bytes, &mut values)
 }
 
 // What a list holds, the first n of the values.
-fn tell_first(values: &[u32], n: usize) -> Tried {
+fn tell_first(to: Stdout, values: &[u32], n: usize) -> Tried {
     if values.len() < n {
         return Tried::Status(2);
     }
-    contents::tell_list(&values[0..n])
+    contents::tell_list(to, &values[0..n])
 }
 
-fn tell_text(i: usize, text: &[u8], values: &mut [u32; SHORT_VALUES]) -> Tried {
-    match files::parse(i, text, values) {
+fn tell_text(to: Stdout, name: &[u8], text: &[u8], values: &mut [u32; SHORT_VALUES]) -> Tried {
+    match files::parse(name, text, values) {
         Loaded::Long => Tried::Room,
         Loaded::Status(status) => Tried::Status(status),
-        Loaded::Count(n) => tell_first(values, n),
+        Loaded::Count(n) => tell_first(to, values, n),
     }
 }
 
-// What the first n bytes hold, which the file that argument i names has.
-fn tell_bytes(i: usize, bytes: &[u8], n: usize, values: &mut [u32; SHORT_VALUES]) -> Tried {
+// What the first n bytes hold, which the file of this name has.
+fn tell_bytes(
+    to: Stdout,
+    name: &[u8],
+    bytes: &[u8],
+    n: usize,
+    values: &mut [u32; SHORT_VALUES],
+) -> Tried {
     if bytes.len() < n {
         return Tried::Status(2);
     }
-    match kind_at(i) {
-        Kind::Trace => contents::tell_trace(&bytes[0..n]),
-        _ => tell_text(i, &bytes[0..n], values),
+    match kind_of(name) {
+        Kind::Trace => contents::tell_trace(to, &bytes[0..n]),
+        _ => tell_text(to, name, &bytes[0..n], values),
     }
 }
 
 fn tell_in(
-    i: usize,
-    fd: i32,
+    to: Stdout,
+    name: &[u8],
+    file: &File,
     bytes: &mut [u8; SHORT_BYTES],
     values: &mut [u32; SHORT_VALUES],
 ) -> Tried {
-    match files::fill(i, fd, bytes) {
+    match files::fill(name, file, bytes) {
         Loaded::Long => Tried::Room,
         Loaded::Status(status) => Tried::Status(status),
-        Loaded::Count(n) => tell_bytes(i, bytes, n, values),
+        Loaded::Count(n) => tell_bytes(to, name, bytes, n, values),
     }
 }
 
 // What an open file holds, in rooms that fit a small stack.
-fn tell_short(i: usize, fd: i32) -> Tried {
+fn tell_short(to: Stdout, name: &[u8], file: &File) -> Tried {
     let mut bytes = [0u8; SHORT_BYTES];
     let mut values = [0u32; SHORT_VALUES];
-    tell_in(i, fd, &mut bytes, &mut values)
+    tell_in(to, name, file, &mut bytes, &mut values)
 }
 
 // What an open file holds. One that is too long is read again; a pipe, which has no position, can be read only once.
-fn read_open(i: usize, fd: i32, task: Task) -> u8 {
-    if libc::lseek(fd, 0, libc::SEEK_CUR) < 0 {
-        return perform_long(i, fd, task);
+fn read_open(name: &[u8], mut file: &File, task: Task<'_>) -> u8 {
+    if let Err(_) = file.stream_position() {
+        return perform_long(name, file, task);
     }
-    match tell_short(i, fd) {
+    let to = task.to;
+    match tell_short(to, name, file) {
         Tried::Status(status) => status,
         Tried::Room => {
-            libc::lseek(fd, 0, libc::SEEK_SET);
-            perform_long(i, fd, task)
+            let _ = file.rewind();
+            perform_long(name, file, task)
         }
     }
 }
 
-fn perform(i: usize, task: Task) -> u8 {
-    let fd = files::open(i);
-    if fd < 0 {
-        return 2;
+// The status where a file cannot be opened, after a line that says why.
+fn unopened(name: &[u8], why: std::io::Error) -> u8 {
+    words::fail(name, why);
+    2
+}
+
+// What is asked of the file that argument i names.
+fn perform<R: Env + Files<File = File>>(rt: &R, i: usize, task: Task<'_>) -> u8 {
+    let mut held = io::buffer();
+    let n = arguments::fill(rt, i, &mut held);
+    let name = &held[..n];
+    match files::open(rt, name) {
+        Ok(file) => perform_long(name, &file, task),
+        Err(why) => unopened(name, why),
     }
-    let status = perform_long(i, fd, task);
-    libc::close(fd);
-    status
 }
 
 // A task of these options, in words to standard output.
-fn task(options: Options, width: u32, height: u32, asked: Asked) -> Task {
+fn task<'a>(with: With<'a>, width: u32, height: u32, asked: Asked<'a>) -> Task<'a> {
+    let options = with.options;
     Task {
         width: width,
         height: height,
         asked: asked,
-        fd: 1,
+        to: with.to,
+        file: None,
         floats: false,
         progress: false,
         high: options.high,
-        hide: options.hide,
+        hide: with.hide,
         desk: options.desk,
         profile: options.profile,
         edition: options.edition,
     }
 }
 
-fn read(i: u8, options: Options) -> u8 {
-    let fd = files::open(i as usize);
-    if fd < 0 {
-        return 2;
+fn read<R: Env + Files<File = File>>(rt: &R, i: u8, with: With<'_>) -> u8 {
+    let mut held = io::buffer();
+    let n = arguments::fill(rt, i as usize, &mut held);
+    let name = &held[..n];
+    match files::open(rt, name) {
+        Ok(file) => read_open(name, &file, task(with, 0, 0, Asked::Contents)),
+        Err(why) => unopened(name, why),
     }
-    let status = read_open(i as usize, fd, task(options, 0, 0, Asked::Contents));
-    libc::close(fd);
-    status
 }
 
-fn rows(i: u8, options: Options) -> u8
+fn rows<R: Env + Files<File = File>>(rt: &R, i: u8, with: With<'_>) -> u8
     requires { i ≤ 40 }
 {
-    match size_at(i + 1) {
+    match size_at(rt, i + 1) {
         Two::Not => say_size(),
-        Two::Are(width, height) => perform(i as usize, task(options, width, height, Asked::Rows)),
+        Two::Are(width, height) => perform(rt, i as usize, task(with, width, height, Asked::Rows)),
     }
 }
 
 // The traces of the file that argument i names that have a pixel of an image of this size.
-fn touch_in(i: u8, width: u32, height: u32, options: Options) -> u8
+fn touch_in<R: Env + Files<File = File>>(
+    rt: &R,
+    i: u8,
+    width: u32,
+    height: u32,
+    with: With<'_>,
+) -> u8
     requires { i ≤ 40 }
 {
-    match pixel_at(i + 3, width, height) {
+    match pixel_at(rt, i + 3, width, height) {
         Two::Not => say_pixel(),
-        Two::Are(x, y) => perform(i as usize, task(options, width, height, Asked::Touch(x, y))),
+        Two::Are(x, y) => perform(
+            rt,
+            i as usize,
+            task(with, width, height, Asked::Touch(x, y)),
+        ),
     }
 }
 
-fn touch(i: u8, options: Options) -> u8
+fn touch<R: Env + Files<File = File>>(rt: &R, i: u8, with: With<'_>) -> u8
     requires { i ≤ 40 }
 {
-    match size_at(i + 1) {
+    match size_at(rt, i + 1) {
         Two::Not => say_size(),
-        Two::Are(width, height) => touch_in(i, width, height, options),
+        Two::Are(width, height) => touch_in(rt, i, width, height, with),
     }
 }
 
 // Why the segment that the argument after the size says sits where it does.
-fn why_in(i: u8, width: u32, height: u32, options: Options) -> u8
+fn why_in<R: Env + Files<File = File>>(rt: &R, i: u8, width: u32, height: u32, with: With<'_>) -> u8
     requires { i ≤ 40 }
 {
-    match arguments::argument(i as usize + 3) {
-        Number::Is(n) => perform(i as usize, task(options, width, height, Asked::Why(n))),
+    match arguments::argument(rt, i as usize + 3) {
+        Number::Is(n) => perform(rt, i as usize, task(with, width, height, Asked::Why(n))),
         _ => words::wrong(2, b"the number of a segment is due\n", &[]),
     }
 }
 
-fn why(i: u8, options: Options) -> u8
+fn why<R: Env + Files<File = File>>(rt: &R, i: u8, with: With<'_>) -> u8
     requires { i ≤ 40 }
 {
-    match size_at(i + 1) {
+    match size_at(rt, i + 1) {
         Two::Not => say_size(),
-        Two::Are(width, height) => why_in(i, width, height, options),
+        Two::Are(width, height) => why_in(rt, i, width, height, with),
     }
 }
 
-// The bands of a table, or its row starts and entries, or whether those of the file that the argument after the size names are it.
-fn table(i: u8, options: Options, asked: Asked) -> u8
+// The bands of a table, or its row starts and entries.
+fn table<R: Env + Files<File = File>>(rt: &R, i: u8, with: With<'_>, asked: Asked<'_>) -> u8
     requires { i ≤ 40 }
 {
-    match size_at(i + 1) {
+    match size_at(rt, i + 1) {
         Two::Not => say_size(),
-        Two::Are(width, height) => perform(i as usize, task(options, width, height, asked)),
+        Two::Are(width, height) => perform(rt, i as usize, task(with, width, height, asked)),
+    }
+}
+
+// Whether the row starts and entries of the file that the argument after the size names are the table. The file is opened first, and what is wrong with it is told last.
+fn check_in<R: Env + Files<File = File>>(
+    rt: &R,
+    i: u8,
+    width: u32,
+    height: u32,
+    with: With<'_>,
+) -> u8
+    requires { i ≤ 40 }
+{
+    let mut held = io::buffer();
+    let n = arguments::fill(rt, i as usize + 3, &mut held);
+    let name = &held[..n];
+    let opened = files::open(rt, name);
+    let named = Named {
+        name,
+        opened: &opened,
+    };
+    perform(
+        rt,
+        i as usize,
+        task(with, width, height, Asked::Check(named)),
+    )
+}
+
+fn check<R: Env + Files<File = File>>(rt: &R, i: u8, with: With<'_>) -> u8
+    requires { i ≤ 40 }
+{
+    match size_at(rt, i + 1) {
+        Two::Not => say_size(),
+        Two::Are(width, height) => check_in(rt, i, width, height, with),
     }
 }
 
 // Whether the file that argument i names meets the edition that the next argument is, or edition 1 where there is none.
-fn profile(i: u8, more: usize, options: Options) -> u8
+fn profile<R: Env + Files<File = File>>(rt: &R, i: u8, more: usize, with: With<'_>) -> u8
     requires { i ≤ 40 }
 {
     let edition = if more == 1 {
         1
     } else {
-        asking::edition_at(i as usize + 1)
+        asking::edition_at(rt, i as usize + 1)
     };
-    perform(i as usize, task(options, 0, 0, Asked::Profile(edition)))
+    perform(rt, i as usize, task(with, 0, 0, Asked::Profile(edition)))
 }
 
 // What is asked of the file that argument i names, into a file of this name.
-fn write_to(
+fn write_to<R: Env + Files<File = File>>(
+    rt: &R,
     i: u8,
     width: u32,
     height: u32,
-    asked: Asked,
+    asked: Asked<'_>,
     path: &[u8],
     floats: bool,
-    options: Options,
+    with: With<'_>,
 ) -> u8 {
-    let fd = os::open_overwrite(path);
-    if fd < 0 {
-        os::fail(path);
-        return 2;
-    }
-    if fd == 1 {
+    let file = match files::make(rt, path) {
+        Ok(file) => file,
+        Err(why) => {
+            return unopened(path, why);
+        }
+    };
+    if file.as_raw_fd() == 1 {
         return words::wrong(1, b"standard output is closed\n", &[]);
     }
-    let status = perform(
+    let options = with.options;
+    perform(
+        rt,
         i as usize,
         Task {
             width: width,
             height: height,
             asked: asked,
-            fd: fd,
+            to: with.to,
+            file: Some(&file),
             floats: floats,
             progress: options.progress,
             high: options.high,
-            hide: options.hide,
+            hide: with.hide,
             desk: options.desk,
             profile: options.profile,
             edition: options.edition,
         },
-    );
-    libc::close(fd);
-    status
+    )
 }
 
-fn draw_named(i: u8, width: u32, height: u32, path: &[u8], options: Options) -> u8 {
+fn draw_named<R: Env + Files<File = File>>(
+    rt: &R,
+    i: u8,
+    width: u32,
+    height: u32,
+    path: &[u8],
+    with: With<'_>,
+) -> u8 {
     match kind_of(path) {
-        Kind::Tones => write_to(i, width, height, Asked::Picture, path, false, options),
-        Kind::Floats => write_to(i, width, height, Asked::Picture, path, true, options),
+        Kind::Tones => write_to(rt, i, width, height, Asked::Picture, path, false, with),
+        Kind::Floats => write_to(rt, i, width, height, Asked::Picture, path, true, with),
         _ => usage(),
     }
 }
 
-fn draw(i: u8, options: Options) -> u8
+fn draw<R: Env + Files<File = File>>(rt: &R, i: u8, with: With<'_>) -> u8
     requires { i ≤ 40 }
 {
-    match size_at(i + 1) {
+    match size_at(rt, i + 1) {
         Two::Not => say_size(),
         Two::Are(width, height) => {
             let mut held = io::buffer();
-            let n = os::arg(i as usize + 3, &mut held);
-            draw_named(i, width, height, &held[..n], options)
+            let n = arguments::fill(rt, i as usize + 3, &mut held);
+            draw_named(rt, i, width, height, &held[..n], with)
         }
     }
 }
 
 // The trace file of the file that argument i names, into the file that the next one names.
-fn trace_out(i: u8, options: Options) -> u8
+fn trace_out<R: Env + Files<File = File>>(rt: &R, i: u8, with: With<'_>) -> u8
     requires { i ≤ 60 }
 {
     let mut held = io::buffer();
-    let n = os::arg(i as usize + 1, &mut held);
+    let n = arguments::fill(rt, i as usize + 1, &mut held);
     match kind_of(&held[..n]) {
-        Kind::Trace => write_to(i, 0, 0, Asked::Trace, &held[..n], false, options),
+        Kind::Trace => write_to(rt, i, 0, 0, Asked::Trace, &held[..n], false, with),
         _ => usage(),
     }
 }
 
 // The list of the trace file that argument i names, into the file that the next one names, which is none.
-fn trace_in(i: u8, options: Options) -> u8
+fn trace_in<R: Env + Files<File = File>>(rt: &R, i: u8, with: With<'_>) -> u8
     requires { i ≤ 60 }
 {
-    let Kind::Trace = kind_at(i as usize) else {
+    let Kind::Trace = kind_at(rt, i as usize) else {
         return usage();
     };
     let mut held = io::buffer();
-    let n = os::arg(i as usize + 1, &mut held);
+    let n = arguments::fill(rt, i as usize + 1, &mut held);
     match kind_of(&held[..n]) {
-        Kind::Other => write_to(i, 0, 0, Asked::List, &held[..n], false, options),
+        Kind::Other => write_to(rt, i, 0, 0, Asked::List, &held[..n], false, with),
         _ => usage(),
     }
 }
 
 // `out` or `in` at argument i, and two files.
-fn trace(i: u8, options: Options) -> u8
+fn trace<R: Env + Files<File = File>>(rt: &R, i: u8, with: With<'_>) -> u8
     requires { i ≤ 40 }
 {
-    if arguments::is_argument(i as usize, b"out") {
-        return trace_out(i + 1, options);
+    if arguments::is_argument(rt, i as usize, b"out") {
+        return trace_out(rt, i + 1, with);
     }
-    if arguments::is_argument(i as usize, b"in") {
-        return trace_in(i + 1, options);
+    if arguments::is_argument(rt, i as usize, b"in") {
+        return trace_in(rt, i + 1, with);
     }
     usage()
 }
 
 // The line drawing of the file that argument i names, in an image of the size that the next ones say, into the file that the one behind them names.
-fn svg_out(i: u8, options: Options) -> u8
+fn svg_out<R: Env + Files<File = File>>(rt: &R, i: u8, with: With<'_>) -> u8
     requires { i ≤ 50 }
 {
-    let Two::Are(width, height) = size_at(i + 1) else {
+    let Two::Are(width, height) = size_at(rt, i + 1) else {
         return say_size();
     };
     let mut held = io::buffer();
-    let n = os::arg(i as usize + 3, &mut held);
+    let n = arguments::fill(rt, i as usize + 3, &mut held);
     match kind_of(&held[..n]) {
-        Kind::Drawing => write_to(i, width, height, Asked::Drawing, &held[..n], false, options),
+        Kind::Drawing => write_to(
+            rt,
+            i,
+            width,
+            height,
+            Asked::Drawing,
+            &held[..n],
+            false,
+            with,
+        ),
         _ => usage(),
     }
 }
 
 // The traces of a drawing, the first n of the bytes.
-fn svg_first(bytes: &[u8], n: usize, wanted: Wanted) -> u8 {
+fn svg_first(to: Stdout, bytes: &[u8], n: usize, wanted: Wanted) -> u8 {
     if bytes.len() < n {
         return 2;
     }
-    taking::say(&bytes[0..n], wanted)
+    taking::say(to, &bytes[0..n], wanted)
 }
 
-// The traces of the drawing that argument i names, whose bytes go to a room.
-fn svg_loaded(i: u8, wanted: Wanted, bytes: &mut [u8; BYTES]) -> u8 {
-    match files::load(i as usize, bytes) {
-        Loaded::Long => files::say_long(i as usize, BYTES - 1),
+// The traces of the drawing in the named file, whose bytes go to a room.
+fn svg_loaded(to: Stdout, named: Named<'_>, wanted: Wanted, bytes: &mut [u8; BYTES]) -> u8 {
+    match files::load(named, bytes) {
+        Loaded::Long => files::say_long(named.name, BYTES - 1),
         Loaded::Status(status) => status,
-        Loaded::Count(n) => svg_first(bytes, n, wanted),
+        Loaded::Count(n) => svg_first(to, bytes, n, wanted),
     }
 }
 
-fn svg_in(i: u8, wanted: Wanted) -> u8 {
+// The traces of the drawing that argument i names.
+fn svg_in<R: Env + Files<File = File>>(rt: &R, i: u8, to: Stdout, wanted: Wanted) -> u8 {
+    let mut held = io::buffer();
+    let n = arguments::fill(rt, i as usize, &mut held);
+    let name = &held[..n];
+    let opened = files::open(rt, name);
+    let named = Named {
+        name,
+        opened: &opened,
+    };
     let mut bytes = [0u8; BYTES];
-    svg_loaded(i, wanted, &mut bytes)
+    svg_loaded(to, named, wanted, &mut bytes)
 }
 
 // The same of the trace whose number the next argument is.
-fn svg_in_one(i: u8) -> u8
+fn svg_in_one<R: Env + Files<File = File>>(rt: &R, i: u8, to: Stdout) -> u8
     requires { i ≤ 60 }
 {
-    match arguments::argument(i as usize + 1) {
-        Number::Is(n) => svg_in(i, Wanted::One(n)),
+    match arguments::argument(rt, i as usize + 1) {
+        Number::Is(n) => svg_in(rt, i, to, Wanted::One(n)),
         _ => words::wrong(2, b"the number of a trace is due\n", &[]),
     }
 }
 
 // `out` or `in` at argument i, with so many words from it on.
-fn svg(i: u8, more: usize, options: Options) -> u8
+fn svg<R: Env + Files<File = File>>(rt: &R, i: u8, more: usize, with: With<'_>) -> u8
     requires { i ≤ 40 }
 {
     if more == 5 {
-        return if arguments::is_argument(i as usize, b"out") {
-            svg_out(i + 1, options)
+        return if arguments::is_argument(rt, i as usize, b"out") {
+            svg_out(rt, i + 1, with)
         } else {
             usage()
         };
     }
-    if !arguments::is_argument(i as usize, b"in") {
+    if !arguments::is_argument(rt, i as usize, b"in") {
         return usage();
     }
     match more {
-        2 => svg_in(i + 1, Wanted::All),
-        3 => svg_in_one(i + 1),
+        2 => svg_in(rt, i + 1, with.to, Wanted::All),
+        3 => svg_in_one(rt, i + 1, with.to),
         _ => usage(),
     }
 }
 
 // The command with these options, whose words behind it are so many.
-fn run_words(at: u8, more: usize, options: Options) -> u8
+fn run_words<R: Env + Files<File = File>>(rt: &R, at: u8, more: usize, with: With<'_>) -> u8
     requires { at ≤ 20 }
 {
-    let command = asking::command_at(at as usize);
+    let command = asking::command_at(rt, at as usize);
     if !asking::may_have(command, more) {
         return usage();
     }
     let i = at + 1;
     match command {
-        Command::Read => read(i, options),
-        Command::Rows => rows(i, options),
-        Command::Bands => table(i, options, Asked::Bands),
-        Command::Touch => touch(i, options),
-        Command::Why => why(i, options),
-        Command::Table => table(i, options, Asked::Table),
-        Command::Check => table(i, options, Asked::Check(i + 3)),
-        Command::Profile => profile(i, more, options),
-        Command::Draw => draw(i, options),
-        Command::Trace => trace(i, options),
-        Command::Svg => svg(i, more, options),
+        Command::Read => read(rt, i, with),
+        Command::Rows => rows(rt, i, with),
+        Command::Bands => table(rt, i, with, Asked::Bands),
+        Command::Touch => touch(rt, i, with),
+        Command::Why => why(rt, i, with),
+        Command::Table => table(rt, i, with, Asked::Table),
+        Command::Check => check(rt, i, with),
+        Command::Profile => profile(rt, i, more, with),
+        Command::Draw => draw(rt, i, with),
+        Command::Trace => trace(rt, i, with),
+        Command::Svg => svg(rt, i, more, with),
         Command::None => usage(),
     }
 }
 
+// The text that argument i is, which names what is hidden, and goes to a room; an empty one where i is 0.
+fn hidden_at<'a>(rt: &impl Env, i: u8, held: &'a mut [u8; hiding::ROOM]) -> &'a [u8] {
+    if i == 0 {
+        return &[];
+    }
+    let n = arguments::fill_up(rt, i as usize, held);
+    &held[..n]
+}
+
 // The command behind the options that begin at argument `at`.
-fn run_from(at: u8) -> u8
+fn run_from<R: Env + Files<File = File>>(rt: &R, to: Stdout, terminal: bool, at: u8) -> u8
     requires { at ≤ 2 }
 {
-    let options = asking::options_from(at);
+    let options = asking::options_from(rt, at, terminal);
     if !options.good {
         return usage();
     }
@@ -472,11 +591,18 @@ fn run_from(at: u8) -> u8
         );
     }
     let first = options.at;
-    let words = os::arg_count();
+    let words = arguments::count(rt, WORDS);
     if words <= first as usize {
         return usage();
     }
-    run_words(first, words - first as usize - 1, options)
+    let mut held = [0u8; hiding::ROOM];
+    let hide = hidden_at(rt, options.hide, &mut held);
+    run_words(
+        rt,
+        first,
+        words - first as usize - 1,
+        With { to, options, hide },
+    )
 }
 
 // A status, as one digit; none after an end that is to be quiet.
@@ -486,10 +612,12 @@ fn tell(status: u8) {
     }
 }
 
-fn main() {
-    if arguments::is_argument(1, b"--status") {
-        tell(run_from(2));
+fn main(rt: HostRuntime) {
+    let to = rt.stdout();
+    let terminal = rt.stderr().is_terminal();
+    if arguments::is_argument(&rt, 1, b"--status") {
+        tell(run_from(&rt, to, terminal, 2));
     } else {
-        run_from(1);
+        run_from(&rt, to, terminal, 1);
     }
 }

@@ -1,4 +1,4 @@
-// The shared bytes of a description, a byte a spline, with the splines hidden whose numbers an argument of the program holds, with white space between them.
+// The shared bytes of a description, a byte a spline, with the splines hidden whose numbers a text holds, with white space between them.
 #![tactic(auto)]
 
 ghost use Rattle.std.specs.Prelude.{◌≤◌, length};
@@ -11,6 +11,9 @@ const NUMBERS: usize = 4096;
 
 // As many bytes as their numbers take, of four digits each, with a mark behind each.
 const BYTES: usize = 20480;
+
+// Room for a text, and for one byte more: one that fills it is too long.
+pub const ROOM: usize = 20481;
 
 fn say_numbers() -> u8
     ensures { result ≤ 3 }
@@ -71,47 +74,16 @@ fn hide_text(text: &[u8], desk: u32, bits: &mut [u8], numbers: &mut [u32; NUMBER
     }
 }
 
-// The same of the first n bytes of a text.
-fn hide_bytes(
-    bytes: &[u8],
-    n: usize,
-    desk: u32,
-    bits: &mut [u8],
-    numbers: &mut [u32; NUMBERS],
-) -> u8
+// Hides for the desk what a text names, nothing where it is empty; the status. One that is too long is not cut short.
+pub fn hide_named(text: &[u8], desk: u32, bits: &mut [u8]) -> u8
     ensures { result ≤ 3 }
 {
-    if bytes.len() < n {
-        return 1;
-    }
-    hide_text(&bytes[0..n], desk, bits, numbers)
-}
-
-// The same of argument i, which goes to a room; one that is longer is not cut short.
-fn hide_argument(
-    i: u8,
-    desk: u32,
-    bits: &mut [u8],
-    held: &mut [u8; BYTES],
-    numbers: &mut [u32; NUMBERS],
-) -> u8
-    ensures { result ≤ 3 }
-{
-    let n = os::arg(i as usize, held);
-    if os::errno() != 0 {
-        return say_numbers();
-    }
-    hide_bytes(held, n, desk, bits, numbers)
-}
-
-// Hides for the desk what argument i names, nothing where i is 0; the status.
-pub fn hide_named(i: u8, desk: u32, bits: &mut [u8]) -> u8
-    ensures { result ≤ 3 }
-{
-    if i == 0 {
+    if text.len() == 0 {
         return 0;
     }
-    let mut held = [0u8; BYTES];
+    if BYTES < text.len() {
+        return say_numbers();
+    }
     let mut numbers = [0u32; NUMBERS];
-    hide_argument(i, desk, bits, &mut held, &mut numbers)
+    hide_text(text, desk, bits, &mut numbers)
 }

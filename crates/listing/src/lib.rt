@@ -3,9 +3,10 @@
 
 ghost use Rattle.std.specs.Prelude.{◌≤◌, ◌<◌, length};
 
-use files::Loaded;
+use files::{Loaded, Named};
 use makers::CheckAnswer;
 use segments::Segment;
+use std::io::Stdout;
 
 // A start of 16385 takes nine bytes and an entry of 2^24 takes eight, each with what parts it from the next; and more, so that a text that fills it is known to be too long.
 const BYTES: usize = 135266304;
@@ -27,12 +28,12 @@ fn wide(n: u32) -> u64 {
 }
 
 // Numbers, each on a line.
-fn say_numbers(numbers: &[u32]) -> u8
+fn say_numbers(to: Stdout, numbers: &[u32]) -> u8
     ensures { result ≤ 3 }
 {
     let mut k: usize = 0;
     while k < numbers.len() {
-        let status = words::out(b"#\n", &[wide(numbers[k])]);
+        let status = words::out(to, b"#\n", &[wide(numbers[k])]);
         if status != 0 {
             return status;
         }
@@ -42,7 +43,7 @@ fn say_numbers(numbers: &[u32]) -> u8
 }
 
 // The row starts of a picture, one more than its rows, and then the entries.
-pub fn say(entries: &[u32], entry_count: u32, row_starts: &[u32], height: u32) -> u8
+pub fn say(to: Stdout, entries: &[u32], entry_count: u32, row_starts: &[u32], height: u32) -> u8
     ensures { result ≤ 3 }
 {
     let starts = height as usize + 1;
@@ -53,11 +54,11 @@ pub fn say(entries: &[u32], entry_count: u32, row_starts: &[u32], height: u32) -
     if entries.len() < listed {
         return 1;
     }
-    let status = say_numbers(&row_starts[0..starts]);
+    let status = say_numbers(to, &row_starts[0..starts]);
     if status != 0 {
         return status;
     }
-    say_numbers(&entries[0..listed])
+    say_numbers(to, &entries[0..listed])
 }
 
 // ---- what is wrong with a row
@@ -273,10 +274,11 @@ fn say_short(starts: usize, numbers: usize) -> u8
     )
 }
 
-fn say_yes(n: u32) -> u8
+fn say_yes(to: Stdout, n: u32) -> u8
     ensures { result ≤ 3 }
 {
     words::out(
+        to,
         b"yes: this is the table of the picture, with # entries\n",
         &[n as u64],
     )
@@ -284,6 +286,7 @@ fn say_yes(n: u32) -> u8
 
 // Whether these are the row starts and the entries of a picture of so many rows.
 fn check_parts(
+    to: Stdout,
     segments: &[f32],
     segment_count: u32,
     height: u32,
@@ -304,7 +307,7 @@ fn check_parts(
         entries,
         listed as u32,
     ) {
-        CheckAnswer::Done(n) => say_yes(n),
+        CheckAnswer::Done(n) => say_yes(to, n),
         CheckAnswer::Refused(_, place) => {
             say_wrong(segments, segment_count, row_starts, entries, height, place)
         }
@@ -312,7 +315,13 @@ fn check_parts(
 }
 
 // The same of numbers, the row starts first.
-fn check_numbers(segments: &[f32], segment_count: u32, height: u32, numbers: &[u32]) -> u8
+fn check_numbers(
+    to: Stdout,
+    segments: &[f32],
+    segment_count: u32,
+    height: u32,
+    numbers: &[u32],
+) -> u8
     ensures { result ≤ 3 }
 {
     let starts = height as usize + 1;
@@ -320,6 +329,7 @@ fn check_numbers(segments: &[f32], segment_count: u32, height: u32, numbers: &[u
         return say_short(starts, numbers.len());
     }
     check_parts(
+        to,
         segments,
         segment_count,
         height,
@@ -329,39 +339,48 @@ fn check_numbers(segments: &[f32], segment_count: u32, height: u32, numbers: &[u
 }
 
 // The same of the first k of these numbers.
-fn check_first(segments: &[f32], segment_count: u32, height: u32, numbers: &[u32], k: usize) -> u8
+fn check_first(
+    to: Stdout,
+    segments: &[f32],
+    segment_count: u32,
+    height: u32,
+    numbers: &[u32],
+    k: usize,
+) -> u8
     ensures { result ≤ 3 }
 {
     if numbers.len() < k {
         return 1;
     }
-    check_numbers(segments, segment_count, height, &numbers[0..k])
+    check_numbers(to, segments, segment_count, height, &numbers[0..k])
 }
 
-// The same of the numbers that a text of the file that argument i names has, which go to a room.
+// The same of the numbers that a text of the named file has, which go to a room.
 fn check_parsed(
+    to: Stdout,
     segments: &[f32],
     segment_count: u32,
     height: u32,
-    i: u8,
+    named: Named<'_>,
     bytes: &[u8],
     numbers: &mut [u32; NUMBERS],
 ) -> u8
     ensures { result ≤ 3 }
 {
-    match files::parse(i as usize, bytes, numbers) {
+    match files::parse(named.name, bytes, numbers) {
         Loaded::Long => 1,
         Loaded::Status(status) => told(status),
-        Loaded::Count(k) => check_first(segments, segment_count, height, numbers, k),
+        Loaded::Count(k) => check_first(to, segments, segment_count, height, numbers, k),
     }
 }
 
-// The same of the first n bytes of a text, which the file that argument i names has.
+// The same of the first n bytes of a text, which the named file has.
 fn check_text(
+    to: Stdout,
     segments: &[f32],
     segment_count: u32,
     height: u32,
-    i: u8,
+    named: Named<'_>,
     bytes: &[u8],
     n: usize,
 ) -> u8
@@ -372,37 +391,39 @@ fn check_text(
     }
     let mut numbers = [0u32; NUMBERS];
     check_parsed(
+        to,
         segments,
         segment_count,
         height,
-        i,
+        named,
         &bytes[0..n],
         &mut numbers,
     )
 }
 
-// The same of the file that argument i names, whose bytes go to a room.
+// The same of the named file, whose bytes go to a room.
 fn check_file(
+    to: Stdout,
     segments: &[f32],
     segment_count: u32,
     height: u32,
-    i: u8,
+    named: Named<'_>,
     bytes: &mut [u8; BYTES],
 ) -> u8
     ensures { result ≤ 3 }
 {
-    match files::load(i as usize, bytes) {
-        Loaded::Long => files::say_long(i as usize, BYTES - 1),
+    match files::load(named, bytes) {
+        Loaded::Long => files::say_long(named.name, BYTES - 1),
         Loaded::Status(status) => told(status),
-        Loaded::Count(n) => check_text(segments, segment_count, height, i, bytes, n),
+        Loaded::Count(n) => check_text(to, segments, segment_count, height, named, bytes, n),
     }
 }
 
-// Whether the file that argument i names holds the row starts and the entries of these segments, in a picture of so many rows.
+// Whether the named file holds the row starts and the entries of these segments, in a picture of so many rows.
 // The room is lent as an array: its length is then known by its type, and no proof counts its bytes.
-pub fn check(segments: &[f32], segment_count: u32, height: u32, i: u8) -> u8
+pub fn check(to: Stdout, segments: &[f32], segment_count: u32, height: u32, named: Named<'_>) -> u8
     ensures { result ≤ 3 }
 {
     let mut bytes = [0u8; BYTES];
-    check_file(segments, segment_count, height, i, &mut bytes)
+    check_file(to, segments, segment_count, height, named, &mut bytes)
 }

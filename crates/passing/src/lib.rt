@@ -6,6 +6,8 @@ mod lines;
 ghost use Rattle.std.specs.Prelude.{◌≤◌};
 
 use codes::Code;
+use std::fs::File;
+use std::io::{Error, Stdout, Write};
 use writer::WriteAnswer;
 
 // As much as a trace file of 4096 splines and 2^20 points has, of version 2.
@@ -20,37 +22,37 @@ const CONFIGURED: u32 = 1048576;
 const PIXELS: u32 = 4294967295;
 
 // The status, after a line that says why the file could not be written.
-fn unwritten(what: &[u8]) -> u8
+fn unwritten(what: &[u8], why: Error) -> u8
     ensures { result ≤ 3 }
 {
-    os::fail(what);
+    words::fail(what, why);
     1
 }
 
 // The first n bytes are the file.
-fn write_trace(fd: i32, bytes: &[u8], n: usize) -> u8
+fn write_trace(to: Stdout, mut file: &File, bytes: &[u8], n: usize) -> u8
     ensures { result ≤ 3 }
 {
     if bytes.len() < n {
         return 1;
     }
-    if !io::write_all(fd, &bytes[0..n]) {
-        return unwritten(b"the trace file");
+    if let Err(why) = file.write_all(&bytes[0..n]) {
+        return unwritten(b"the trace file", why);
     }
-    words::out(b"# bytes\n", &[n as u64])
+    words::out(to, b"# bytes\n", &[n as u64])
 }
 
 // The first n values are the list of a description with these points.
-fn write_list(fd: i32, list: &[u32], n: usize, counts: &[u32]) -> u8
+fn write_list(to: Stdout, file: &File, list: &[u32], n: usize, counts: &[u32]) -> u8
     ensures { result ≤ 3 }
 {
     if list.len() < n {
         return 1;
     }
-    if lines::write(fd, &list[0..n], counts) != 0 {
-        return unwritten(b"the list");
+    if let Err(why) = lines::write(file, &list[0..n], counts) {
+        return unwritten(b"the list", why);
     }
-    words::out(b"# values\n", &[n as u64])
+    words::out(to, b"# values\n", &[n as u64])
 }
 
 fn refuse(code: Code, place: usize) -> u8
@@ -67,7 +69,8 @@ fn trace_in(
     coefficients: &[i32],
     adjustment: i32,
     edition: u32,
-    fd: i32,
+    to: Stdout,
+    file: &File,
     bytes: &mut [u8; BYTES],
 ) -> u8
     ensures { result ≤ 3 }
@@ -85,7 +88,7 @@ fn trace_in(
         bytes,
     ) {
         WriteAnswer::Refused(code, place) => refuse(code, place),
-        WriteAnswer::Done(n) => write_trace(fd, bytes, n),
+        WriteAnswer::Done(n) => write_trace(to, file, bytes, n),
     }
 }
 
@@ -97,7 +100,8 @@ pub fn as_trace(
     coefficients: &[i32],
     adjustment: i32,
     edition: u32,
-    fd: i32,
+    to: Stdout,
+    file: &File,
 ) -> u8
     ensures { result ≤ 3 }
 {
@@ -109,7 +113,8 @@ pub fn as_trace(
         coefficients,
         adjustment,
         edition,
-        fd,
+        to,
+        file,
         &mut bytes,
     )
 }
@@ -121,7 +126,8 @@ fn list_in(
     deltas: &[i32],
     coefficients: &[i32],
     adjustment: i32,
-    fd: i32,
+    to: Stdout,
+    file: &File,
     list: &mut [u32; VALUES],
 ) -> u8
     ensures { result ≤ 3 }
@@ -139,7 +145,7 @@ fn list_in(
         WriteAnswer::Refused(code, place) => {
             refusals::of_writing(code, place, counts.len(), CONFIGURED)
         }
-        WriteAnswer::Done(n) => write_list(fd, list, n, counts),
+        WriteAnswer::Done(n) => write_list(to, file, list, n, counts),
     }
 }
 
@@ -150,7 +156,8 @@ pub fn as_list(
     deltas: &[i32],
     coefficients: &[i32],
     adjustment: i32,
-    fd: i32,
+    to: Stdout,
+    file: &File,
 ) -> u8
     ensures { result ≤ 3 }
 {
@@ -161,7 +168,8 @@ pub fn as_list(
         deltas,
         coefficients,
         adjustment,
-        fd,
+        to,
+        file,
         &mut list,
     )
 }

@@ -2,6 +2,14 @@
 // coefficients.
 ghost use Rattle.std.specs.Prelude.{◌≤◌};
 
+use std::fs::File;
+use std::io::{Error, ErrorKind, Result};
+
+// The list is shorter than its counts say.
+fn short() -> Error {
+    Error::from(ErrorKind::InvalidInput)
+}
+
 fn wide(value: u32) -> u64 {
     value as u64
 }
@@ -13,99 +21,72 @@ fn twice(points: u32) -> usize
     2 * (points as usize)
 }
 
-// The values in one line; whether they were written. No values make no line.
-fn line(fd: i32, values: &[u32]) -> bool {
+// Writes the values in one line. No values make no line.
+fn line(file: &File, values: &[u32]) -> Result<()> {
     let mut i = 0;
     while i < values.len() {
         let mark = if i + 1 == values.len() { b'\n' } else { b' ' };
-        if words::tell(fd, &[b'#', mark], &[wide(values[i])]) != 0 {
-            return false;
-        }
+        words::tell(file, &[b'#', mark], &[wide(values[i])])?;
         i += 1;
     }
-    true
+    Ok(())
 }
 
 // Four rows of coefficients.
-fn rows(fd: i32, values: &[u32]) -> bool {
+fn rows(file: &File, values: &[u32]) -> Result<()> {
     if values.len() < 128 {
-        return false;
+        return Err(short());
     }
-    if !line(fd, &values[0..32]) {
-        return false;
-    }
-    if !line(fd, &values[32..64]) {
-        return false;
-    }
-    if !line(fd, &values[64..96]) {
-        return false;
-    }
-    line(fd, &values[96..128])
+    line(file, &values[0..32])?;
+    line(file, &values[32..64])?;
+    line(file, &values[64..96])?;
+    line(file, &values[96..128])
 }
 
 // A spline with n numbers for its double deltas.
-fn spline(fd: i32, values: &[u32], n: usize) -> bool {
+fn spline(file: &File, values: &[u32], n: usize) -> Result<()> {
     if values.len() < 1 {
-        return false;
+        return Err(short());
     }
     if values.len() - 1 < n {
-        return false;
+        return Err(short());
     }
-    if !line(fd, &values[0..1]) {
-        return false;
-    }
+    line(file, &values[0..1])?;
     let past = n + 1;
-    if !line(fd, &values[1..past]) {
-        return false;
-    }
-    rows(fd, &values[past..])
+    line(file, &values[1..past])?;
+    rows(file, &values[past..])
 }
 
-fn splines(fd: i32, values: &[u32], counts: &[u32]) -> bool {
+fn splines(file: &File, values: &[u32], counts: &[u32]) -> Result<()> {
     let mut at = 0;
     let mut k = 0;
     while k < counts.len() {
         let n = twice(counts[k]);
         if values.len() - at < n + 129 {
-            return false;
+            return Err(short());
         }
         let past = at + (n + 129);
-        if !spline(fd, &values[at..past], n) {
-            return false;
-        }
+        spline(file, &values[at..past], n)?;
         at = past;
         k += 1;
     }
-    true
+    Ok(())
 }
 
-// The list of a description with these points; whether it was written.
-fn written(fd: i32, list: &[u32], counts: &[u32]) -> bool {
+// The list of a description with these points.
+pub fn write(file: &File, list: &[u32], counts: &[u32]) -> Result<()> {
     if list.len() < 2 {
-        return false;
+        return Err(short());
     }
     let s = counts.len();
     if (list.len() - 2) / 2 < s {
-        return false;
+        return Err(short());
     }
     let starts = 2 * s;
-    if !line(fd, &list[0..1]) {
-        return false;
-    }
+    line(file, &list[0..1])?;
     let past = starts + 1;
-    if !line(fd, &list[1..past]) {
-        return false;
-    }
+    line(file, &list[1..past])?;
     let rest = past + 1;
-    if !line(fd, &list[past..rest]) {
-        return false;
-    }
-    splines(fd, &list[rest..], counts)
-}
-
-// 0 where the list was written, else 1.
-pub fn write(fd: i32, list: &[u32], counts: &[u32]) -> u8
-    ensures { result ≤ 1 }
-{
-    if written(fd, list, counts) { 0 } else { 1 }
+    line(file, &list[past..rest])?;
+    splines(file, &list[rest..], counts)
 }

@@ -5,11 +5,13 @@ ghost use Rattle.std.specs.Prelude.{◌≤◌};
 
 use canvas::Task;
 use hull::ReachAnswer;
+use std::io::Stdout;
 
-fn say_row(y: u32, entries: usize, first: u32, past: u32) -> u8
+fn say_row(to: Stdout, y: u32, entries: usize, first: u32, past: u32) -> u8
     ensures { result ≤ 3 }
 {
     words::out(
+        to,
         b"row #: # entries, columns from # up to #\n",
         &[y as u64, entries as u64, first as u64, past as u64],
     )
@@ -24,7 +26,7 @@ fn reach_row(
     entry_count: u32,
     row_starts: &[u32],
     bits: &[u8],
-    task: Task,
+    task: Task<'_>,
     y: u32,
 ) -> u8
     ensures { result ≤ 3 }
@@ -37,6 +39,7 @@ fn reach_row(
     let height = task.height;
     let width = task.width;
     let splines = bits.len() as u64;
+    let to = task.to;
     match hull::reach(
         segments,
         owners,
@@ -52,7 +55,7 @@ fn reach_row(
         width,
     ) {
         ReachAnswer::Refused(_, _) => 0,
-        ReachAnswer::Done(first, past) => say_row(y, held, first, past),
+        ReachAnswer::Done(first, past) => say_row(to, y, held, first, past),
     }
 }
 
@@ -65,7 +68,7 @@ pub fn say(
     entry_count: u32,
     row_starts: &[u32],
     bits: &[u8],
-    task: Task,
+    task: Task<'_>,
 ) -> u8
     ensures { result ≤ 3 }
 {

@@ -10,6 +10,9 @@ mod number_leaves;
 ghost use Rattle.frame.specs.Frame.{IsWhole};
 
 use frame::Verdict;
+use std::fs::File;
+use std::os::fd::AsRawFd;
+use std::rt::Files;
 
 const BYTES: usize = 524288;
 
@@ -99,22 +102,21 @@ fn report_bytes(path: &[u8], bytes: &[u8]) {
     report_words(path, &words[..n]);
 }
 
-fn report(path: &[u8]) {
-    let fd = os::open_read(path);
-    if fd < 0 {
-        say(path, b": it cannot be opened\n");
+fn report<R: Files<File = File>>(rt: &R, path: &str) {
+    let name = path.as_bytes();
+    let Ok(file) = std::fs::open(rt, path) else {
+        say(name, b": it cannot be opened\n");
         return;
-    }
+    };
     let mut bytes = [0u8; BYTES];
-    let n = io::read_full(fd, &mut bytes);
-    libc::close(fd);
-    report_bytes(path, &bytes[..n]);
+    let n = io::read_full(file.as_raw_fd(), &mut bytes);
+    report_bytes(name, &bytes[..n]);
 }
 
-fn main() {
-    report(b"numbers.words");
-    report(b"list.words");
-    report(b"splines.words");
-    report(b"segments.words");
-    report(b"tables.words");
+fn main(rt: HostRuntime) {
+    report(&rt, "numbers.words");
+    report(&rt, "list.words");
+    report(&rt, "splines.words");
+    report(&rt, "segments.words");
+    report(&rt, "tables.words");
 }

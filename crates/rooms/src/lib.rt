@@ -32,7 +32,7 @@ fn say_short(
     deltas: &[i32],
     coefficients: &[i32],
     adjustment: i32,
-    task: Task,
+    task: Task<'_>,
     path: &mut [f32; tables::PATH],
     walk: &mut [f32; tables::WALK],
     segments: &mut [f32; tables::SEGMENTS],
@@ -64,7 +64,7 @@ fn say_room(
     deltas: &[i32],
     coefficients: &[i32],
     adjustment: i32,
-    task: Task,
+    task: Task<'_>,
 ) -> u8
     ensures { result ≤ 3 }
 {
@@ -93,7 +93,7 @@ fn build(
     deltas: &[i32],
     coefficients: &[i32],
     adjustment: i32,
-    task: Task,
+    task: Task<'_>,
 ) -> u8
     ensures { result ≤ 3 }
 {
@@ -110,7 +110,7 @@ fn build_judged(
     deltas: &[i32],
     coefficients: &[i32],
     adjustment: i32,
-    task: Task,
+    task: Task<'_>,
 ) -> u8
     ensures { result ≤ 3 }
 {
@@ -125,6 +125,13 @@ fn build_judged(
     build(counts, starts, deltas, coefficients, adjustment, task)
 }
 
+// The status where there is no file that what is asked for could go to.
+fn no_file() -> u8
+    ensures { result ≤ 3 }
+{
+    words::wrong(2, b"the name of a file is due\n", &[])
+}
+
 // What is asked of a description.
 fn answer(
     counts: &[u32],
@@ -133,15 +140,18 @@ fn answer(
     coefficients: &[i32],
     adjustment: i32,
     source: Source,
-    task: Task,
+    task: Task<'_>,
 ) -> u8
     ensures { result ≤ 3 }
 {
     let asked = task.asked;
+    let to = task.to;
     match asked {
-        Asked::Contents => contents::say(counts, starts, deltas.len() / 2, adjustment, source),
+        Asked::Contents => contents::say(to, counts, starts, deltas.len() / 2, adjustment, source),
         Asked::Trace => {
-            let fd = task.fd;
+            let Some(file) = task.file else {
+                return no_file();
+            };
             let edition = task.edition;
             passing::as_trace(
                 counts,
@@ -150,15 +160,20 @@ fn answer(
                 coefficients,
                 adjustment,
                 edition,
-                fd,
+                to,
+                file,
             )
         }
         Asked::List => {
-            let fd = task.fd;
-            passing::as_list(counts, starts, deltas, coefficients, adjustment, fd)
+            let Some(file) = task.file else {
+                return no_file();
+            };
+            passing::as_list(counts, starts, deltas, coefficients, adjustment, to, file)
         }
         Asked::Drawing => {
-            let fd = task.fd;
+            let Some(file) = task.file else {
+                return no_file();
+            };
             let width = task.width;
             let height = task.height;
             drawing::write(
@@ -169,11 +184,20 @@ fn answer(
                 adjustment,
                 width,
                 height,
-                fd,
+                to,
+                file,
             )
         }
         Asked::Profile(edition) => {
-            fineness::say(counts, starts, deltas, coefficients, adjustment, edition)
+            fineness::say(
+                to,
+                counts,
+                starts,
+                deltas,
+                coefficients,
+                adjustment,
+                edition,
+            )
         }
         _ => build_judged(counts, starts, deltas, coefficients, adjustment, task),
     }
@@ -189,7 +213,7 @@ fn answer_first(
     points: u32,
     adjustment: i32,
     source: Source,
-    task: Task,
+    task: Task<'_>,
 ) -> u8
     ensures { result ≤ 3 }
 {
@@ -221,7 +245,7 @@ fn answer_first(
 // What is asked of a list that is read in lent rooms. They are arrays: the length of each is then known by its type, and no proof counts its cells.
 fn list_in(
     list: &[u32],
-    task: Task,
+    task: Task<'_>,
     counts: &mut [u32; SPLINES],
     starts: &mut [f32; STARTS],
     deltas: &mut [i32; DELTAS],
@@ -257,7 +281,7 @@ fn list_in(
 }
 
 // What is asked of a list; the status.
-pub fn of_list(list: &[u32], task: Task) -> u8
+pub fn of_list(list: &[u32], task: Task<'_>) -> u8
     ensures { result ≤ 3 }
 {
     let mut counts = [0u32; SPLINES];
@@ -277,7 +301,7 @@ pub fn of_list(list: &[u32], task: Task) -> u8
 // What is asked of a trace file that is read in lent rooms.
 fn trace_in(
     bytes: &[u8],
-    task: Task,
+    task: Task<'_>,
     counts: &mut [u32; SPLINES],
     starts: &mut [f32; STARTS],
     deltas: &mut [i32; DELTAS],
@@ -302,7 +326,7 @@ fn trace_in(
 }
 
 // What is asked of a trace file; the status.
-pub fn of_trace(bytes: &[u8], task: Task) -> u8
+pub fn of_trace(bytes: &[u8], task: Task<'_>) -> u8
     ensures { result ≤ 3 }
 {
     let mut counts = [0u32; SPLINES];

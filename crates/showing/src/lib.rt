@@ -17,7 +17,7 @@ fn show(
     entry_count: u32,
     row_starts: &[u32],
     bits: &[u8],
-    task: Task,
+    task: Task<'_>,
 ) -> u8
     ensures { result ≤ 3 }
 {
@@ -37,7 +37,9 @@ fn show(
             let height = task.height;
             let width = task.width;
             let desk = task.desk;
+            let to = task.to;
             banding::say(
+                to,
                 segments,
                 owners,
                 segment_count,
@@ -75,7 +77,7 @@ fn show_hidden(
     splines: usize,
     estimate: u64,
     faint: u32,
-    task: Task,
+    task: Task<'_>,
 ) -> u8
     ensures { result ≤ 3 }
 {
@@ -88,7 +90,8 @@ fn show_hidden(
     if status != 0 {
         return status;
     }
-    let status = canvas::say_built(segment_count, faint, entry_count, estimate);
+    let to = task.to;
+    let status = canvas::say_built(to, segment_count, faint, entry_count, estimate);
     if status != 0 {
         return status;
     }
@@ -115,21 +118,22 @@ pub fn perform(
     splines: usize,
     estimate: u64,
     faint: u32,
-    task: Task,
+    task: Task<'_>,
 ) -> u8
     ensures { result ≤ 3 }
 {
     let asked = task.asked;
+    let to = task.to;
     match asked {
-        Asked::Touch(x, y) => touching::say(segments, owners, segment_count, x, y),
-        Asked::Why(n) => explaining::say(segments, owners, segment_count, n),
+        Asked::Touch(x, y) => touching::say(to, segments, owners, segment_count, x, y),
+        Asked::Why(n) => explaining::say(to, segments, owners, segment_count, n),
         Asked::Table => {
             let height = task.height;
-            listing::say(entries, entry_count, row_starts, height)
+            listing::say(to, entries, entry_count, row_starts, height)
         }
-        Asked::Check(i) => {
+        Asked::Check(named) => {
             let height = task.height;
-            listing::check(segments, segment_count, height, i)
+            listing::check(to, segments, segment_count, height, named)
         }
         _ => {
             let mut bytes = [0u8; TRACES];

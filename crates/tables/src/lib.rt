@@ -57,7 +57,7 @@ fn build_in(
     deltas: &[i32],
     coefficients: &[i32],
     adjustment: i32,
-    task: Task,
+    task: Task<'_>,
     path: &mut [f32],
     walk: &mut [f32],
     segments: &mut [f32],
@@ -112,7 +112,7 @@ fn build_short(
     deltas: &[i32],
     coefficients: &[i32],
     adjustment: i32,
-    task: Task,
+    task: Task<'_>,
     path: &mut [f32; SHORT_PATH],
     walk: &mut [f32; SHORT_WALK],
     segments: &mut [f32; SHORT_SEGMENTS],
@@ -144,7 +144,7 @@ fn build_long(
     deltas: &[i32],
     coefficients: &[i32],
     adjustment: i32,
-    task: Task,
+    task: Task<'_>,
     path: &mut [f32; PATH],
     walk: &mut [f32; WALK],
     segments: &mut [f32; SEGMENTS],
@@ -177,7 +177,7 @@ fn in_short(
     deltas: &[i32],
     coefficients: &[i32],
     adjustment: i32,
-    task: Task,
+    task: Task<'_>,
 ) -> Built
     ensures { built_status result ≤ 3 }
 {
@@ -210,7 +210,7 @@ fn in_long(
     deltas: &[i32],
     coefficients: &[i32],
     adjustment: i32,
-    task: Task,
+    task: Task<'_>,
 ) -> Built
     ensures { built_status result ≤ 3 }
 {
@@ -243,7 +243,7 @@ pub fn build(
     deltas: &[i32],
     coefficients: &[i32],
     adjustment: i32,
-    task: Task,
+    task: Task<'_>,
 ) -> Built
     ensures { built_status result ≤ 3 }
 {

@@ -4,6 +4,7 @@
 ghost use Rattle.std.specs.Prelude.{◌≤◌};
 ghost use Rattle.taking.specs.Steps.{status_in};
 
+use std::io::Stdout;
 use text::Parsed;
 use writer::WriteAnswer;
 
@@ -38,12 +39,13 @@ fn packed_delta(v: i32) -> u64 {
 }
 
 // Each double delta; the status so far.
-fn say_deltas(deltas: &[i32]) -> u8
+fn say_deltas(to: Stdout, deltas: &[i32]) -> u8
     ensures { result ≤ 3 }
 {
     let mut k = 0;
     while k < deltas.len() / 2 {
         let status = words::out(
+            to,
             b" ~ ~",
             &[packed_delta(deltas[2 * k]), packed_delta(deltas[2 * k + 1])],
         );
@@ -52,66 +54,67 @@ fn say_deltas(deltas: &[i32]) -> u8
         }
         k += 1;
     }
-    words::out(b"\n", &[])
+    words::out(to, b"\n", &[])
 }
 
-fn say_trace(number: u64, x: f32, y: f32, deltas: &[i32]) -> u8
+fn say_trace(to: Stdout, number: u64, x: f32, y: f32, deltas: &[i32]) -> u8
     ensures { result ≤ 3 }
 {
     let status = words::out(
+        to,
         b"trace # starts at ~, ~ and has # double deltas\ndouble deltas:",
         &[number, packed(x), packed(y), (deltas.len() / 2) as u64],
     );
     if status != 0 {
         return status;
     }
-    say_deltas(deltas)
+    say_deltas(to, deltas)
 }
 
 // The first n pairs are the double deltas.
-fn say_first(number: u64, x: f32, y: f32, deltas: &[i32], n: usize) -> u8
+fn say_first(to: Stdout, number: u64, x: f32, y: f32, deltas: &[i32], n: usize) -> u8
     ensures { result ≤ 3 }
 {
     if deltas.len() / 2 < n {
         return 1;
     }
-    say_trace(number, x, y, &deltas[0..2 * n])
+    say_trace(to, number, x, y, &deltas[0..2 * n])
 }
 
 // A trace by its text of points, whose double deltas go to a room.
-fn say_read(number: u64, text: &[u8], deltas: &mut [i32]) -> u8
+fn say_read(to: Stdout, number: u64, text: &[u8], deltas: &mut [i32]) -> u8
     ensures { result ≤ 3 }
 {
     let mut start = [0.0f32; 2];
     match polyline_read::points_read(text, &mut start, deltas) {
         WriteAnswer::Refused(code, place) => refusals::of_points(code, place, number, text.len()),
-        WriteAnswer::Done(n) => say_first(number, start[0], start[1], deltas, n),
+        WriteAnswer::Done(n) => say_first(to, number, start[0], start[1], deltas, n),
     }
 }
 
 // The rooms are lent as arrays: the length of each is then known by its type, and no proof counts its cells.
-fn say_short(number: u64, text: &[u8], deltas: &mut [i32; SHORT_DELTAS]) -> u8
+fn say_short(to: Stdout, number: u64, text: &[u8], deltas: &mut [i32; SHORT_DELTAS]) -> u8
     ensures { result ≤ 3 }
 {
-    say_read(number, text, deltas)
+    say_read(to, number, text, deltas)
 }
 
-fn say_long(number: u64, text: &[u8], deltas: &mut [i32; DELTAS]) -> u8
+fn say_long(to: Stdout, number: u64, text: &[u8], deltas: &mut [i32; DELTAS]) -> u8
     ensures { result ≤ 3 }
 {
-    say_read(number, text, deltas)
+    say_read(to, number, text, deltas)
 }
 
 // Of so many traces each has its room cleared, so that a short text gets a short one.
-fn say_points(number: u64, text: &[u8]) -> u8
+fn say_points(to: Stdout, number: u64, text: &[u8]) -> u8
     ensures { result ≤ 3 }
 {
     if text.len() < SHORT_TEXT {
         let mut deltas = [0i32; SHORT_DELTAS];
-        return say_short(number, text, &mut deltas);
+        return say_short(to, number, text, &mut deltas);
     }
     let mut deltas = [0i32; DELTAS];
-    say_long(number, text, &mut deltas)
+    say_long(to, number, text, &mut deltas)
 }
 
 fn is_wanted(wanted: Wanted, number: u64) -> bool {
@@ -146,7 +149,7 @@ fn number_of(element: &[u8], order: usize) -> u64 {
 }
 
 // The points of the polyline of this number.
-fn say_line(element: &[u8], number: u64) -> u8
+fn say_line(to: Stdout, element: &[u8], number: u64) -> u8
     ensures { result ≤ 3 }
 {
     let at = finding::attribute(element, b"points=\"");
@@ -158,19 +161,19 @@ fn say_line(element: &[u8], number: u64) -> u8
         );
     }
     let from = at + 8;
-    let to = finding::find(element, from, b"\"");
-    say_points(number, &element[from..to])
+    let past = finding::find(element, from, b"\"");
+    say_points(to, number, &element[from..past])
 }
 
 // A polyline, where it is asked for.
-fn take_line(element: &[u8], order: usize, wanted: Wanted) -> Step
+fn take_line(to: Stdout, element: &[u8], order: usize, wanted: Wanted) -> Step
     ensures { status_in result ≤ 3 }
 {
     let number = number_of(element, order);
     if !is_wanted(wanted, number) {
         return Step::On(false);
     }
-    let status = say_line(element, number);
+    let status = say_line(to, element, number);
     if status != 0 {
         return Step::Stop(status);
     }
@@ -212,7 +215,7 @@ fn either(a: bool, b: bool) -> bool {
 }
 
 // Every polyline that is asked for; the status so far.
-fn say_lines(bytes: &[u8], wanted: Wanted) -> u8
+fn say_lines(to: Stdout, bytes: &[u8], wanted: Wanted) -> u8
     ensures { result ≤ 3 }
 {
     let mut at = finding::next_line(bytes, 0);
@@ -223,7 +226,7 @@ fn say_lines(bytes: &[u8], wanted: Wanted) -> u8
         if end == bytes.len() {
             return say_cut(order);
         }
-        match take_line(&bytes[at..end], order, wanted) {
+        match take_line(to, &bytes[at..end], order, wanted) {
             Step::Stop(status) => {
                 return status;
             }
@@ -238,7 +241,7 @@ fn say_lines(bytes: &[u8], wanted: Wanted) -> u8
 }
 
 // The traces of a drawing that are asked for; the status.
-pub fn say(bytes: &[u8], wanted: Wanted) -> u8
+pub fn say(to: Stdout, bytes: &[u8], wanted: Wanted) -> u8
     ensures { result ≤ 3 }
 {
     if finding::find(bytes, 0, b"<svg") == bytes.len() {
@@ -247,5 +250,5 @@ pub fn say(bytes: &[u8], wanted: Wanted) -> u8
     if finding::find(bytes, 0, b"</svg") == bytes.len() {
         return words::wrong(1, b"the drawing is cut: it ends before its </svg>\n", &[]);
     }
-    say_lines(bytes, wanted)
+    say_lines(to, bytes, wanted)
 }
