@@ -1,8 +1,7 @@
 -- `hiding::hide_each` ends: it goes through the numbers in order.
-use Prim.Native.Nat.{◌+◌, ◌-◌, ◌*◌, ◌≤◌, ◌<◌}
+use Prim.Native.Nat.{◌-◌, ◌≤◌}
 use mathlib.Core.Path.{◌≡◌}
 use lib.ListN.{length}
-use borrow.Author.Rules.{rules}
 use Rattle.hiding.proofs.hide_each.Given as goal
 
 abbrev pub invariant-loop-k : goal.invariant-loop-k
