@@ -20,7 +20,7 @@ use Rattle.checks.specs.Refusals.{CountsFit, CountsFitFor}
 use Rattle.checks.specs.Alike.{AlikeIn, AlikeFor, Kept, KeptFor}
 use borrow.Author.Tests.{le-leb, leb-true}
 use Rattle.checks.proofs.Checks.{counts_facts, counts_facts_for, RowFacts, row_facts, RowFactsFor}
-use Rattle.checks.proofs.Refusals.{counts_fit, counts_fit_for, below_each}
+use Rattle.checks.proofs.Refusals.{counts_fit, below_each}
 
 -- ---- two tables alike in a row
 

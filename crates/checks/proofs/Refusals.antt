@@ -1,15 +1,15 @@
 -- Each check fails exactly when the table of codes says.
 use mathlib.Core.Path.{◌≡◌, refl}
-use mathlib.Core.Bool.{Bool, true, false, ◌&&◌}
+use mathlib.Core.Bool.{Bool, true, false}
 use mathlib.Core.Logic.{◌⊎◌, inl, inr, ⊎_elim}
 use mathlib.Core.List.{List, [], ◌∷◌}
 use Prim.Native.Nat.{ℕ, zero, suc, ◌+◌, ◌*◌, ◌^◌, ◌<◌, ◌≤◌}
 use native.Mathlib.Omega.{arith}
-use lib.Dec.{leb, ltb}
+use lib.Dec.{ltb}
 use lib.ListN.{length, get_or}
 use borrow.Author.Tests.{lt-ltb, le-leb, ltb-true}
 use Rattle.shade.proofs.Edits.{lt_or_ge}
-use Rattle.desks.specs.Desks.{Sight, owner_in, all_owned}
+use Rattle.desks.specs.Desks.{Sight, all_owned}
 use Rattle.desks.proofs.Shown.{owned_each}
 use Rattle.checks.specs.Tables.{Table, row_of}
 use Rattle.checks.specs.Checks.{all_below, counts_good, counts_good_for, span_good, entries_good, row_good, row_good_for}

@@ -1,12 +1,7 @@
-use mathlib.Core.Path.{◌≡◌, refl, sym, ◌∙◌}
-use mathlib.Core.Bool.{◌&&◌}
-use Prim.Native.Nat.{◌-◌, ◌≤◌}
+use mathlib.Core.Path.{refl, sym, ◌∙◌}
 use native.Mathlib.Omega.{arith}
-use lib.ListN.{length, get_or}
-use lib.Seq.{slice}
+use lib.ListN.{get_or}
 use borrow.Author.Tests.{lt-ltb, le-ltb}
-use Rattle.desks.specs.Desks.{all_owned}
-use Rattle.checks.specs.Checks.{all_below}
 use Rattle.checks.proofs.Entries.{not_below, not_owned, owned_on, good_none}
 use Rattle.checks.proofs.all_owned.Goals as goal
 

@@ -1,14 +1,11 @@
 -- The entries from j on decide, from turn to turn.
-use mathlib.Core.Path.{◌≡◌, refl, sym, ◌∙◌}
+use mathlib.Core.Path.{◌≡◌}
 use mathlib.Core.Bool.{◌&&◌}
 use Prim.Native.Nat.{◌-◌, ◌≤◌}
-use native.Mathlib.Omega.{arith}
-use lib.ListN.{length, get_or}
+use lib.ListN.{length}
 use lib.Seq.{slice}
-use borrow.Author.Tests.{lt-ltb, le-ltb}
 use Rattle.desks.specs.Desks.{all_owned}
 use Rattle.checks.specs.Checks.{all_below}
-use Rattle.checks.proofs.Entries.{not_below, not_owned, owned_on, good_none}
 use Rattle.checks.proofs.all_owned.Given as goal
 
 abbrev pub invariant-loop-j : goal.invariant-loop-j

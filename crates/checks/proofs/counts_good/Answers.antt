@@ -7,7 +7,6 @@ use Prim.Native.Nat.{ℕ, ◌≤◌, ◌<◌}
 use native.Mathlib.Omega.{arith}
 use lib.Dec.{leb}
 use lib.ListN.{length}
-use borrow.Author.Rules.{rules}
 use Rattle.desks.specs.Desks.{sight_of}
 use Rattle.checks.specs.Tables.{Table, table_of}
 use Rattle.checks.specs.Checks.{counts_good, counts_good_for}
@@ -16,14 +15,14 @@ use Rattle.checks.proofs.Refusals.{counts_overrun, counts_overrun_for, counts_fi
 use Rattle.checks.proofs.counts_good.Goals as goal
 
 module _ (t : Table) (owners : List ℕ) where
-  overrun : Overrun t → false ≡ (counts_good t && leb t.segmentCount (length owners))
-  overrun o = ap (λ (b : Bool). b && leb t.segmentCount (length owners)) (sym (counts_overrun t o))
+  overrun : Overrun t → false ≡ (counts_good t && leb t.segment_count (length owners))
+  overrun o = ap (λ (b : Bool). b && leb t.segment_count (length owners)) (sym (counts_overrun t o))
 
-  short : length owners < t.segmentCount → false ≡ (counts_good t && leb t.segmentCount (length owners))
+  short : length owners < t.segment_count → false ≡ (counts_good t && leb t.segment_count (length owners))
   unfolding counts_good_for
   short h = sym (counts_overrun_for t (sight_of owners 0 [] 0) (owners_short h))
 
-  fit : CountsFit t → t.segmentCount ≤ length owners → true ≡ (counts_good t && leb t.segmentCount (length owners))
+  fit : CountsFit t → t.segment_count ≤ length owners → true ≡ (counts_good t && leb t.segment_count (length owners))
   unfolding counts_good_for
   fit f h = sym (counts_fit_for t (sight_of owners 0 [] 0) (record { table = f; owners_fit = h }))
 

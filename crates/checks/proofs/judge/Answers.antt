@@ -1,6 +1,5 @@
 -- The desk, and the checks of a row at the answer of the span's.
 use native.Mathlib.Omega.{arith}
-use borrow.Author.Rules.{rules}
 use borrow.Author.Tests.{lt-ltb, le-ltb}
 use Rattle.checks.specs.Checks.{judge_draw}
 use Rattle.checks.proofs.judge.Goals as goal
