@@ -1,6 +1,6 @@
 -- `for_each_equally_spaced_point` at a distance of 1: the points that it calls its closure with, and what a lent buffer then holds. Definitions only.
 -- The walk need not end (a step of 1 can round away), so it is said for at most k points; the laws on k are in proofs/Fuel.
-use Rattle.std.specs.Prelude.{◌≡◌, Bool, true, false, cond, List, [], ◌∷◌, ◌++◌, ℕ, zero, suc, ◌+◌, ◌-◌, ◌*◌, ◌/◌, min, length, get_or, pos, ◌-ℤ◌, Float}
+use Rattle.std.specs.Prelude.{◌≡◌, cond, List, [], ◌∷◌, ◌++◌, ℕ, zero, suc, ◌+◌, ◌-◌, ◌*◌, ◌/◌, min, length, get_or, pos, ◌-ℤ◌, Float}
 use Rattle.std.specs.Float.{nan, binary32}
 use Rattle.std.specs.Float.Ieee.{le, of_int}
 use Rattle.numbers.specs.Arith.{0·0, 1·0, ◌⊕◌, ◌⊖◌, ◌⊗◌, ◌⊘◌}

@@ -1,5 +1,4 @@
 -- `walk::distance`: the root's promise is the definition.
-use borrow.Author.Rules.{rules}
 use Rattle.walk.specs.Walk.{distance_of}
 use Rattle.walk.proofs.distance.Goals as goal
 

@@ -1,9 +1,6 @@
-use mathlib.Core.Path.{◌≡◌, refl, sym, ◌∙◌}
-use Prim.Native.Nat.{◌-◌, ◌/◌, ◌^◌, ◌<◌}
+use mathlib.Core.Path.{refl, sym, ◌∙◌}
 use native.Mathlib.Omega.{arith}
-use borrow.Author.Rules.{rules}
-use lib.ListN.{length}
-use Rattle.walk.specs.Walk.{stretch_in, stretch_of}
+use Rattle.walk.specs.Walk.{stretch_of}
 use Rattle.walk.proofs.Reaches.{reach_end, reach_emit, reach_pass}
 use Rattle.walk.proofs.onward.Goals as goal
 

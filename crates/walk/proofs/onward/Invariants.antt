@@ -1,11 +1,8 @@
 -- `walk::onward`: the invariant is that what is left leads where the whole led; each turn opens the definition once.
-use mathlib.Core.Path.{◌≡◌, refl, sym, ◌∙◌}
+use mathlib.Core.Path.{◌≡◌}
 use Prim.Native.Nat.{◌-◌, ◌/◌, ◌^◌, ◌<◌}
-use native.Mathlib.Omega.{arith}
-use borrow.Author.Rules.{rules}
 use lib.ListN.{length}
-use Rattle.walk.specs.Walk.{stretch_in, stretch_of}
-use Rattle.walk.proofs.Reaches.{reach_end, reach_emit, reach_pass}
+use Rattle.walk.specs.Walk.{stretch_in}
 use Rattle.walk.proofs.onward.Given as goal
 
 abbrev pub invariant-loop-i : goal.invariant-loop-i

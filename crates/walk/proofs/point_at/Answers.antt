@@ -1,6 +1,5 @@
 -- `walk::point_at`: two reads, as the definition has them.
 use mathlib.Core.Path.{refl}
-use borrow.Author.Rules.{rules}
 use Rattle.walk.specs.Walk.{point_at}
 use Rattle.walk.proofs.point_at.Goals as goal
 

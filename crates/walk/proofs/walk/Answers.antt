@@ -1,11 +1,10 @@
 use mathlib.Core.Path.{◌≡◌, refl, sym, ◌∙◌}
-use Prim.Native.Nat.{◌-◌, ◌*◌, ◌^◌, ◌≤◌, ◌<◌}
+use Prim.Native.Nat.{◌-◌}
 use native.Mathlib.Omega.{arith}
-use borrow.Author.Rules.{rules}
 use lib.ListN.{length}
 use Rattle.numbers.specs.Arith.{1·0}
 use Rattle.walk.specs.Walk.{walk_from, walk_in, walk_room}
-use Rattle.walk.proofs.Walking.{Walking, walking_begin, walking_more, walking_room, walking_end, walking_over, walk_ends, walk_emits, walk_none}
+use Rattle.walk.proofs.Walking.{walking_begin, walking_more, walking_room, walking_end, walking_over, walk_ends, walk_emits, walk_none}
 use Rattle.walk.proofs.walk.Goals as goal
 
 pub returns-then-room-eq0 : goal.returns-then-room-eq0
@@ -19,8 +18,8 @@ loop-n-init c =
     let a = c.args in
     let room = c.walk_room-room in (
       omega (arith, c.if-room-eq0.false),
-      omega (arith, room.ensures, c.put3.auto.0),
-      omega (arith, c.well_formed, c.put3.auto.0),
+      omega (arith, room.ensures, c.put3.auto.out),
+      omega (arith, c.well_formed, c.put3.auto.out),
       refl,
       walking_begin room.result a.path.now a.out.now c.point_at-current.ensures c.if-room-eq0.false (omega arith) c.put3.ensures,
     )
@@ -48,7 +47,7 @@ loop-n-preserved c =
       omega (arith, c.loop-n-test),
       omega arith,
       omega arith,
-      omega (arith, c.put3-in-Emits.auto.0),
+      omega (arith, c.put3-in-Emits.auto.out),
       rw c.put3-in-Emits.ensures (walking_more _ 1·0 _ (rw e at l.invariant.4) (omega (arith, l.invariant, c.loop-n-test))),
     )
 

@@ -1,12 +1,9 @@
 -- `walk::walk`: the invariant is that what is written and what is left make up the walk in at most `room` points; the first point is written before the loop.
-use mathlib.Core.Path.{◌≡◌, refl, sym, ◌∙◌}
+use mathlib.Core.Path.{◌≡◌}
 use Prim.Native.Nat.{◌-◌, ◌*◌, ◌^◌, ◌≤◌, ◌<◌}
-use native.Mathlib.Omega.{arith}
-use borrow.Author.Rules.{rules}
 use lib.ListN.{length}
-use Rattle.numbers.specs.Arith.{1·0}
-use Rattle.walk.specs.Walk.{walk_from, walk_in, walk_room}
-use Rattle.walk.proofs.Walking.{Walking, walking_begin, walking_more, walking_room, walking_end, walking_over, walk_ends, walk_emits, walk_none}
+use Rattle.walk.specs.Walk.{walk_from, walk_in}
+use Rattle.walk.proofs.Walking.{Walking}
 use Rattle.walk.proofs.walk.Given as goal
 
 abbrev pub invariant-loop-n : goal.invariant-loop-n
