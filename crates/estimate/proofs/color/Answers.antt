@@ -1,10 +1,7 @@
 use mathlib.Core.Path.{◌≡◌}
-use Prim.Native.Nat.{◌+◌, ◌-◌, ◌≤◌}
 use native.Mathlib.Omega.{arith}
-use borrow.Author.Rules.{rules}
-use lib.ListN.{length}
-use Rattle.estimate.specs.Estimate.{to_u64, color_at, color_by}
-use Rattle.estimate.proofs.Sums.{Summed, summed_none, summed_more, summed_all}
+use Rattle.estimate.specs.Estimate.{color_by}
+use Rattle.estimate.proofs.Sums.{summed_none, summed_more, summed_all}
 use Rattle.estimate.proofs.color.Goals as goal
 
 pub loop-i-init : goal.loop-i-init

@@ -1,5 +1,4 @@
 -- The calls are the definition's operations, last call first.
-use borrow.Author.Rules.{rules}
 use Rattle.estimate.specs.Estimate.{log_color_by}
 use Rattle.estimate.proofs.log_color.Goals as goal
 

@@ -1,5 +1,4 @@
 -- The calls are the definition's operations, last call first.
-use borrow.Author.Rules.{rules}
 use lib.IntN.{pos}
 use lib.ListN.{get_or}
 use mir.Syntax.{w32}

@@ -1,6 +1,5 @@
 -- Each arm is the definition's case of the kind.
 use mathlib.Core.Path.{ap, sym, ◌∙◌}
-use borrow.Author.Rules.{rules}
 use Rattle.kinds.specs.Kind.{saturated_u64}
 use Rattle.estimate.proofs.whole.Goals as goal
 

@@ -1,11 +1,8 @@
 -- The invariant: i terms are in the sum.
-use mathlib.Core.Path.{◌≡◌}
 use Prim.Native.Nat.{◌-◌, ◌≤◌}
-use native.Mathlib.Omega.{arith}
-use borrow.Author.Rules.{rules}
 use lib.ListN.{length}
-use Rattle.estimate.specs.Estimate.{to_u64, width_at, width_by}
-use Rattle.estimate.proofs.Sums.{Summed, summed_none, summed_more, summed_all}
+use Rattle.estimate.specs.Estimate.{to_u64, width_at}
+use Rattle.estimate.proofs.Sums.{Summed}
 use Rattle.estimate.proofs.width_estimate.Given as goal
 
 abbrev pub invariant-loop-i : goal.invariant-loop-i
