@@ -6,7 +6,6 @@ use Prim.Native.Nat.{ℕ, zero, suc, ◌+◌, ◌-◌, ◌*◌, ◌≤◌, ◌<�
 use native.Mathlib.Omega.{arith}
 use lib.Dec.{eqb, leb}
 use lib.IntN.{ℤ, pos, negsuc}
-use lib.Signed.{mag}
 use borrow.Author.Tests.{le-leb, lt-leb, leb-true, leb-false}
 use Rattle.control_points.specs.ControlPoints.{in_range, valid_point_pos}
 use Rattle.control_points.proofs.Pairs.{in_range_mag, point_range}
@@ -16,7 +15,7 @@ use Rattle.polyline.specs.declared.Spot.{Spot}
 use Rattle.polyline.specs.declared.Track.{Track}
 use Rattle.polyline.specs.declared.Judged.{Judged}
 use Rattle.polyline.specs.declared.Judged.TheVariants.{On, Stop}
-use Rattle.polyline.specs.declared.Tracked.TheVariants.{Came, Halt}
+use Rattle.polyline.specs.declared.Tracked.TheVariants.{Came}
 use Rattle.polyline.specs.Spots.{signed_by, figure_at, grown_by, spot_of, spots_from, uncapped, capped, spots_of, capped_spots}
 use Rattle.polyline.specs.Read.{judged_of, after_pair, track_from, track_to}
 use Rattle.polyline.proofs.Tracks.{placeable_valid, unplaceable, walk_came}

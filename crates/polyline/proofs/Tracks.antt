@@ -1,11 +1,11 @@
 -- Laws of going through pairs: one pair further, and what pairs that all pass have led to.
-use mathlib.Core.Path.{◌≡◌, refl, sym, ap, ◌∙◌}
+use mathlib.Core.Path.{◌≡◌, refl, ap, ◌∙◌}
 use mathlib.Core.Bool.{Bool, true, false, cond}
 use mathlib.Core.List.{List, [], ◌∷◌, ◌++◌}
-use Prim.Native.Nat.{ℕ, zero, suc, ◌+◌, ◌-◌, ◌*◌, ◌≤◌, ◌<◌}
+use Prim.Native.Nat.{ℕ, suc, ◌*◌, ◌<◌}
 use native.Mathlib.Omega.{arith}
 use lib.Dec.{eqb}
-use lib.ListN.{length, length-append}
+use lib.ListN.{length}
 use Rattle.codes.specs.declared.Code.{Code}
 use Rattle.codes.specs.declared.Code.TheVariants.{Position, Coincide}
 use Rattle.codes.proofs.Decides.{both}
@@ -18,7 +18,6 @@ use Rattle.polyline.specs.declared.Track.{Track}
 use Rattle.polyline.specs.declared.Track.TheVariants.{Empty, At}
 use Rattle.polyline.specs.declared.Judged.{Judged}
 use Rattle.polyline.specs.declared.Judged.TheVariants.{On, Stop}
-use Rattle.polyline.specs.declared.Tracked.{Tracked}
 use Rattle.polyline.specs.declared.Tracked.TheVariants.{Came, Halt}
 use Rattle.polyline.specs.Spots.{figure_at, grown_by, spot_of, spots_from}
 use Rattle.polyline.specs.Read.{minus_of, placeable, meets, track_to, step_deltas, judged_of, after_pair, track_from, deltas_from, first_point, later_of}

@@ -1,5 +1,5 @@
 -- Reading a points text: the checks pair by pair, the start and the double deltas, and what a call of `points_read` leaves.
-use Rattle.std.specs.Prelude.{Bool, true, false, cond, ◌||◌, List, [], ◌∷◌, ◌++◌, map, ℕ, suc, ◌+◌, ◌-◌, ◌*◌, ltb, length, replicate, ℤ, pos, ◌-ℤ◌, Float}
+use Rattle.std.specs.Prelude.{Bool, false, cond, ◌||◌, List, [], ◌∷◌, ◌++◌, ℕ, ◌-◌, ◌*◌, ltb, length, replicate, ℤ, pos, ◌-ℤ◌, Float}
 use Rattle.codes.specs.declared.Code.TheVariants.{Room, Position, Coincide}
 use Rattle.list.specs.Steps.{f32_of, zero_f32}
 use Rattle.writer.specs.Write.{WriteTold, told_of}

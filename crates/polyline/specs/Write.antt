@@ -1,6 +1,5 @@
 -- Writing the control points of one spline as a points text: decimal numbers, the text of points, the checks in building's order, and what a call of `points_write` leaves.
-use Rattle.std.specs.Prelude.{Bool, true, false, cond, ◌||◌, List, [], ◌∷◌, ◌++◌, ℕ, zero, suc, ◌+◌, ◌*◌, ◌/◌, ◌%◌, ltb, leb, length, ℤ, pos, negsuc, Float}
-use Rattle.codes.specs.declared.Code.{Code}
+use Rattle.std.specs.Prelude.{Bool, true, false, cond, ◌||◌, List, [], ◌∷◌, ◌++◌, ℕ, zero, suc, ◌+◌, ◌/◌, ◌%◌, ltb, leb, length, ℤ, pos, negsuc, Float}
 use Rattle.codes.specs.declared.Code.TheVariants.{Room, Shape, Delta, Position, Coincide}
 use Rattle.writer.specs.Write.{misshapen, WriteOutcome}
 use Rattle.writer.specs.Write as writing
