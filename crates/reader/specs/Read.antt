@@ -1,5 +1,5 @@
 -- What a call of `read` leaves: its answer and every lent cell, from the list, the two limits and the four lengths alone.
-use Rattle.std.specs.Prelude.{List, ◌++◌, map, ℕ, ◌-◌, length, replicate, ℤ, pos, Float}
+use Rattle.std.specs.Prelude.{List, map, ℕ, length, replicate, ℤ, pos, Float}
 use Rattle.buffers.specs.Padded.{padded}
 use Rattle.codes.specs.Codes.{number_of}
 use Rattle.shape.specs.Shape.{points_of}

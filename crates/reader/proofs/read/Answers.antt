@@ -1,6 +1,5 @@
 -- `reader::read` meets its contract: the buffers are zero before the list is read, and again after a refusal.
-use mathlib.Core.Path.{◌∙◌}
-use borrow.Author.Rules.{rules}
+use native.Mathlib.Omega.{arith}
 use mir.Syntax.{w32}
 use mir.Facts.{to_z-of_z}
 use Rattle.reader.proofs.Whole.{read_done, read_refused}
@@ -12,11 +11,12 @@ returns-in-Done c =
     let m = c.limit-most in
     let w = c.wipe in
     let g = c.read_list in
-    let s = c.s-1.given in
-    rw (to_z-of_z {w = w32} {z = s.0.1.1.0} (record { sfits = c.known_told-1.given.1.1.0.1 }))
+    let s = c.in-Done in
+    let known = rw s.is at g.type_inv in
+    rw (to_z-of_z {w = w32} {z = s.a} (record { sfits = omega arith }))
     (read_done a.configured a.pixels m.result m.ensures a.list.now
-    a.counts.now w.new.0 a.starts.now w.new.1.0 a.deltas.now w.new.1.1.0 a.coefficients.now w.new.1.1.1.0 w.ensures
-    s.0.0 s.0.1.0 s.0.1.1.0 g.new.1.1.0 g.new.1.1.1.0 g.new.1.1.1.1.0 g.new.1.1.1.1.1.0 (rw s.1 at g.ensures))
+    a.counts.now w.new.counts a.starts.now w.new.starts a.deltas.now w.new.deltas a.coefficients.now w.new.coefficients w.ensures
+    s.s s.n s.a g.new.counts g.new.starts g.new.deltas g.new.coefficients (rw s.is at g.ensures))
 
 pub returns-in-Refused : goal.returns-in-Refused
 returns-in-Refused c =
@@ -24,10 +24,10 @@ returns-in-Refused c =
     let m = c.limit-most in
     let w = c.wipe in
     let g = c.read_list in
-    let k = c.c-1.given in
+    let k = c.in-Refused in
     let v = c.wipe-in-Refused in
     read_refused a.configured a.pixels m.result m.ensures a.list.now
-    a.counts.now w.new.0 a.starts.now w.new.1.0 a.deltas.now w.new.1.1.0 a.coefficients.now w.new.1.1.1.0 w.ensures
-    k.0.0 k.0.1.0 g.new.1.1.0 v.new.0 g.new.1.1.1.0 v.new.1.0 g.new.1.1.1.1.0 v.new.1.1.0
-    g.new.1.1.1.1.1.0 v.new.1.1.1.0 (rw k.1 at g.ensures)
-    g.auto.1.1.0 g.auto.1.1.1.0 g.auto.1.1.1.1.0 g.auto.1.1.1.1.1.0 v.ensures
+    a.counts.now w.new.counts a.starts.now w.new.starts a.deltas.now w.new.deltas a.coefficients.now w.new.coefficients w.ensures
+    k.c k.p g.new.counts v.new.counts g.new.starts v.new.starts g.new.deltas v.new.deltas
+    g.new.coefficients v.new.coefficients (rw k.is at g.ensures)
+    g.auto.counts g.auto.starts g.auto.deltas g.auto.coefficients v.ensures

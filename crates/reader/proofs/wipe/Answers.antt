@@ -1,6 +1,5 @@
 -- `wipe`: four buffers, cleared one after the other.
 use lib.ListN.{length}
-use borrow.Author.Rules.{rules}
 use Rattle.list.proofs.Buffers.{zeros_f32}
 use Rattle.reader.proofs.wipe.Goals as goal
 
