@@ -1,3 +1,2 @@
 // Laws on the rows and columns of a segment, and no code.
 #![tactic(auto)]
-
