@@ -1,29 +1,27 @@
 -- The codes of judging exactly when: a spline passes where its statements hold, and is refused by the first that fails; all splines pass, or one is the first refused.
-use Rattle.std.proofs.Common.{◌≡◌, ℕ, zero, suc, ◌+◌, ◌<◌, ◌≤◌, Bool, true, false, cond, leb, ◌⊎◌, ◌↔◌, List, [], ◌∷◌, length, get_or, sym, refl, ap, ◌∙◌, subst, inl, inr, true≢false, arith, leb-false, leb-true}
+use Rattle.std.proofs.Common.{◌≡◌, ℕ, zero, suc, ◌<◌, ◌≤◌, Bool, true, false, cond, leb, ◌↔◌, List, [], ◌∷◌, length, get_or, sym, refl, ◌∙◌, subst, inl, inr, true≢false, arith, leb-false, leb-true}
 use Rattle.codes.specs.declared.Code.{Code}
-use Rattle.codes.specs.declared.Code.TheVariants.{Done, Delta, Position, Distance, Area, Coincide}
-use Rattle.numbers.specs.Saturating.{sat_add}
+use Rattle.codes.specs.declared.Code.TheVariants.{Done, Position}
 use Rattle.control_points.specs.ControlPoints.{starting_point, trace_of, control_points, valid_point_pos, same_point, coincide_from, adjacent_coincide}
 use Rattle.dequantize.specs.Dequantize.{refused_of, finished_of, dequantize_of}
 use Rattle.dequantize.specs.Judge.{Description, start_x, start_y, deltas_of, coefficients_of, spline_of, total_of, settle_of, judge_of}
-use Rattle.control_points.specs.Refusals.{nowhere, RoundsTo, Adjacent}
+use Rattle.control_points.specs.Refusals.{nowhere, Adjacent}
 use Rattle.dequantize.specs.Refusals.{Traces, SplinePasses, SplineRefusal, start_strays, pair_refused, area_above, points_meet, AllPass, FirstRefused, EstimateIs}
 use Rattle.dequantize.specs.declared.Given.{Given}
-use Rattle.dequantize.specs.declared.Spline.{Spline}
 use Rattle.control_points.specs.declared.Pair.{Pair}
 use Rattle.control_points.specs.declared.Run.{Run}
 use Rattle.control_points.specs.declared.Start.{Start}
 use Rattle.control_points.specs.declared.Start.TheVariants.{At, Out}
 use Rattle.control_points.specs.declared.Traced.{Traced}
 use Rattle.control_points.specs.declared.Traced.TheVariants as T
-use Rattle.dequantize.specs.declared.judge.Settled.TheVariants.{Total, Stop}
+use Rattle.dequantize.specs.declared.judge.Settled.TheVariants.{Stop}
 use Rattle.dequantize.specs.declared.judge.Judged.TheVariants.{Fine, Refused}
 use Rattle.codes.proofs.Decides.{both}
 use Rattle.control_points.proofs.Coincide.{same_point_lem}
 use Rattle.control_points.proofs.Walks.{all_in_range, points_in_range}
 use Rattle.control_points.proofs.Exactly.{OfTrace, trace_code}
 use Rattle.dequantize.proofs.Accepted.{start_refused, trace_refused, trace_accepted, accepted_exactly}
-use Rattle.dequantize.proofs.Judgement.{area_exactly, coincide_exactly, total_exactly, settled_done, Passes, Refusal, total_more, fine_exactly, refused_exactly}
+use Rattle.dequantize.proofs.Judgement.{area_exactly, coincide_exactly, total_exactly, settled_done, Passes, total_more, fine_exactly, refused_exactly}
 use Rattle.control_points.proofs.Ranges.{starts_at, starting_at, starts_out, starting_out}
 use Rattle.control_points.proofs.Tracing.{trace_passed, trace_stops, refused_stops, passed_traces}
 

@@ -1,5 +1,5 @@
 -- The first loop of `initialize_draw_cache` of spline.rs: each spline is dequantized, then AREA is checked over the running sum, then COINCIDE. Definitions only.
-use Rattle.std.specs.Prelude.{◌≡◌, ℕ, zero, suc, ◌+◌, ◌*◌, Bool, true, false, cond, List, [], ◌∷◌, length, take, drop, ℤ, ◌==◌, nat_le, slice_index, slice_index_or, Float}
+use Rattle.std.specs.Prelude.{ℕ, zero, suc, ◌+◌, ◌*◌, cond, List, length, take, drop, ℤ, ◌==◌, nat_le, slice_index, slice_index_or, Float}
 use Rattle.std.specs.Float.{nan}
 use Rattle.shape.specs.Shape as Shape
 use Rattle.shape.specs.Shape.{points_of}

@@ -1,5 +1,5 @@
 -- Each answer of the code is a case of the definition, by what the start and the trace gave.
-use Rattle.std.proofs.Common.{sym, ◌∙◌, rules}
+use Rattle.std.proofs.Common.{sym, ◌∙◌}
 use Rattle.dequantize.specs.Dequantize.{dequantize_of}
 use Rattle.control_points.proofs.Starts.{start_valid}
 use Rattle.dequantize.proofs.dequantize.Goals as goal

@@ -1,5 +1,5 @@
 -- The rows and the estimate are the calls' answers, over the inverse quant of the adjustment.
-use Rattle.std.proofs.Common.{arith, to_z-of_z, w32, rules}
+use Rattle.std.proofs.Common.{arith, to_z-of_z, w32}
 use Rattle.dequantize.specs.Dequantize.{finished_of}
 use Rattle.dequantize.proofs.finished.Goals as goal
 

@@ -1,5 +1,5 @@
 -- The products are the definition's, in its order; the test on the index picks the factor.
-use Rattle.std.proofs.Common.{◌+◌, get_or, pos, to_z-of_z, w32, rules, eq-eqb, ne_eqb}
+use Rattle.std.proofs.Common.{◌+◌, get_or, pos, to_z-of_z, w32, eq-eqb, ne_eqb}
 use Rattle.dequantize.specs.Coefficients.{coefficient_at}
 use Rattle.dequantize.proofs.coefficients.coefficient.Goals as goal
 

@@ -1,6 +1,6 @@
-use Rattle.std.proofs.Common.{◌≡◌, ◌-◌, length, refl, arith, rules}
-use Rattle.dequantize.specs.Coefficients.{gained_at, gained_of}
-use Rattle.dequantize.proofs.Tables.{Filling, filling_none, filling_more, filling_all}
+use Rattle.std.proofs.Common.{refl, arith}
+use Rattle.dequantize.specs.Coefficients.{gained_of}
+use Rattle.dequantize.proofs.Tables.{filling_none, filling_more, filling_all}
 use Rattle.dequantize.proofs.coefficients.gained.Goals as goal
 
 pub loop-i-init : goal.loop-i-init

@@ -1,5 +1,4 @@
 -- Each row is a call's answer, last call first.
-use Rattle.std.proofs.Common.{rules}
 use Rattle.dequantize.specs.Coefficients.{gained_rows}
 use Rattle.dequantize.proofs.coefficients.gained_rows.Goals as goal
 

@@ -1,5 +1,5 @@
 -- The code makes the definition's test, and the same operations on either side of it.
-use Rattle.std.proofs.Common.{to_z-of_z, w32, rules}
+use Rattle.std.proofs.Common.{to_z-of_z, w32}
 use Rattle.dequantize.specs.Coefficients.{inv_adjusted_quant}
 use Rattle.dequantize.proofs.coefficients.inv_adjusted_quant.Goals as goal
 

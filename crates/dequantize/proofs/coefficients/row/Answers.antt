@@ -1,6 +1,6 @@
-use Rattle.std.proofs.Common.{◌+◌, ◌-◌, ◌≤◌, length, refl, arith, rules}
-use Rattle.dequantize.specs.Coefficients.{coefficient_at, coefficient_row}
-use Rattle.dequantize.proofs.Tables.{Filling, filling_none, filling_more, filling_all}
+use Rattle.std.proofs.Common.{refl}
+use Rattle.dequantize.specs.Coefficients.{coefficient_row}
+use Rattle.dequantize.proofs.Tables.{filling_none, filling_more, filling_all}
 use Rattle.dequantize.proofs.coefficients.row.Goals as goal
 
 pub loop-i-init : goal.loop-i-init

@@ -1,7 +1,7 @@
 -- The invariant: the first i cells hold the coefficients.
-use Rattle.std.proofs.Common.{◌+◌, ◌-◌, ◌≤◌, length, refl, arith, rules}
-use Rattle.dequantize.specs.Coefficients.{coefficient_at, coefficient_row}
-use Rattle.dequantize.proofs.Tables.{Filling, filling_none, filling_more, filling_all}
+use Rattle.std.proofs.Common.{◌+◌, ◌-◌, ◌≤◌, length}
+use Rattle.dequantize.specs.Coefficients.{coefficient_at}
+use Rattle.dequantize.proofs.Tables.{Filling}
 use Rattle.dequantize.proofs.coefficients.row.Given as goal
 
 abbrev pub invariant-loop-i : goal.invariant-loop-i

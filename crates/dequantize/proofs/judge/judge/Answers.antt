@@ -1,6 +1,5 @@
-use Rattle.std.proofs.Common.{◌+◌, ◌-◌, ◌*◌, ◌^◌, ◌<◌, ◌≤◌, length, arith, rules}
-use Rattle.dequantize.specs.Judge.{description_of, Shaped}
-use Rattle.dequantize.proofs.Judging.{Under, under_none, under_all, under_fits, under_stop, under_more}
+use Rattle.std.proofs.Common.{◌+◌, ◌*◌, ◌≤◌, length, arith}
+use Rattle.dequantize.proofs.Judging.{under_none, under_all, under_fits, under_stop, under_more}
 use Rattle.dequantize.proofs.judge.judge.Goals as goal
 
 pub loop-k-init : goal.loop-k-init

@@ -1,7 +1,7 @@
 -- The invariant is a run over the splines, with what SHAPE asks for.
-use Rattle.std.proofs.Common.{◌+◌, ◌-◌, ◌*◌, ◌^◌, ◌<◌, ◌≤◌, length, arith, rules}
+use Rattle.std.proofs.Common.{◌-◌, ◌*◌, ◌^◌, ◌<◌, ◌≤◌, length}
 use Rattle.dequantize.specs.Judge.{description_of, Shaped}
-use Rattle.dequantize.proofs.Judging.{Under, under_none, under_all, under_fits, under_stop, under_more}
+use Rattle.dequantize.proofs.Judging.{Under}
 use Rattle.dequantize.proofs.judge.judge.Given as goal
 
 abbrev pub invariant-loop-k : goal.invariant-loop-k

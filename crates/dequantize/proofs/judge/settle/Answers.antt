@@ -1,5 +1,5 @@
 -- Each test of the code is the definition's test at the same place.
-use Rattle.std.proofs.Common.{sym, ◌∙◌, rules, eq-eqb, ne_eqb, le-leb}
+use Rattle.std.proofs.Common.{sym, ◌∙◌, eq-eqb, ne_eqb, le-leb}
 use borrow.Author.Tests.{lt-leb}
 use Rattle.dequantize.specs.Judge.{settle_of}
 use Rattle.dequantize.proofs.judge.settle.Goals as goal

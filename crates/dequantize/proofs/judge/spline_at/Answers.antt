@@ -1,5 +1,5 @@
 -- The start and the part of the coefficients lie within what is required.
-use Rattle.std.proofs.Common.{◌≡◌, ◌+◌, ◌-◌, ◌*◌, arith, rules}
+use Rattle.std.proofs.Common.{◌≡◌, ◌+◌, ◌-◌, ◌*◌, arith}
 use Rattle.dequantize.proofs.judge.spline_at.Goals as goal
 
 pub returns : goal.returns

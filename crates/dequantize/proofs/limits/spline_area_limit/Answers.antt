@@ -1,5 +1,4 @@
 -- The calls of each branch are the definition's operations, last call first.
-use Rattle.std.proofs.Common.{rules}
 use Rattle.dequantize.specs.Limits.{spline_area_limit}
 use Rattle.dequantize.proofs.limits.spline_area_limit.Goals as goal
 
