@@ -1,11 +1,9 @@
 -- The checks of `initialize_draw_cache` of spline.rs that come before any drawing, in their order. Definitions only.
 use Rattle.std.specs.Prelude.{Bool, true, false, ◌&&◌, ℕ, suc, ◌^◌, leb}
 use Rattle.codes.specs.declared.Code.{Code}
-use Rattle.codes.specs.declared.Code.TheVariants as Code
 use Rattle.shape.specs.Shape as Shape
 use Rattle.dequantize.specs.declared.Given.{Given}
 use Rattle.dequantize.specs.declared.judge.Judged.{Judged}
-use Rattle.dequantize.specs.declared.judge.Judged.TheVariants as Judged
 use Rattle.dequantize.specs.Judge.{Description, judge_of}
 
 abbrev pub sized : ℕ → ℕ → Bool
