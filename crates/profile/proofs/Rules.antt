@@ -7,7 +7,6 @@ use lib.ListN.{length, get_or, drop, drop_of_length-le}
 use lib.Seq.{drop-cons}
 use Rattle.editions.specs.declared.Limits.{Limits}
 use Rattle.profile_rules.specs.declared.Finding.{Finding}
-use Rattle.profile_rules.specs.declared.Finding.TheVariants as Finding
 use Rattle.profile.specs.Profile.{first_finding, spline_finding, splines_finding}
 
 pub first_assoc : (a b c : Finding) → first_finding a (first_finding b c) ≡ first_finding (first_finding a b) c

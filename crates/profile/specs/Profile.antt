@@ -8,7 +8,6 @@ use Rattle.editions.specs.declared.Limits.{Limits}
 use Rattle.editions.specs.declared.Edition.{Edition}
 use Rattle.editions.specs.declared.Edition.TheVariants.{Known, Unknown}
 use Rattle.profile_rules.specs.declared.Finding.{Finding}
-use Rattle.profile_rules.specs.declared.Finding.TheVariants as Finding
 pub use Rattle.editions.specs.Editions.{edition1, edition2}
 unfoldable pub use Rattle.editions.specs.Editions.{limits_of}
 pub use Rattle.profile_rules.specs.Rules.{kept, first_finding, counted, within}

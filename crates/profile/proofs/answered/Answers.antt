@@ -1,5 +1,4 @@
 -- `answered`: a finding, case by case.
-use borrow.Author.Rules.{rules}
 use Rattle.profile.proofs.answered.Goals as goal
 
 pub returns-in-Kept : goal.returns-in-Kept

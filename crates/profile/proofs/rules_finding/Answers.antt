@@ -3,7 +3,6 @@ use native.Mathlib.Omega.{arith}
 use mir.Syntax.{w32}
 use mir.Facts.{to_z-of_z}
 use Rattle.profile.specs.Profile.{rules_finding}
-use borrow.Author.Rules.{rules}
 use Rattle.profile.proofs.rules_finding.Goals as goal
 
 pub returns : goal.returns

@@ -1,11 +1,8 @@
 -- `splines_finding`: what all splines say is what was found and what those left say.
-use mathlib.Core.Path.{◌≡◌, refl, sym, ◌∙◌}
-use Prim.Native.Nat.{suc, ◌+◌, ◌-◌, ◌*◌, ◌≤◌}
-use native.Mathlib.Omega.{arith}
-use lib.ListN.{length, get_or, drop}
-use borrow.Author.Rules.{rules}
-use Rattle.profile.specs.Profile.{first_finding, spline_finding, splines_finding}
-use Rattle.profile.proofs.Rules.{spline_turn, splines_end}
+use mathlib.Core.Path.{◌≡◌}
+use Prim.Native.Nat.{◌-◌, ◌*◌, ◌≤◌}
+use lib.ListN.{length, drop}
+use Rattle.profile.specs.Profile.{first_finding, splines_finding}
 use Rattle.profile.proofs.splines_finding.Given as goal
 
 abbrev pub invariant-loop-k : goal.invariant-loop-k

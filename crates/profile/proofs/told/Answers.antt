@@ -1,5 +1,4 @@
 -- `told`: an answer, case by case.
-use borrow.Author.Rules.{rules}
 use Rattle.profile.proofs.told.Goals as goal
 
 pub returns-in-Meets : goal.returns-in-Meets
