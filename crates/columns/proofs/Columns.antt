@@ -85,7 +85,7 @@ count_cong p q x0 (suc n) h = rw (h n (omega arith)) (ap (λ (m : ℕ). cond (q 
 
 pub count_columns : (segs : List Float) (i x0 n k : ℕ) (s : Segment) (r : Range) → s ≡ segment_at segs i → r ≡ columns_of s → x0 + n ≤ 2 ^ 23 → k ≡ count (between r.first r.past) x0 n → k ≡ count (has_column (segment_at segs i)) x0 n
 count_columns segs i x0 n k s r p q h e =
-    e ∙ count_cong _ (has_column (segment_at segs i)) x0 n (λ j l. has_columns s r (x0 + j) q (omega arith) ∙ ap (λ (t : Segment). has_column t (x0 + j)) p)
+    e ∙ count_cong (between r.first r.past) (has_column (segment_at segs i)) x0 n (λ j l. has_columns s r (x0 + j) q (omega arith) ∙ ap (λ (t : Segment). has_column t (x0 + j)) p)
 
 pub draw_columns : (c : ℕ) (segs : List Float) (i y x0 n : ℕ) (s : Segment) (r : Range) (xs ys : List Float) → s ≡ segment_at segs i → r ≡ columns_of s → x0 + n ≤ 2 ^ 23 → ys ≡ edit (ranged (λ x v. shaded s y x c v) r.first r.past x0 n) xs → ys ≡ edit (first_cells n (λ k v. shaded_in_column c segs y (x0 + k) v i)) xs
 draw_columns c segs i y x0 n s r xs ys p q h e = e ∙ edit_cong _ (first_cells n (λ k v. shaded_in_column c segs y (x0 + k) v i)) xs (λ j v l. ⊎_elim (λ m. rw (lt-ltb j n m) (same j v m)) (λ m. rw (le-ltb j n m)) (lt_or_ge j n))

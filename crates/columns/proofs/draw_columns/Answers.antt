@@ -1,7 +1,6 @@
 -- The columns are cut to the part; where any are left, the part of each channel that holds them comes back with the segment added.
 use Prim.Native.Nat.{◌<◌}
 use native.Mathlib.Omega.{arith}
-use borrow.Author.Rules.{rules}
 use Rattle.shade.specs.Shade.{shaded}
 use Rattle.columns.proofs.Columns.{count_between, ranged_none, ranged_part}
 use Rattle.columns.proofs.draw_columns.Goals as goal

@@ -1,5 +1,4 @@
 -- The columns of the segment are those that it has.
-use borrow.Author.Rules.{rules}
 use Rattle.columns.proofs.Columns.{count_columns, draw_columns}
 use Rattle.columns.proofs.draw_segment.Goals as goal
 
