@@ -4,7 +4,6 @@ use Prim.Native.Nat.{ℕ, suc}
 use lib.Dec.{T}
 use lib.ListN.{get_or}
 use lib.Ieee.{Float, nan, binary32, fits}
-use borrow.Author.Rules.{rules}
 use Rattle.write_laws.specs.Floats.{Floats}
 use Rattle.write_laws.proofs.lend.Goals as goal
 
