@@ -1,12 +1,6 @@
-use mathlib.Core.Path.{◌≡◌, refl}
-use Prim.Native.Nat.{◌+◌, ◌-◌}
+use mathlib.Core.Path.{refl}
 use native.Mathlib.Omega.{arith}
-use borrow.Author.Rules.{rules}
-use lib.ListN.{length}
-use Rattle.numbers.specs.Arith.{f, ◌⊕◌}
-use Rattle.dequantize.specs.Coefficients.{table}
-use Rattle.dequantize.proofs.Tables.{Filling, filling_none, filling_more, filling_all}
-use Rattle.eights.specs.Eights.{dct_multiplier, cosine_at}
+use Rattle.dequantize.proofs.Tables.{filling_none, filling_more, filling_all}
 use Rattle.eights.proofs.Feeding.{cosine_is}
 use Rattle.eights.proofs.cosines.Goals as goal
 

@@ -1,9 +1,6 @@
 -- `fed`: the sum has the products before from + j.
-use mathlib.Core.Logic.{⊎_elim}
 use Prim.Native.Nat.{◌-◌}
-use native.Mathlib.Omega.{arith}
-use borrow.Author.Rules.{rules}
-use Rattle.eights.proofs.Feeding.{Fed, fed_first, fed_next, fed_more, fed_all}
+use Rattle.eights.proofs.Feeding.{Fed}
 use Rattle.eights.proofs.fed.Given as goal
 
 abbrev pub invariant-loop-j : goal.invariant-loop-j

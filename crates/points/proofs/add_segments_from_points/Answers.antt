@@ -27,7 +27,7 @@ loop-i-preserved c =
     let p = c.put_made in
     let f = rw l.invariant.4 at p.ensures.0 in
     let a = adding_more _ _ _ _ _ _ _ l.out l.i l.count l.invariant.6 (omega arith) ((let h_made : c.point_segment-made.result ≡ point_segment c.args.spline (1·0 ⊘ c.args.walk_length) c.args.high_precision c.args.walk.now c.loop-i.i = c.point_segment-made.ensures ∙ rw c.loop-i.invariant.3 in h_made)) f _ p.ensures.1 c.in-Count.is in
-    (omega arith, l.invariant.1, l.invariant.2, l.invariant.3, p.auto.1.0 ∙ l.invariant.4, a.fits, a)
+    (omega arith, l.invariant.1, l.invariant.2, l.invariant.3, p.auto.out ∙ l.invariant.4, a.fits, a)
 
 pub returns : goal.returns
 returns c =
