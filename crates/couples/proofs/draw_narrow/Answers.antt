@@ -45,6 +45,10 @@ returns c =
     let v = held A.one A.y A.p.first _ _ _ _ c.squares_at.ensures.v_len (omega arith) c.squares_at.ensures.holds c.roots.ensures c.intensities_at.ensures in
     let w = held A.two A.y A.q.first _ _ _ _ c.squares_at-2.ensures.v_len (omega arith) c.squares_at-2.ensures.holds c.roots-2.ensures c.intensities_at-2.ensures in
     let e = c.add_in.ensures in
-    let f = c.add_in-2.ensures in record { r0_after = added_two A.one A.two A.p A.q _ _ A.y A.x0 0 A.r0.now _ _ v w e.r0_after f.r0_after; r1_after =
-        added_two A.one A.two A.p A.q _ _ A.y A.x0 1 A.r1.now _ _ v w e.r1_after f.r1_after; r2_after =
-        added_two A.one A.two A.p A.q _ _ A.y A.x0 2 A.r2.now _ _ v w e.r2_after f.r2_after }
+    let f = c.add_in-2.ensures in record {
+      r0_after = added_two A.one A.two A.p A.q _ _ A.y A.x0 0 A.r0.now _ _ v w e.r0_after f.r0_after;
+      r1_after =
+          added_two A.one A.two A.p A.q _ _ A.y A.x0 1 A.r1.now _ _ v w e.r1_after f.r1_after;
+      r2_after =
+          added_two A.one A.two A.p A.q _ _ A.y A.x0 2 A.r2.now _ _ v w e.r2_after f.r2_after;
+    }

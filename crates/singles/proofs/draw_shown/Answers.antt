@@ -2,7 +2,6 @@
 use mathlib.Core.Path.{◌≡◌, sym, ◌∙◌}
 use mathlib.Core.Bool.{true, false}
 use native.Mathlib.Omega.{arith}
-use borrow.Author.Rules.{rules}
 use Rattle.desks.specs.Desks.{sight_of}
 use Rattle.singles.proofs.Singles.{hidden_kept, hidden_counts, shown_drawn, shown_counts}
 use Rattle.singles.proofs.draw_shown.Goals as goal
@@ -21,7 +20,7 @@ returns-then-hides c =
     }
 
 pub draw_segment-requires : goal.draw_segment-requires
-draw_segment-requires c =  record { i_in_bounds = omega arith; n_bound = omega arith; n_in_bounds = omega arith }
+draw_segment-requires c = record { i_in_bounds = omega arith; n_bound = omega arith; n_in_bounds = omega arith }
 
 pub returns-else-hides : goal.returns-else-hides
 returns-else-hides c =
