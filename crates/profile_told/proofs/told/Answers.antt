@@ -1,5 +1,4 @@
 -- `told`: an answer, case by case.
-use borrow.Author.Rules.{rules}
 use Rattle.profile_told.proofs.told.Goals as goal
 
 pub returns-in-Done : goal.returns-in-Done
