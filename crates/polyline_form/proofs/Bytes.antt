@@ -1,41 +1,22 @@
 -- What a byte makes of a text: each test of the code decides the definition's; and a turn of the loop.
-use mathlib.Core.Path.{◌≡◌, refl, sym, ap, ◌∙◌}
-use mathlib.Core.Bool.{Bool, true, false, cond}
-use mathlib.Core.List.{List, [], ◌∷◌}
-use Prim.Native.Nat.{ℕ, suc, ◌+◌, ◌<◌, ◌≤◌}
+use mathlib.Core.Path.{◌≡◌, ap}
+use mathlib.Core.Bool.{Bool, true, false}
+use mathlib.Core.List.{List}
+use Prim.Native.Nat.{ℕ, ◌+◌, ◌<◌, ◌≤◌}
 use native.Mathlib.Numerals.{add-one}
 use native.Mathlib.Omega.{arith}
-use lib.Dec.{eqb, leb}
 use lib.ListN.{length, get_or, drop, drop_of_length-le}
 use lib.Seq.{drop-cons}
-use borrow.Author.Tests.{eq-eqb, ne_eqb, le-leb, lt-leb}
+use borrow.Author.Tests.{le-leb, lt-leb}
 use Rattle.codes.specs.declared.Code.TheVariants.{Text}
 use Rattle.write_judge.specs.declared.Verdict.TheVariants.{Fine, Fault}
 use Rattle.polyline.specs.declared.Stage.{Stage}
-use Rattle.polyline.specs.declared.Stage.TheVariants.{Fresh, Minus, Nought, Digits}
+use Rattle.polyline.specs.declared.Stage.TheVariants.{Digits}
 use Rattle.polyline.specs.declared.Step.{Step}
 use Rattle.polyline.specs.declared.Step.TheVariants.{To, Stranger}
-use Rattle.polyline.specs.Stages.{lead_of, begin_of, end_of, next_of, may_end, text_from, text_of}
+use Rattle.polyline.specs.Stages.{end_of, next_of, may_end, text_from}
 
 module _ (y : Bool) (b : ℕ) where
-  pub lead_low : b < 49 → Stranger ≡ lead_of y b
-  lead_low h = rw (lt-leb 49 b h)
-
-  pub lead_high : 49 ≤ b → 57 < b → Stranger ≡ lead_of y b
-  lead_high h g = rw (le-leb 49 b h, lt-leb b 57 g)
-
-  pub lead_in : 49 ≤ b → b ≤ 57 → To (Digits y) ≡ lead_of y b
-  lead_in h g = rw (le-leb 49 b h, le-leb b 57 g)
-
-  pub begin_minus : b ≡ 45 → To (Minus y) ≡ begin_of y b
-  begin_minus e = rw (eq-eqb b 45 e)
-
-  pub begin_nought : (b ≡ 45 → ⊥) → b ≡ 48 → To (Nought y) ≡ begin_of y b
-  begin_nought n e = rw (ne_eqb b 45 n, eq-eqb b 48 e)
-
-  pub begin_lead : (b ≡ 45 → ⊥) → (b ≡ 48 → ⊥) → lead_of y b ≡ begin_of y b
-  begin_lead n m = rw (ne_eqb b 45 n, ne_eqb b 48 m)
-
   pub digit_low : b < 48 → end_of y b ≡ next_of (Digits y) b
   unfolding next_of
   digit_low h = rw (lt-leb 48 b h)
@@ -47,19 +28,6 @@ module _ (y : Bool) (b : ℕ) where
   pub digit_in : 48 ≤ b → b ≤ 57 → To (Digits y) ≡ next_of (Digits y) b
   unfolding next_of
   digit_in h g = rw (le-leb 48 b h, le-leb b 57 g)
-
-module _ (y : Bool) (b : ℕ) where
-  pub space_ends : y ≡ true → b ≡ 32 → To (Fresh false) ≡ end_of y b
-  space_ends t e = rw (t, eq-eqb b 32 e)
-
-  pub no_space : y ≡ true → (b ≡ 32 → ⊥) → Stranger ≡ end_of y b
-  no_space t e = rw (t, ne_eqb b 32 e)
-
-  pub comma_ends : y ≡ false → b ≡ 44 → To (Fresh true) ≡ end_of y b
-  comma_ends t e = rw (t, eq-eqb b 44 e)
-
-  pub no_comma : y ≡ false → (b ≡ 44 → ⊥) → Stranger ≡ end_of y b
-  no_comma t e = rw (t, ne_eqb b 44 e)
 
 -- ---- a turn
 

@@ -1,7 +1,6 @@
 -- `polyline_form::digit` meets its contract: the tests decide the definition's.
 use mathlib.Core.Path.{◌∙◌}
 use Rattle.polyline_form.proofs.Bytes.{digit_low, digit_high, digit_in}
-use borrow.Author.Rules.{rules}
 use Rattle.polyline_form.proofs.digit.Goals as goal
 
 pub returns-then-b-lt48 : goal.returns-then-b-lt48

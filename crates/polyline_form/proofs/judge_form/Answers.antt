@@ -1,10 +1,7 @@
-use mathlib.Core.Path.{◌≡◌, refl, sym, ◌∙◌}
-use Prim.Native.Nat.{◌-◌, ◌≤◌}
+use mathlib.Core.Path.{refl, sym, ◌∙◌}
 use native.Mathlib.Omega.{arith}
-use lib.ListN.{length, drop}
-use Rattle.polyline.specs.Stages.{text_from, text_of}
+use Rattle.polyline.specs.Stages.{text_of}
 use Rattle.polyline_form.proofs.Bytes.{turn_stray, turn_on, turn_fine, turn_early}
-use borrow.Author.Rules.{rules}
 use Rattle.polyline_form.proofs.judge_form.Goals as goal
 
 pub loop-i-init : goal.loop-i-init

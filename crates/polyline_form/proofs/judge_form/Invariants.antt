@@ -1,11 +1,8 @@
 -- `polyline_form::judge_form` meets its contract: before each byte, what is left of the text is judged as the whole is.
-use mathlib.Core.Path.{◌≡◌, refl, sym, ◌∙◌}
+use mathlib.Core.Path.{◌≡◌}
 use Prim.Native.Nat.{◌-◌, ◌≤◌}
-use native.Mathlib.Omega.{arith}
 use lib.ListN.{length, drop}
 use Rattle.polyline.specs.Stages.{text_from, text_of}
-use Rattle.polyline_form.proofs.Bytes.{turn_stray, turn_on, turn_fine, turn_early}
-use borrow.Author.Rules.{rules}
 use Rattle.polyline_form.proofs.judge_form.Given as goal
 
 abbrev pub invariant-loop-i : goal.invariant-loop-i

@@ -1,6 +1,5 @@
 -- `polyline_form::may_end` meets its contract: in each arm the stage is known.
 use Rattle.polyline.specs.Stages.{may_end}
-use borrow.Author.Rules.{rules}
 use Rattle.polyline_form.proofs.may_end.Goals as goal
 
 pub returns-in-Fresh : goal.returns-in-Fresh

@@ -1,7 +1,6 @@
 -- `polyline_form::next_stage` meets its contract: in each arm the stage is known.
 use mathlib.Core.Path.{◌∙◌}
 use Rattle.polyline.specs.Stages.{next_of}
-use borrow.Author.Rules.{rules}
 use Rattle.polyline_form.proofs.next_stage.Goals as goal
 
 pub returns-in-Fresh : goal.returns-in-Fresh
