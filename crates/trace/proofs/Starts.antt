@@ -12,7 +12,6 @@ use lib.Ieee.Exact.{HasValue}
 use lib.Ieee.Back.{round_whole, Float-back_signed, positive_back, negative_back}
 use lib.Ieee.Fits.{down_pos}
 use borrow.Author.Tests.{lt-ltb, le-ltb, le-leb, lt-leb, ltb-false, leb-false, eq-eqb, ne_eqb, eqb-true, not-false}
-use Rattle.list.specs.List.{pos_limit}
 use Rattle.list.specs.Steps.{f32_of}
 use Rattle.writer.specs.Write.{whole_of}
 use Rattle.write_judge.proofs.Checks.{neither}

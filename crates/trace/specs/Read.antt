@@ -1,5 +1,5 @@
 -- Reading a trace file: the checks in their order, what an accepted file says, and what a call of `trace_read` leaves.
-use Rattle.std.specs.Prelude.{Bool, not, ◌||◌, List, [], ◌∷◌, ◌++◌, map, ℕ, ◌+◌, ◌*◌, eqb, ltb, length, get_or}
+use Rattle.std.specs.Prelude.{Bool, not, ◌||◌, List, [], ◌∷◌, ◌++◌, map, ℕ, ◌*◌, eqb, ltb, length, get_or}
 use Rattle.codes.specs.declared.Code.TheVariants.{Short, Coord, Delta, Trail, Room, Shape, Header}
 use Rattle.shape.specs.Shape.{points_of}
 use Rattle.list.specs.List.{ListRooms, Got, got, stop, Described, described, lacking}

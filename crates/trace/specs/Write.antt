@@ -1,5 +1,5 @@
 -- Writing a description as a trace file: the checks in their order, and what a call of `trace_write` leaves.
-use Rattle.std.specs.Prelude.{Bool, true, false, not, ◌||◌, ◌&&◌, cond, List, [], ◌∷◌, ◌++◌, map, ℕ, ◌+◌, ◌*◌, ◌%◌, ◌^◌, eqb, ltb, leb, length, ℤ, Float}
+use Rattle.std.specs.Prelude.{Bool, true, not, ◌||◌, ◌&&◌, cond, List, [], ◌∷◌, ◌++◌, map, ℕ, ◌*◌, ◌%◌, ◌^◌, eqb, ltb, leb, length, ℤ, Float}
 use Rattle.std.specs.Float.{nan, inf, fin}
 use Rattle.std.specs.Float.Ieee.{up, down}
 use Rattle.codes.specs.declared.Code.TheVariants.{Coord, Delta, Room, Shape, Header}
