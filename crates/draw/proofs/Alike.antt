@@ -15,9 +15,9 @@ use Rattle.shade.specs.Shade.{shaded}
 use Rattle.shade.proofs.Edits.{edit_cong}
 use Rattle.checks.specs.declared.Verdict.{Verdict}
 use Rattle.checks.specs.declared.Verdict.TheVariants.{Fine, Fault}
-use Rattle.desks.specs.Desks.{Sight, shown, desk_good}
+use Rattle.desks.specs.Desks.{Sight, desk_good}
 use Rattle.desks.specs.Agree.{Agree, NothingHidden}
-use Rattle.desks.proofs.Shown.{ListedShown, shown_listed}
+use Rattle.desks.proofs.Shown.{shown_listed}
 use Rattle.codes.specs.declared.Code.{Code}
 use Rattle.checks.specs.Tables.{Table, row_of, shown_of}
 use Rattle.checks.specs.Checks.{span_good, or_fault, judge_row, judge_draw}

@@ -10,7 +10,7 @@ use Rattle.codes.specs.declared.Code.{Code}
 use Rattle.shade.proofs.Edits.{lt_or_ge}
 use Rattle.desks.specs.Desks.{Sight}
 use Rattle.checks.specs.Tables.{Table}
-use Rattle.checks.specs.Refusals.{CountsFitFor, Lent}
+use Rattle.checks.specs.Refusals.{Lent}
 use Rattle.checks.specs.Checks.{span_good, row_good_for, judge_draw}
 use Rattle.checks.proofs.Refusals.{counts_fit_for, counts_overrun_for, fit_or_overrun_for, span_fits, span_out, fits_or_out, row_bad_for, fine_or_bad_for}
 use Rattle.draw.specs.Draw.{Channels, DrawOutcome, leaves, draw_of}

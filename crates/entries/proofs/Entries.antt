@@ -11,7 +11,7 @@ use lib.Dec.{ltb}
 use lib.Ieee.{Float}
 use Rattle.segments.specs.Segment.{segment_at}
 use Rattle.segments.specs.Ranges.{has_column}
-use Rattle.shade.specs.Edit.{edit, first_cells}
+use Rattle.shade.specs.Edit.{first_cells}
 use Rattle.shade.proofs.Edits.{edit_cong, edit_edit}
 use Rattle.desks.specs.Desks.{Sight, hidden_in, shown}
 use Rattle.desks.proofs.Shown.{shown_most}

@@ -2,7 +2,6 @@
 use mathlib.Core.Path.{sym, ◌∙◌}
 use Prim.Native.Nat.{◌+◌}
 use native.Mathlib.Omega.{arith}
-use borrow.Author.Rules.{rules}
 use Rattle.checks.proofs.Checks.{judged_fine}
 use Rattle.draw.specs.Draw.{table_of, sight_of, three}
 use Rattle.draw.proofs.Checks.{answer_fault, answer_done}

@@ -1,14 +1,7 @@
-use mathlib.Core.Path.{◌≡◌, refl, sym, ◌∙◌}
-use mathlib.Core.Bool.{true}
-use Prim.Native.Nat.{◌+◌, ◌-◌, ◌≤◌}
+use mathlib.Core.Path.{refl, sym, ◌∙◌}
 use native.Mathlib.Omega.{arith}
-use lib.ListN.{length}
-use lib.Seq.{slice}
-use Rattle.desks.specs.Desks.{sight_of, shown, all_owned}
-use Rattle.checks.specs.Checks.{all_below}
-use Rattle.columns.specs.Columns.{updates}
+use Rattle.desks.specs.Desks.{sight_of}
 use Rattle.checks.proofs.Entries.{first_below, rest_below, first_owned, rest_owned}
-use Rattle.singles.proofs.Singles.{rest}
 use Rattle.entries.proofs.Entries.{updates_small, total_next, total_none, rest_next, rest_none}
 use Rattle.entries.proofs.draw_each.Goals as goal
 

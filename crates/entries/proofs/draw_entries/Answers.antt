@@ -1,14 +1,10 @@
 use mathlib.Core.Path.{◌≡◌, refl, ap, ◌∙◌}
-use mathlib.Core.Bool.{true}
-use Prim.Native.Nat.{ℕ, ◌+◌, ◌-◌, ◌<◌, ◌≤◌}
+use Prim.Native.Nat.{ℕ, ◌+◌, ◌<◌}
 use native.Mathlib.Omega.{arith}
-use lib.ListN.{length}
 use lib.Seq.{slice}
-use Rattle.desks.specs.Desks.{sight_of, shown, all_owned}
+use Rattle.desks.specs.Desks.{sight_of, all_owned}
 use Rattle.checks.specs.Checks.{all_below}
-use Rattle.columns.specs.Columns.{updates}
 use Rattle.checks.proofs.Entries.{first_below, rest_below, first_owned, rest_owned}
-use Rattle.singles.proofs.Singles.{rest}
 use Rattle.entries.proofs.Entries.{updates_small, total_next_two, rest_next_two}
 use Rattle.entries.proofs.draw_entries.Goals as goal
 

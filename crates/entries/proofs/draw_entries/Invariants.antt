@@ -1,16 +1,13 @@
 -- What is still to be drawn and counted, from two entries to the next two, and then of the entry that is left over, if there is one.
-use mathlib.Core.Path.{◌≡◌, refl, ap, ◌∙◌}
+use mathlib.Core.Path.{◌≡◌}
 use mathlib.Core.Bool.{true}
-use Prim.Native.Nat.{ℕ, ◌+◌, ◌-◌, ◌<◌, ◌≤◌}
-use native.Mathlib.Omega.{arith}
+use Prim.Native.Nat.{◌+◌, ◌-◌, ◌≤◌}
 use lib.ListN.{length}
 use lib.Seq.{slice}
 use Rattle.desks.specs.Desks.{sight_of, shown, all_owned}
 use Rattle.checks.specs.Checks.{all_below}
 use Rattle.columns.specs.Columns.{updates}
-use Rattle.checks.proofs.Entries.{first_below, rest_below, first_owned, rest_owned}
 use Rattle.singles.proofs.Singles.{rest}
-use Rattle.entries.proofs.Entries.{updates_small, total_next_two, rest_next_two}
 use Rattle.entries.proofs.draw_entries.Given as goal
 
 abbrev pub invariant-loop-j : goal.invariant-loop-j
