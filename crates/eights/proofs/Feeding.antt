@@ -2,7 +2,7 @@
 use mathlib.Core.Path.{◌≡◌, refl, sym, ap, ◌∙◌}
 use mathlib.Core.Logic.{◌⊎◌, ⊎_elim}
 use mathlib.Core.List.{List, [], ◌∷◌, ◌++◌}
-use Prim.Native.Nat.{ℕ, zero, suc, ◌+◌, ◌-◌, ◌≤◌, ◌<◌}
+use Prim.Native.Nat.{ℕ, zero, suc, ◌+◌, ◌-◌, ◌%◌, ◌≤◌, ◌<◌}
 use native.Mathlib.Nat.{eq-or-lt_of_le, le_of_suc-le-suc}
 use native.Mathlib.Omega.{arith}
 use lib.ListN.{length, get_or, get_or-append}
@@ -42,6 +42,10 @@ sum_more p (suc i) h e =
 -- the entries from k on are those from a number that is k
 pub eight_is : (from k : ℕ) {r : List Float} → from ≡ k → r ≡ table (λ j. dct_multiplier (k + j)) 8 → r ≡ table (λ j. dct_multiplier (from + j)) 8
 eight_is from k e q = q ∙ ap (λ (n : ℕ). table (λ j. dct_multiplier (n + j)) 8) (sym e)
+
+-- after 0, 8 and 16 only 24 is left
+pub last_eighth : (from : ℕ) → from % 8 ≡ 0 → from < 32 → (from ≡ 0 → ⊥) → (from ≡ 8 → ⊥) → (from ≡ 16 → ⊥) → from ≡ 24
+last_eighth from e l a b c = omega arith
 
 -- the cosine from + j, by its multiplier
 pub cosine_is : (t : Float) (multipliers : List Float) (tandhalf : Float) (from j : ℕ) {v : Float}

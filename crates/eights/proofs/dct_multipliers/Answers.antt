@@ -1,10 +1,10 @@
 -- `DCT_MULTIPLIERS`: its rule, computed once over all 32 entries, eight an arm.
-use mathlib.Core.Path.{◌≡◌, refl}
+use mathlib.Core.Path.{refl}
 use native.Mathlib.Omega.{arith}
 use lib.Ieee.{mul, div, of_int, of_bits}
 use Rattle.dequantize.specs.Coefficients.{table}
 use Rattle.eights.specs.Eights.{dct_multiplier}
-use Rattle.eights.proofs.Feeding.{eight_is}
+use Rattle.eights.proofs.Feeding.{eight_is, last_eighth}
 use Rattle.eights.proofs.dct_multipliers.Goals as goal
 
 pub returns-in-0 : goal.returns-in-0
@@ -22,5 +22,4 @@ returns-in-16 c = eight_is _ 16 c.in-16.is refl
 pub returns-in_default : goal.returns-in_default
 unfolding table dct_multiplier mul div of_int of_bits
 returns-in_default c =
-    let e : c.args.from ≡ 24 = omega arith in
-    eight_is _ 24 e refl
+    eight_is _ 24 (last_eighth c.args.from c.requires.0 c.requires.1 (omega arith) (omega arith) (omega arith)) refl
