@@ -1,6 +1,5 @@
 -- `more`: one law over the row, four times.
 use native.Mathlib.Omega.{arith}
-use borrow.Author.Rules.{rules}
 use Rattle.transform.proofs.more.Goals as goal
 
 pub fed-requires : goal.fed-requires
