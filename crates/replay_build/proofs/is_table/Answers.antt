@@ -21,10 +21,10 @@ returns-then-not-begin_u32 c = λ e. absurd (no_true e)
 
 pub returns : goal.returns
 returns c = λ e. record {
-  head = c.is_head.ensures (not-false _ c.if-not-is_head.false);
+  head = c.is_head.ensures c.if-not-is_head.false;
   size = c.if-output-starts_end.false;
-  numbers = c.begin_f32.ensures (not-false _ c.if-not-begin_f32.false);
-  splines = c.begin_owners.ensures (not-false _ c.if-not-begin_owners.false);
-  rows = c.begin_u32.ensures (not-false _ c.if-not-begin_u32.false);
+  numbers = c.begin_f32.ensures c.if-not-begin_f32.false;
+  splines = c.begin_owners.ensures c.if-not-begin_owners.false;
+  rows = c.begin_u32.ensures c.if-not-begin_u32.false;
   lists = c.begin_u32-2.ensures e;
 }

@@ -1,9 +1,7 @@
 -- The length stays.
-use mathlib.Core.Path.{◌≡◌, refl, ◌∙◌}
+use mathlib.Core.Path.{◌≡◌}
 use Prim.Native.Nat.{◌-◌, ◌≤◌}
-use native.Mathlib.Omega.{arith}
-use lib.ListN.{length, length-set}
-use borrow.Author.Rules.{rules}
+use lib.ListN.{length}
 use Rattle.replay_splines.proofs.double_deltas.Given as goal
 
 abbrev pub invariant-loop-i : goal.invariant-loop-i

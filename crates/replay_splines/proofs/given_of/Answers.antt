@@ -3,7 +3,6 @@ use mathlib.Core.Path.{◌∙◌}
 use mir.Syntax.{w32}
 use mir.Facts.{to_z-of_z}
 use Rattle.replay_splines.proofs.Agreeing.{given_is}
-use borrow.Author.Rules.{rules}
 use Rattle.replay_splines.proofs.given_of.Goals as goal
 
 pub returns : goal.returns

@@ -1,7 +1,6 @@
 -- The start decides.
 use mathlib.Core.Path.{sym, ◌∙◌}
 use Rattle.control_points.proofs.Starts.{start_valid}
-use borrow.Author.Rules.{rules}
 use Rattle.stored.proofs.Begun.{no_true}
 use Rattle.replay_splines.proofs.is_curve.Goals as goal
 

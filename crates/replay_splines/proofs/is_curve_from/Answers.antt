@@ -1,6 +1,4 @@
 -- The control points and the path agree.
-use borrow.Author.Tests.{not-false}
-use borrow.Author.Rules.{rules}
 use Rattle.stored.proofs.Begun.{no_true}
 use Rattle.replay_splines.proofs.is_curve_from.Goals as goal
 
@@ -8,4 +6,4 @@ pub returns-then-not-points_agree : goal.returns-then-not-points_agree
 returns-then-not-points_agree c = λ e. absurd (no_true e)
 
 pub returns : goal.returns
-returns c = λ e. record { start = _; deltas = _; size = c.requires.1; controls = c.points_agree.ensures (not-false _ c.if-not-points_agree.false); path = c.is_path.ensures e }
+returns c = λ e. record { start = _; deltas = _; size = c.requires.1; controls = c.points_agree.ensures c.if-not-points_agree.false; path = c.is_path.ensures e }

@@ -1,7 +1,6 @@
 -- The code agrees, and what follows it.
 use mathlib.Core.Path.{sym, ap, ◌∙◌}
 use Rattle.stored.specs.Stored.{refusal_word}
-use borrow.Author.Rules.{rules}
 use Rattle.stored.proofs.Begun.{no_true}
 use Rattle.replay_splines.proofs.is_dequantized.Goals as goal
 

@@ -1,6 +1,5 @@
 -- The numbers are those of the words.
 use Rattle.replay_splines.proofs.Agreeing.{numbers_agree}
-use borrow.Author.Rules.{rules}
 use Rattle.replay_splines.proofs.is_dequantized_from.Goals as goal
 
 pub returns : goal.returns

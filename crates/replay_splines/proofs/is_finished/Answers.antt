@@ -1,7 +1,5 @@
 -- Each row agrees, and the numbers behind them.
-use borrow.Author.Tests.{not-false}
 use Rattle.replay_splines.proofs.Agreeing.{same_bool}
-use borrow.Author.Rules.{rules}
 use Rattle.stored.proofs.Begun.{no_true}
 use Rattle.replay_splines.proofs.is_finished.Goals as goal
 
@@ -24,4 +22,4 @@ pub returns-then-words-spline : goal.returns-then-words-spline
 returns-then-words-spline c = λ e. absurd (no_true e)
 
 pub returns : goal.returns
-returns c = λ e. record { x = c.begin_f32.ensures (not-false _ c.if-not-begin_f32.false); y = c.begin_f32-2.ensures (not-false _ c.if-not-begin_f32-2.false); b = c.begin_f32-3.ensures (not-false _ c.if-not-begin_f32-3.false); sigma = c.begin_f32-4.ensures (not-false _ c.if-not-begin_f32-4.false); estimate = (c.is_long.ensures e).1; coincide = same_bool _ _ c.if-words-spline.false }
+returns c = λ e. record { x = c.begin_f32.ensures c.if-not-begin_f32.false; y = c.begin_f32-2.ensures c.if-not-begin_f32-2.false; b = c.begin_f32-3.ensures c.if-not-begin_f32-3.false; sigma = c.begin_f32-4.ensures c.if-not-begin_f32-4.false; estimate = (c.is_long.ensures e).1; coincide = same_bool _ _ c.if-words-spline.false }

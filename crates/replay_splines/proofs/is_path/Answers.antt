@@ -2,7 +2,6 @@
 use mathlib.Core.Path.{sym, ◌∙◌}
 use Rattle.control_points.proofs.Walks.{traced_walk}
 use Rattle.replay_splines.proofs.Agreeing.{path_agrees}
-use borrow.Author.Rules.{rules}
 use Rattle.stored.proofs.Begun.{no_true}
 use Rattle.replay_splines.proofs.is_path.Goals as goal
 

@@ -1,7 +1,5 @@
 -- The control points and the rest agree.
-use borrow.Author.Tests.{not-false}
 use Rattle.replay_splines.proofs.Agreeing.{taken_agrees}
-use borrow.Author.Rules.{rules}
 use Rattle.stored.proofs.Begun.{no_true}
 use Rattle.replay_splines.proofs.is_taken.Goals as goal
 
@@ -15,4 +13,4 @@ pub returns-then-not-points_agree_from : goal.returns-then-not-points_agree_from
 returns-then-not-points_agree_from c = λ e. absurd (no_true e)
 
 pub returns : goal.returns
-returns c = λ e. taken_agrees _ _ _ _ _ c.count.ensures.0 (c.points_agree_from.ensures (not-false _ c.if-not-points_agree_from.false)) (c.is_finished.ensures e)
+returns c = λ e. taken_agrees _ _ _ _ _ c.count.ensures.0 (c.points_agree_from.ensures c.if-not-points_agree_from.false) (c.is_finished.ensures e)

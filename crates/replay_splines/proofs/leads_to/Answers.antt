@@ -1,6 +1,5 @@
 -- The trace says where the double deltas lead.
 use mathlib.Core.Path.{sym, ◌∙◌}
-use borrow.Author.Rules.{rules}
 use Rattle.stored.proofs.Begun.{no_true}
 use Rattle.replay_splines.proofs.leads_to.Goals as goal
 

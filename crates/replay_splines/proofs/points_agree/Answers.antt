@@ -1,11 +1,5 @@
-use mathlib.Core.Path.{◌≡◌}
-use mathlib.Core.Bool.{true}
-use Prim.Native.Nat.{◌-◌, ◌/◌}
 use native.Mathlib.Omega.{arith}
-use lib.ListN.{length}
-use Rattle.control_points.specs.ControlPoints.{valid_point_pos}
-use borrow.Author.Tests.{not-false}
-use Rattle.replay_splines.proofs.Agreeing.{led_length, Led, led_none, led_more, led_all}
+use Rattle.replay_splines.proofs.Agreeing.{led_length, led_none, led_more, led_all}
 use borrow.Author.Rules.{rules}
 use Rattle.stored.proofs.Begun.{no_true}
 use Rattle.replay_splines.proofs.points_agree.Goals as goal
@@ -18,20 +12,20 @@ returns-then-deltas-k c = λ e. absurd (no_true e)
 
 pub slice_bounds-leads_to-end : goal.slice_bounds-leads_to-end
 slice_bounds-leads_to-end c =
-    let l = c.loop in
-    let t = led_length c.args.deltas.now l.k c.if1.false in
+    let l = c.loop-k in
+    let t = led_length c.args.deltas.now l.k c.if-deltas-k.false in
     search (rules, t)
 
 pub leads_to-requires : goal.leads_to-requires
-leads_to-requires c = c.loop.invariant.1
+leads_to-requires c = c.loop-k.invariant.1
 
 pub returns-then-not-leads_to : goal.returns-then-not-leads_to
 returns-then-not-leads_to c = λ e. absurd (no_true e)
 
 pub loop-k-preserved : goal.loop-k-preserved
 loop-k-preserved c =
-    let l = c.loop in
-    (led_more _ _ _ _ l.k l.invariant.0 (omega arith) (c.leads_to.ensures (not-false _ c.if-not-leads_to.false)), l.invariant.1)
+    let l = c.loop-k in
+    (led_more _ _ _ _ l.k l.invariant.0 (omega arith) (c.leads_to.ensures c.if-not-leads_to.false), l.invariant.1)
 
 pub returns : goal.returns
 returns c = λ e. led_all _ _ _ _ c.loop-k.k c.loop-k.invariant.0 (omega arith)

@@ -2,13 +2,9 @@
 use mathlib.Core.Path.{◌≡◌}
 use mathlib.Core.Bool.{true}
 use Prim.Native.Nat.{◌-◌, ◌/◌}
-use native.Mathlib.Omega.{arith}
 use lib.ListN.{length}
 use Rattle.control_points.specs.ControlPoints.{valid_point_pos}
-use borrow.Author.Tests.{not-false}
-use Rattle.replay_splines.proofs.Agreeing.{led_length, Led, led_none, led_more, led_all}
-use borrow.Author.Rules.{rules}
-use Rattle.stored.proofs.Begun.{no_true}
+use Rattle.replay_splines.proofs.Agreeing.{Led}
 use Rattle.replay_splines.proofs.points_agree.Given as goal
 
 abbrev pub invariant-loop-k : goal.invariant-loop-k

@@ -2,7 +2,6 @@
 use mathlib.Core.Path.{sym, ◌∙◌}
 use Rattle.control_points.proofs.Starts.{start_valid}
 use Rattle.replay_splines.proofs.Agreeing.{from_start}
-use borrow.Author.Rules.{rules}
 use Rattle.stored.proofs.Begun.{no_true}
 use Rattle.replay_splines.proofs.points_agree_from.Goals as goal
 
