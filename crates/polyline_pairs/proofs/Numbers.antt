@@ -1,26 +1,25 @@
 -- Numbers that fit: differences and signs in the machine's words, and what stays small on the way through a text.
 use mathlib.Core.Path.{◌≡◌, refl, sym, ap, ◌∙◌}
 use mathlib.Core.Bool.{Bool, true, false, cond}
-use Prim.Native.Nat.{ℕ, zero, suc, ◌+◌, ◌-◌, ◌*◌, ◌^◌, ◌<◌, ◌≤◌}
+use Prim.Native.Nat.{ℕ, zero, suc, ◌+◌, ◌-◌, ◌*◌, ◌≤◌}
 use native.Mathlib.Omega.{arith}
 use lib.Dec.{ltb, leb, eqb}
 use lib.IntN.{ℤ, pos, negsuc, neg_ℤ, ◌+ℤ◌, ◌-ℤ◌}
 use lib.Signed.{mag}
-use borrow.Author.Tests.{lt-ltb, le-leb, lt-leb, leb-false, eqb-true, eqb-false}
+use borrow.Author.Tests.{lt-ltb, leb-false, eqb-true, eqb-false}
 use mir.Syntax.{w32}
 use mir.Val.{SFits, to_z, of_z}
 use mir.Facts.{to_z-of_z}
 use Rattle.control_points.specs.ControlPoints.{valid_point_pos, same_point, stand_at}
 use Rattle.control_points.specs.declared.Pair.{Pair}
-use Rattle.control_points.specs.declared.Stand.{Stand}
 use Rattle.control_points.proofs.Coincide.{same_point_lem}
 use Rattle.control_points.proofs.Pairs.{in_range_mag, point_range}
 use Rattle.polyline.specs.declared.Figure.{Figure}
 use Rattle.polyline.specs.declared.Track.{Track}
 use Rattle.polyline.specs.declared.Track.TheVariants.{Empty, At}
 use Rattle.polyline.specs.Spots.{signed_by, figure_at, grown_by, spot_of, capped}
-use Rattle.polyline.specs.Read.{minus_of, placeable, meets, track_to}
-use Rattle.polyline.proofs.Tracks.{Passes, placeable_valid}
+use Rattle.polyline.specs.Read.{minus_of, placeable, track_to}
+use Rattle.polyline.proofs.Tracks.{Passes}
 use Rattle.codes.proofs.Decides.{both}
 use Rattle.polyline_pairs.specs.Fits.{Near, Small, Held, OnTrack}
 

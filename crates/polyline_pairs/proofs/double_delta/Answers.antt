@@ -1,7 +1,6 @@
 -- `polyline_pairs::double_delta` meets its contract: two differences.
 use mathlib.Core.Path.{◌∙◌}
 use Rattle.polyline.specs.Read.{double_delta}
-use borrow.Author.Rules.{rules}
 use Rattle.polyline_pairs.proofs.double_delta.Goals as goal
 
 pub minus-requires-2 : goal.minus-requires-2

@@ -4,7 +4,6 @@ use native.Mathlib.Omega.{arith}
 use mir.Syntax.{w32}
 use mir.Facts.{to_z-of_z}
 use Rattle.polyline.specs.Spots.{grown_by}
-use borrow.Author.Rules.{rules}
 use Rattle.polyline_pairs.proofs.grown.Goals as goal
 
 pub returns-then-b-eq44 : goal.returns-then-b-eq44

@@ -2,7 +2,6 @@
 use mathlib.Core.Path.{sym, ap, ◌∙◌}
 use Rattle.polyline.specs.Read.{judged_of}
 use Rattle.polyline_pairs.proofs.Judging.{first_on, first_stop}
-use borrow.Author.Rules.{rules}
 use Rattle.polyline_pairs.proofs.judge_pair.Goals as goal
 
 pub judge_later-requires : goal.judge_later-requires

@@ -4,7 +4,6 @@ use native.Mathlib.Omega.{arith}
 use mir.Syntax.{w32}
 use mir.Facts.{to_z-of_z, to_z_pos}
 use Rattle.polyline_pairs.proofs.Numbers.{nothing_less, signed_mag}
-use borrow.Author.Rules.{rules}
 use Rattle.polyline_pairs.proofs.signed.Goals as goal
 
 pub overflow_sub-result : goal.overflow_sub-result

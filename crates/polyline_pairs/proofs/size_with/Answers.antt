@@ -1,9 +1,8 @@
 -- `polyline_pairs::size_with` meets its contract: the test is the definition's.
-use mathlib.Core.Path.{sym, ◌∙◌}
+use mathlib.Core.Path.{sym}
 use Prim.Native.Nat.{◌+◌, ◌-◌, ◌*◌}
 use native.Mathlib.Omega.{arith}
 use Rattle.polyline.proofs.Capped.{cap_big, cap_small}
-use borrow.Author.Rules.{rules}
 use Rattle.polyline_pairs.proofs.size_with.Goals as goal
 
 pub overflow_add-more : goal.overflow_add-more

@@ -3,7 +3,6 @@ use mir.Syntax.{w32}
 use mir.Facts.{to_z-of_z}
 use native.Mathlib.Omega.{arith}
 use Rattle.polyline.specs.Spots.{spot_of}
-use borrow.Author.Rules.{rules}
 use Rattle.polyline_pairs.proofs.spot.Goals as goal
 
 pub returns : goal.returns

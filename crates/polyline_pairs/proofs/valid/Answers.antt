@@ -5,7 +5,6 @@ use native.Mathlib.Omega.{arith}
 use mir.Syntax.{w32}
 use mir.Facts.{to_z-of_z}
 use Rattle.control_points.specs.ControlPoints.{in_range, valid_point_pos}
-use borrow.Author.Rules.{rules}
 use Rattle.polyline_pairs.proofs.valid.Goals as goal
 
 pub returns-then-in_range : goal.returns-then-in_range
