@@ -1,7 +1,5 @@
-use mathlib.Core.Path.{◌≡◌}
 use native.Mathlib.Omega.{arith}
-use Rattle.decimal.proofs.Backs.{Back, back_begin, back_some, back_more, back_end}
-use lib.ListN.{length}
+use Rattle.decimal.proofs.Backs.{back_begin, back_some, back_more, back_end}
 use Rattle.decimal.proofs.put_back.Goals as goal
 
 pub loop-left-init : goal.loop-left-init

@@ -1,8 +1,5 @@
 -- `decimal::put_back` meets its contract: the digits of what is left stand before those that are stored.
-use mathlib.Core.Path.{◌≡◌}
-use native.Mathlib.Omega.{arith}
-use Rattle.decimal.proofs.Backs.{Back, back_begin, back_some, back_more, back_end}
-use lib.ListN.{length}
+use Rattle.decimal.proofs.Backs.{Back}
 use Rattle.decimal.proofs.put_back.Given as goal
 
 abbrev pub invariant-loop-left : goal.invariant-loop-left

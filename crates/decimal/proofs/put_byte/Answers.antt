@@ -1,7 +1,6 @@
 -- `decimal::put_byte` meets its contract: behind the last cell nothing is stored.
 use mathlib.Core.Path.{sym}
 use lib.Seq.{set_out}
-use borrow.Author.Rules.{rules}
 use Rattle.decimal.proofs.put_byte.Goals as goal
 
 pub returns-else-at-text : goal.returns-else-at-text

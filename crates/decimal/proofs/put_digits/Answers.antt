@@ -1,12 +1,11 @@
 -- `decimal::put_digits` meets its contract: they end as many bytes on as there are digits.
-use mathlib.Core.Path.{◌≡◌, sym, ap, ◌∙◌}
+use mathlib.Core.Path.{◌≡◌, ap, ◌∙◌}
 use Prim.Native.Nat.{ℕ, ◌+◌, ◌-◌}
 use native.Mathlib.Omega.{arith}
 use lib.ListN.{length}
 use lib.Seq.{sets}
 use Rattle.polyline.specs.Write.{digits_of}
 use Rattle.polyline.proofs.Digits.{length_most}
-use borrow.Author.Rules.{rules}
 use Rattle.decimal.proofs.put_digits.Goals as goal
 
 pub overflow_add-end : goal.overflow_add-end

@@ -1,14 +1,10 @@
 -- `decimal::put_number` meets its contract: a minus and the digits of what is left without it, or the digits.
-use mathlib.Core.Path.{◌≡◌}
-use Prim.Native.Nat.{suc}
 use native.Mathlib.Omega.{arith}
-use lib.IntN.{pos}
 use mir.Syntax.{w32}
 use mir.Facts.{to_z-of_z}
 use Rattle.list.proofs.Signed.{tested_below, not_below}
 use Rattle.control_points.proofs.Pairs.{in_range_mag}
 use Rattle.decimal.proofs.Backs.{less, minus_word, minus_text, plain_text}
-use borrow.Author.Rules.{rules}
 use Rattle.decimal.proofs.put_number.Goals as goal
 
 pub overflow_sub-n : goal.overflow_sub-n

@@ -1,8 +1,4 @@
-use mathlib.Core.Path.{◌≡◌}
-use Prim.Native.Nat.{◌+◌, ◌≤◌, ◌<◌, ◌^◌}
 use native.Mathlib.Omega.{arith}
-use lib.ListN.{length}
-use Rattle.polyline.specs.Write.{digits_of}
 use Rattle.polyline.proofs.Digits.{length_small, length_large, length_most}
 use Rattle.decimal.proofs.width.Goals as goal
 

@@ -1,10 +1,8 @@
 -- `decimal::width` meets its contract: the digits counted and those of what is left are one more than all.
 use mathlib.Core.Path.{◌≡◌}
 use Prim.Native.Nat.{◌+◌, ◌≤◌, ◌<◌, ◌^◌}
-use native.Mathlib.Omega.{arith}
 use lib.ListN.{length}
 use Rattle.polyline.specs.Write.{digits_of}
-use Rattle.polyline.proofs.Digits.{length_small, length_large, length_most}
 use Rattle.decimal.proofs.width.Given as goal
 
 abbrev pub invariant-loop-left : goal.invariant-loop-left
