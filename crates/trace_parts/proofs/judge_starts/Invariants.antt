@@ -1,14 +1,11 @@
-use mathlib.Core.Path.{◌≡◌, sym, ◌∙◌}
+use mathlib.Core.Path.{◌≡◌}
 use Prim.Native.Nat.{◌+◌, ◌-◌, ◌≤◌}
-use native.Mathlib.Omega.{arith}
 use lib.ListN.{drop}
 use Rattle.codes.specs.declared.Code.TheVariants.{Coord}
 use Rattle.writer.specs.Write.{first_fault}
 use Rattle.little.specs.Little.{numbers_in}
 use Rattle.trace.specs.Trace.{part, number_checks}
 use Rattle.trace.specs.Read.{misplaced}
-use Rattle.trace_parts.proofs.Parts.{number_fault, number_pass, number_end}
-use borrow.Author.Rules.{rules}
 use Rattle.trace_parts.proofs.judge_starts.Given as goal
 
 abbrev pub invariant-loop-i : goal.invariant-loop-i
