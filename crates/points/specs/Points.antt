@@ -1,6 +1,6 @@
 -- `add_segments_from_points` of spline.rs at a distance of 1: the segments that a walk makes, and what a lent buffer then holds. Definitions only.
 -- A walk is a list of three numbers a point: x, y and multiplier.
-use Rattle.std.specs.Prelude.{◌≡◌, Bool, true, false, cond, List, [], ◌∷◌, ◌++◌, ℕ, zero, suc, ◌+◌, ◌*◌, ◌/◌, min, leb, pos, length, get_or, Float}
+use Rattle.std.specs.Prelude.{◌≡◌, Bool, cond, List, [], ◌∷◌, ◌++◌, ℕ, zero, suc, ◌+◌, ◌*◌, ◌/◌, min, leb, pos, length, get_or, Float}
 use Rattle.std.proofs.lemmas.List.Edits.{sets}
 use Rattle.std.specs.Float.{nan, binary32}
 use Rattle.std.specs.Float.Ieee.{of_int}

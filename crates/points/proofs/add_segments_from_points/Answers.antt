@@ -1,11 +1,8 @@
 use mathlib.Core.Path.{◌≡◌, refl, ◌∙◌}
-use Prim.Native.Nat.{◌-◌, ◌/◌, ◌≤◌}
 use native.Mathlib.Omega.{arith}
-use borrow.Author.Rules.{rules}
-use lib.ListN.{length}
 use Rattle.numbers.specs.Arith.{1·0, ◌⊘◌}
-use Rattle.points.specs.Points.{segment_room, point_segment}
-use Rattle.points.proofs.Adding.{Adding, adding_none, adding_all, adding_more, adding_full}
+use Rattle.points.specs.Points.{point_segment}
+use Rattle.points.proofs.Adding.{adding_none, adding_all, adding_more, adding_full}
 use Rattle.points.proofs.add_segments_from_points.Goals as goal
 
 pub loop-i-init : goal.loop-i-init

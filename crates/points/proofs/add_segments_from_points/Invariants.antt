@@ -1,12 +1,10 @@
 -- `add_segments_from_points`: the points below i are done, and what is written and what is still to come make up all segments.
-use mathlib.Core.Path.{◌≡◌, refl, ◌∙◌}
+use mathlib.Core.Path.{◌≡◌}
 use Prim.Native.Nat.{◌-◌, ◌/◌, ◌≤◌}
-use native.Mathlib.Omega.{arith}
-use borrow.Author.Rules.{rules}
 use lib.ListN.{length}
 use Rattle.numbers.specs.Arith.{1·0, ◌⊘◌}
-use Rattle.points.specs.Points.{segment_room, point_segment}
-use Rattle.points.proofs.Adding.{Adding, adding_none, adding_all, adding_more, adding_full}
+use Rattle.points.specs.Points.{segment_room}
+use Rattle.points.proofs.Adding.{Adding}
 use Rattle.points.proofs.add_segments_from_points.Given as goal
 
 abbrev pub invariant-loop-i : goal.invariant-loop-i

@@ -1,6 +1,5 @@
 -- `place_of`: an index of a walk is exact in f32.
 use native.Mathlib.Omega.{arith}
-use borrow.Author.Rules.{rules}
 use lib.Dec.{le→leb}
 use lib.Ieee.{in_float}
 use Rattle.points.specs.Points.{curve_time}

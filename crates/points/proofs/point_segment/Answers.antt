@@ -1,5 +1,4 @@
 -- `point_segment`: three reads, then the calls in turn.
-use borrow.Author.Rules.{rules}
 use Rattle.points.specs.Points.{point_segment}
 use Rattle.points.proofs.point_segment.Goals as goal
 

@@ -1,6 +1,5 @@
 -- `put_made`: by cases of what the point makes and of the room.
 use native.Mathlib.Omega.{arith}
-use borrow.Author.Rules.{rules}
 use Rattle.points.proofs.Adding.{made_none, made_one, made_room}
 use Rattle.points.proofs.put_made.Goals as goal
 
