@@ -4,9 +4,7 @@ use Rattle.numbers.specs.Arith.{0·0}
 use Rattle.buffers.specs.Padded.{padded}
 use Rattle.codes.specs.Codes.{number_of}
 use Rattle.codes.specs.declared.Code.{Code}
-use Rattle.codes.specs.declared.Code.TheVariants as Code
 use Rattle.rows.specs.declared.Listed.{Listed}
-use Rattle.rows.specs.declared.Listed.TheVariants as Listed
 use Rattle.rows.specs.Rows.{RowsOutcome}
 use Rattle.faint.specs.Faint.{faint_in}
 use Rattle.build_answer.specs.declared.BuildAnswer.{BuildAnswer}
