@@ -163,7 +163,7 @@ module _ (segs : List Float) (W : ℕ) (w : W ≤ 2 ^ 23) where
       least_by
       (λ x i. ⊎_elim (λ u. ⊎_elim (λ v. inl v) (λ v. inr (now x v)) u) (λ u. inr (later x u)) i)
       (λ x i. ⊎_elim (λ u. inl (inl u)) (λ u. back x u) i)
-      (least_over (least_joined a (columns_below W s)) l)
+      (least_over {In = λ x. In x ⊎ Within (columns_below W s) x} (least_joined a (columns_below W s)) l)
     where
       s : Segment
       s = segment_at segs k

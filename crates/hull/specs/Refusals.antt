@@ -2,7 +2,6 @@
 -- That reach refuses exactly so is proofs/Refusals.antt.
 use Rattle.std.specs.Prelude.{ℕ, ◌^◌, ◌≤◌, ◌<◌, length}
 use Rattle.codes.specs.declared.Code.{Code}
-use Rattle.codes.specs.declared.Code.TheVariants as Code
 use Rattle.desks.specs.Desks.{Sight}
 use Rattle.checks.specs.Tables.{Table}
 use Rattle.checks.specs.Refusals.{OverrunFor, CountsFitFor, Lent, RowBadFor}

@@ -1,28 +1,26 @@
 -- The checks pass or their code is the answer; then the segment's columns are drawn.
 use mathlib.Core.Path.{sym, ◌∙◌}
 use native.Mathlib.Omega.{arith}
-use borrow.Author.Tests.{not-true, not-false}
 use Rattle.draw.specs.Draw.{three}
 use Rattle.checks.proofs.Checks.{span_facts}
 use Rattle.alone.proofs.Alone.{not_known, no_row, no_span, drawn_alone, count_alone, columns_alone}
 use Rattle.alone.specs.Alone.{without_owner}
-use borrow.Author.Rules.{rules}
 use Rattle.alone.proofs.draw_alone.Goals as goal
 
 pub returns-then-not-known : goal.returns-then-not-known
 returns-then-not-known c =
     let A = c.args in
-    not_known A.known (without_owner A.whole) A.y A.x0 A.n (three A.r0.now A.r1.now A.r2.now) (c.if-not-known.true)
+    not_known A.known (without_owner A.whole) A.y A.x0 A.n (three A.r0.now A.r1.now A.r2.now) c.if-not-known.true
 
 pub returns-then-y-ge8388608 : goal.returns-then-y-ge8388608
 returns-then-y-ge8388608 c =
     let A = c.args in
-    no_row A.known (without_owner A.whole) A.y A.x0 A.n (three A.r0.now A.r1.now A.r2.now) (c.if-not-known.false) (omega arith)
+    no_row A.known (without_owner A.whole) A.y A.x0 A.n (three A.r0.now A.r1.now A.r2.now) c.if-not-known.false (omega arith)
 
 pub returns-then-not-span_good : goal.returns-then-not-span_good
 returns-then-not-span_good c =
     let A = c.args in
-    no_span A.known (without_owner A.whole) A.y A.x0 A.n (three A.r0.now A.r1.now A.r2.now) (c.if-not-known.false) (omega arith) (sym c.span_good.ensures ∙ c.if-not-span_good.true)
+    no_span A.known (without_owner A.whole) A.y A.x0 A.n (three A.r0.now A.r1.now A.r2.now) c.if-not-known.false (omega arith) (sym c.span_good.ensures ∙ c.if-not-span_good.true)
 
 pub draw_columns-requires : goal.draw_columns-requires
 draw_columns-requires c =
@@ -36,9 +34,12 @@ returns c =
     let h = (span_facts _ _ _ _ _ g).inside_image in
     let s = c.segment_of-segment.ensures in
     let q = rw s at c.columns-columns.ensures in
-    let e = rw s at c.draw_columns.ensures in
-    drawn_alone A.known (without_owner A.whole) A.y A.x0 A.n (three A.r0.now A.r1.now A.r2.now) (c.if-not-known.false) (omega arith) g
-    (count_alone (without_owner A.whole) A.x0 A.n _ q h _ e.0)
-    (columns_alone (without_owner A.whole) A.x0 A.n _ q h 0 A.y _ _ e.1.0)
-    (columns_alone (without_owner A.whole) A.x0 A.n _ q h 1 A.y _ _ e.1.1.0)
-    (columns_alone (without_owner A.whole) A.x0 A.n _ q h 2 A.y _ _ e.1.1.1)
+    let e = c.draw_columns.ensures in
+    let e0 = rw s at e.r0_after in
+    let e1 = rw s at e.r1_after in
+    let e2 = rw s at e.r2_after in
+    drawn_alone A.known (without_owner A.whole) A.y A.x0 A.n (three A.r0.now A.r1.now A.r2.now) c.if-not-known.false (omega arith) g
+    (count_alone (without_owner A.whole) A.x0 A.n _ q h _ e.value)
+    (columns_alone (without_owner A.whole) A.x0 A.n _ q h 0 A.y _ _ e0)
+    (columns_alone (without_owner A.whole) A.x0 A.n _ q h 1 A.y _ _ e1)
+    (columns_alone (without_owner A.whole) A.x0 A.n _ q h 2 A.y _ _ e2)

@@ -1,7 +1,6 @@
 -- A desk that is none and a width above the limit are refused; else the checks of a row decide.
 use Prim.Native.Nat.{◌^◌}
 use native.Mathlib.Omega.{arith}
-use borrow.Author.Rules.{rules}
 use borrow.Author.Tests.{lt-ltb, le-ltb, lt-leb, le-leb}
 use Rattle.hull.specs.Reach.{judge_reach_of}
 use Rattle.hull.proofs.judge_reach.Goals as goal

@@ -2,7 +2,6 @@
 use mathlib.Core.Path.{sym, ◌∙◌}
 use Prim.Native.Nat.{◌+◌}
 use native.Mathlib.Omega.{arith}
-use borrow.Author.Rules.{rules}
 use Rattle.desks.specs.Desks.{sight_of}
 use Rattle.checks.specs.Tables.{table_of}
 use Rattle.hull.proofs.Reaches.{judged_reach, reach_fault, reach_done}

@@ -1,15 +1,12 @@
 -- What is still to be joined, from entry to entry.
-use mathlib.Core.Path.{◌≡◌, refl}
+use mathlib.Core.Path.{◌≡◌}
 use mathlib.Core.Bool.{true}
 use Prim.Native.Nat.{◌-◌, ◌≤◌}
-use native.Mathlib.Omega.{arith}
 use lib.Seq.{slice}
 use Rattle.desks.specs.Desks.{sight_of, shown, all_owned}
 use Rattle.checks.specs.Checks.{all_below}
-use Rattle.checks.proofs.Entries.{first_below, rest_below, first_owned, rest_owned}
 use Rattle.hull.specs.Reach.{none}
 use Rattle.hull.proofs.Hulls.{joined_over}
-use Rattle.hull.proofs.Reaches.{reach_next, reach_end}
 use Rattle.hull.proofs.reach_entries.Given as goal
 
 abbrev pub invariant-loop-j : goal.invariant-loop-j

@@ -1,8 +1,6 @@
 -- A hidden segment leaves what was found; any other is joined.
 use mathlib.Core.Path.{◌≡◌, sym, ◌∙◌}
 use mathlib.Core.Bool.{true, false}
-use native.Mathlib.Omega.{arith}
-use borrow.Author.Rules.{rules}
 use Rattle.desks.specs.Desks.{sight_of}
 use Rattle.hull.proofs.Reaches.{found_hidden, found_shown}
 use Rattle.hull.proofs.with_shown.Goals as goal
