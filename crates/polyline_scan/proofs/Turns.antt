@@ -1,8 +1,8 @@
 -- Laws of going through a text: a pair that ends and is stored, one byte, and a turn of the loop.
 use mathlib.Core.Path.{◌≡◌, refl, sym, ap, ◌∙◌}
-use mathlib.Core.Bool.{Bool, true, false, cond}
+use mathlib.Core.Bool.{Bool, true, false}
 use mathlib.Core.List.{List, [], ◌∷◌, ◌++◌}
-use Prim.Native.Nat.{ℕ, zero, suc, ◌+◌, ◌-◌, ◌*◌, ◌^◌, ◌<◌, ◌≤◌}
+use Prim.Native.Nat.{ℕ, suc, ◌+◌, ◌*◌, ◌^◌, ◌<◌, ◌≤◌}
 use native.Mathlib.Numerals.{add-one}
 use native.Mathlib.Omega.{arith}
 use lib.Dec.{eqb}
@@ -20,14 +20,14 @@ use Rattle.polyline.specs.declared.Track.{Track}
 use Rattle.polyline.specs.declared.Track.TheVariants.{Empty, At}
 use Rattle.polyline.specs.declared.Judged.{Judged}
 use Rattle.polyline.specs.declared.Judged.TheVariants as judged
-use Rattle.polyline.specs.declared.Tracked.TheVariants.{Came, Halt}
+use Rattle.polyline.specs.declared.Tracked.TheVariants.{Halt}
 use Rattle.polyline.specs.Spots.{figure_at, grown_by, spot_of, spots_from, capped, capped_spots, ended}
 use Rattle.polyline.specs.Read.{double_delta, track_to, step_deltas, judged_of, track_from, deltas_from}
-use Rattle.polyline.proofs.Tracks.{Passes, judged_on, walk_on, walk_stop}
+use Rattle.polyline.proofs.Tracks.{judged_on, walk_on, walk_stop}
 use Rattle.polyline_scan.specs.declared.Run.{Run}
 use Rattle.polyline_scan.specs.declared.Turned.{Turned}
 use Rattle.polyline_scan.specs.declared.Turned.TheVariants.{On, Stop}
-use Rattle.polyline_scan.specs.Steps.{RunHeld, Spare, ended_of, pair_ends, turned_of, stored_by, end_deltas, turn_deltas, ScanLeaves}
+use Rattle.polyline_scan.specs.Steps.{RunHeld, Spare, pair_ends, turned_of, end_deltas, turn_deltas, ScanLeaves}
 use Rattle.polyline_pairs.proofs.Numbers.{figure_held, grown_held, track_held}
 
 -- ---- a double delta is stored

@@ -3,7 +3,6 @@ use mathlib.Core.Path.{sym, ◌∙◌}
 use native.Mathlib.Omega.{arith}
 use Rattle.polyline_pairs.proofs.Numbers.{small_near, spot_small}
 use Rattle.polyline_scan.proofs.Turns.{ends_stop, ends_on}
-use borrow.Author.Rules.{rules}
 use Rattle.polyline_scan.proofs.end_pair.Goals as goal
 
 pub judge_pair-requires : goal.judge_pair-requires

@@ -1,7 +1,6 @@
 -- `polyline_scan::put` meets its contract: behind the last cell nothing is stored.
 use mathlib.Core.Path.{sym}
 use lib.Seq.{set_out}
-use borrow.Author.Rules.{rules}
 use Rattle.polyline_scan.proofs.put.Goals as goal
 
 pub returns-else-i-deltas : goal.returns-else-i-deltas

@@ -1,9 +1,5 @@
-use mathlib.Core.Path.{refl}
-use Prim.Native.Nat.{◌+◌, ◌-◌}
 use native.Mathlib.Omega.{arith}
-use lib.ListN.{length}
-use Rattle.polyline_scan.proofs.Turns.{Going, spare, going_begin, going_on, going_stops, going_done}
-use borrow.Author.Rules.{rules}
+use Rattle.polyline_scan.proofs.Turns.{spare, going_begin, going_on, going_stops, going_done}
 use Rattle.polyline_scan.proofs.scan.Goals as goal
 
 pub loop-i-init : goal.loop-i-init

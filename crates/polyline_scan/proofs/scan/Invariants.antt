@@ -1,10 +1,7 @@
 -- `polyline_scan::scan` meets its contract: before each byte, what is stored and what is left come to the whole text.
-use mathlib.Core.Path.{refl}
 use Prim.Native.Nat.{◌+◌, ◌-◌}
-use native.Mathlib.Omega.{arith}
 use lib.ListN.{length}
-use Rattle.polyline_scan.proofs.Turns.{Going, spare, going_begin, going_on, going_stops, going_done}
-use borrow.Author.Rules.{rules}
+use Rattle.polyline_scan.proofs.Turns.{Going}
 use Rattle.polyline_scan.proofs.scan.Given as goal
 
 abbrev pub invariant-loop-i : goal.invariant-loop-i

@@ -1,11 +1,9 @@
 -- `polyline_scan::store` meets its contract: a first pair has no double delta, a later one two numbers.
-use mathlib.Core.Path.{◌∙◌}
 use native.Mathlib.Omega.{arith}
 use mir.Syntax.{w32}
 use mir.Facts.{to_z-of_z}
 use Rattle.polyline_pairs.proofs.Numbers.{small_near, valid_small, valid_near, minus_near}
 use Rattle.polyline_scan.proofs.Turns.{store_none, store_two}
-use borrow.Author.Rules.{rules}
 use Rattle.polyline_scan.proofs.store.Goals as goal
 
 pub double_delta-d-requires : goal.double_delta-d-requires

@@ -1,6 +1,5 @@
 -- `polyline_scan::turn` meets its contract: a space ends the pair, another byte stands inside it.
 use Rattle.polyline_scan.proofs.Turns.{turn_space, turn_inside}
-use borrow.Author.Rules.{rules}
 use Rattle.polyline_scan.proofs.turn.Goals as goal
 
 pub returns-then-b-eq32 : goal.returns-then-b-eq32
