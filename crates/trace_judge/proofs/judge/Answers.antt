@@ -3,7 +3,6 @@ use mathlib.Core.Path.{sym, ◌∙◌}
 use lib.ListN.{length}
 use Rattle.little.specs.Little.{numbers_in}
 use Rattle.trace_judge.proofs.Faults.{judge_short, judge_version, judge_offset, judge_body}
-use borrow.Author.Rules.{rules}
 use Rattle.trace_judge.proofs.judge.Goals as goal
 
 pub returns-then-bytes-lt32 : goal.returns-then-bytes-lt32

@@ -3,7 +3,6 @@ use mathlib.Core.Path.{sym, ◌∙◌}
 use lib.ListN.{length}
 use Rattle.little.specs.Little.{numbers_in}
 use Rattle.trace_judge.proofs.Faults.{length_due, body_length, body_rest}
-use borrow.Author.Rules.{rules}
 use Rattle.trace_judge.proofs.judge_body.Goals as goal
 
 pub judge_parts-requires : goal.judge_parts-requires

@@ -2,7 +2,6 @@
 use mathlib.Core.Path.{sym, ◌∙◌}
 use Rattle.little.specs.Little.{numbers_in}
 use Rattle.trace_judge.proofs.Faults.{offset_16, offset_20, offset_24, offset_28, offsets_fine}
-use borrow.Author.Rules.{rules}
 use Rattle.trace_judge.proofs.judge_offsets.Goals as goal
 
 pub returns-then-wrong : goal.returns-then-wrong

@@ -1,5 +1,4 @@
 -- `wrong` meets its contract: it looks at one number.
-use borrow.Author.Rules.{rules}
 use Rattle.trace_judge.proofs.wrong.Goals as goal
 
 pub returns : goal.returns
