@@ -1,13 +1,10 @@
 use mathlib.Core.Path.{◌≡◌, sym, ◌∙◌}
-use Prim.Native.Nat.{suc, ◌+◌, ◌-◌, ◌≤◌}
+use Prim.Native.Nat.{suc, ◌+◌}
 use native.Mathlib.Omega.{arith}
-use lib.ListN.{length, drop}
 use lib.IntN.{pos}
 use Rattle.codes.specs.declared.Code.TheVariants.{Delta}
-use Rattle.writer.specs.Write.{first_fault}
-use Rattle.trace.specs.Trace.{wild, number_checks}
+use Rattle.trace.specs.Trace.{wild}
 use Rattle.trace.proofs.Checks.{turn_fault, turn_pass, turn_end}
-use borrow.Author.Rules.{rules}
 use Rattle.trace_fit.proofs.judge_deltas.Goals as goal
 
 pub loop-i-init : goal.loop-i-init

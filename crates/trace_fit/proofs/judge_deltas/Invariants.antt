@@ -1,14 +1,10 @@
 -- `judge_deltas` meets its contract: what the checks of all numbers say is what those of the numbers left say.
-use mathlib.Core.Path.{◌≡◌, sym, ◌∙◌}
-use Prim.Native.Nat.{suc, ◌+◌, ◌-◌, ◌≤◌}
-use native.Mathlib.Omega.{arith}
+use mathlib.Core.Path.{◌≡◌}
+use Prim.Native.Nat.{◌+◌, ◌-◌, ◌≤◌}
 use lib.ListN.{length, drop}
-use lib.IntN.{pos}
 use Rattle.codes.specs.declared.Code.TheVariants.{Delta}
 use Rattle.writer.specs.Write.{first_fault}
 use Rattle.trace.specs.Trace.{wild, number_checks}
-use Rattle.trace.proofs.Checks.{turn_fault, turn_pass, turn_end}
-use borrow.Author.Rules.{rules}
 use Rattle.trace_fit.proofs.judge_deltas.Given as goal
 
 abbrev pub invariant-loop-i : goal.invariant-loop-i

@@ -1,7 +1,6 @@
 -- `judge_header` meets its contract: each number that may be too large, one after the other.
 use native.Mathlib.Omega.{arith}
 use Rattle.trace_fit.proofs.Fits.{many_splines, many_points, far_starts, far_deltas, far_coefficients, header_fine}
-use borrow.Author.Rules.{rules}
 use Rattle.trace_fit.proofs.judge_header.Goals as goal
 
 pub returns-then-s-ge4294967296 : goal.returns-then-s-ge4294967296

@@ -1,14 +1,10 @@
 use mathlib.Core.Path.{◌≡◌, sym, ◌∙◌}
-use Prim.Native.Nat.{suc, ◌+◌, ◌-◌, ◌≤◌}
+use Prim.Native.Nat.{suc, ◌+◌}
 use native.Mathlib.Omega.{arith}
-use lib.ListN.{length, drop}
 use lib.Ieee.{nan}
 use Rattle.codes.specs.declared.Code.TheVariants.{Coord}
-use Rattle.writer.specs.Write.{first_fault}
-use Rattle.trace.specs.Trace.{number_checks}
 use Rattle.trace.specs.Write.{misfit}
 use Rattle.trace.proofs.Checks.{turn_fault, turn_pass, turn_end}
-use borrow.Author.Rules.{rules}
 use Rattle.trace_fit.proofs.judge_starts.Goals as goal
 
 pub loop-i-init : goal.loop-i-init

@@ -1,15 +1,11 @@
 -- `judge_starts` meets its contract: what the checks of all numbers say is what those of the numbers left say.
-use mathlib.Core.Path.{◌≡◌, sym, ◌∙◌}
-use Prim.Native.Nat.{suc, ◌+◌, ◌-◌, ◌≤◌}
-use native.Mathlib.Omega.{arith}
+use mathlib.Core.Path.{◌≡◌}
+use Prim.Native.Nat.{◌+◌, ◌-◌, ◌≤◌}
 use lib.ListN.{length, drop}
-use lib.Ieee.{nan}
 use Rattle.codes.specs.declared.Code.TheVariants.{Coord}
 use Rattle.writer.specs.Write.{first_fault}
 use Rattle.trace.specs.Trace.{number_checks}
 use Rattle.trace.specs.Write.{misfit}
-use Rattle.trace.proofs.Checks.{turn_fault, turn_pass, turn_end}
-use borrow.Author.Rules.{rules}
 use Rattle.trace_fit.proofs.judge_starts.Given as goal
 
 abbrev pub invariant-loop-i : goal.invariant-loop-i

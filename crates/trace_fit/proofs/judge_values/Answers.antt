@@ -1,7 +1,5 @@
 -- `judge_values` meets its contract: the starts, then the double deltas.
 use mathlib.Core.Path.{sym, ◌∙◌}
-use native.Mathlib.Omega.{arith}
-use borrow.Author.Rules.{rules}
 use Rattle.trace_fit.proofs.Fits.{values_start, values_rest}
 use Rattle.trace_fit.proofs.judge_values.Goals as goal
 

@@ -2,7 +2,6 @@
 use mathlib.Core.Path.{◌∙◌}
 use lib.Ieee.{of_bits, neg}
 use Rattle.trace_fit.proofs.Fits.{start_least, start_other}
-use borrow.Author.Rules.{rules}
 use Rattle.trace_fit.proofs.no_start.Goals as goal
 
 pub returns-then-x : goal.returns-then-x
