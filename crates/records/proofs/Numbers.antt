@@ -3,7 +3,7 @@ use mathlib.Core.Path.{◌≡◌, refl, sym, ap, ◌∙◌}
 use mathlib.Core.Bool.{Bool, true, false, cond}
 use mathlib.Core.Logic.{⊎_elim}
 use mathlib.Core.List.{List, [], ◌∷◌}
-use Prim.Native.Nat.{ℕ, ◌+◌, ◌*◌, ◌^◌, ◌<◌, ◌≤◌}
+use Prim.Native.Nat.{ℕ, ◌+◌, ◌^◌, ◌<◌}
 use native.Mathlib.Nat.{add-zero}
 use native.Mathlib.Omega.{arith}
 use lib.ListN.{length, get_or}
@@ -24,7 +24,7 @@ use Rattle.singles.proofs.Singles.{hidden_kept, hidden_counts}
 use Rattle.draw.proofs.Checks.{answer_done}
 use Rattle.flat_records.proofs.Known.{known_here, not_counted, not_fitting}
 use Rattle.alone.proofs.Alone.{not_known, drawn_alone}
-use Rattle.records.specs.Records.{is_known, drawn_channel_alone, draw_alone, draw_number_of, judge_for, outcome_for, draw_for}
+use Rattle.records.specs.Records.{is_known, drawn_channel_alone, draw_alone, judge_for, outcome_for, draw_for}
 use Rattle.records.specs.Numbers.{KnownIsDrawn, UnknownIsRefused, RowOfOneIsItsNumber, RowOfOneIsItsRecord}
 
 pub known_is_drawn : KnownIsDrawn

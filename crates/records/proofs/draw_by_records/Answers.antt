@@ -1,14 +1,12 @@
 -- An unknown number is refused; a known one is drawn among 16 records, which begin at its multiple of 16.
 use mathlib.Core.Path.{refl, sym, ◌∙◌}
 use native.Mathlib.Omega.{arith}
-use borrow.Author.Tests.{not-true, not-false}
 use Rattle.segments.specs.Segment.{segment_at}
 use Rattle.draw.specs.Draw.{three}
 use Rattle.records.specs.Records.{is_known}
 use Rattle.alone.proofs.Alone.{not_known}
 use Rattle.records.proofs.Alone.{known_facts, in_16}
 use lib.ListN.{replicate}
-use borrow.Author.Rules.{rules}
 use Rattle.records.proofs.draw_by_records.Goals as goal
 
 pub returns-then-not-is_known : goal.returns-then-not-is_known

@@ -1,7 +1,6 @@
 -- A refusal and a hidden record leave the channels; any other is drawn.
 use mathlib.Core.Path.{sym, ◌∙◌}
 use native.Mathlib.Omega.{arith}
-use borrow.Author.Rules.{rules}
 use Rattle.draw.specs.Draw.{three}
 use Rattle.records.proofs.Alone.{judged_for, for_fault, for_hidden, for_drawn}
 use Rattle.records.proofs.draw_for_desk.Goals as goal
