@@ -1,14 +1,14 @@
 -- Laws of judging a spline: one double delta, a turn of the loop, and that a spline which passes may be gone along again.
-use mathlib.Core.Path.{◌≡◌, refl, sym, ap, ◌∙◌}
+use mathlib.Core.Path.{◌≡◌, refl, sym, ◌∙◌}
 use mathlib.Core.Bool.{Bool, true, false, cond}
 use mathlib.Core.List.{List, [], ◌∷◌}
-use Prim.Native.Nat.{ℕ, suc, ◌+◌, ◌*◌, ◌/◌, ◌<◌, ◌≤◌}
+use Prim.Native.Nat.{ℕ, ◌+◌, ◌*◌, ◌/◌, ◌<◌, ◌≤◌}
 use native.Mathlib.Omega.{arith}
 use lib.IntN.{ℤ}
 use lib.ListN.{length, drop, length-drop}
 use Rattle.codes.specs.declared.Code.{Code}
 use Rattle.codes.specs.declared.Code.TheVariants.{Delta, Position, Coincide}
-use Rattle.control_points.specs.ControlPoints.{valid_point_pos, valid_double_delta, same_point, plus_of, moved_of, stand_at, pair_at, starting_point}
+use Rattle.control_points.specs.ControlPoints.{valid_point_pos, valid_double_delta, same_point, plus_of, moved_of, stand_at, pair_at}
 use Rattle.control_points.specs.Asked.{passes, Passable}
 use Rattle.control_points.specs.declared.Pair.{Pair}
 use Rattle.control_points.specs.declared.Stand.{Stand}
@@ -18,9 +18,8 @@ use Rattle.control_points.proofs.Steps.{pair_drop}
 use Rattle.polyline.specs.declared.Gone.{Gone}
 use Rattle.polyline.specs.declared.Gone.TheVariants.{On, Stop}
 use Rattle.polyline.specs.Write.{gone_by, onward, gone_from, gone_of}
-use Rattle.polyline_spline.specs.declared.Begun.{Begun}
 use Rattle.polyline_spline.specs.declared.Begun.TheVariants as begun'
-use Rattle.polyline_spline.specs.Steps.{Placed, settled_at, begun_at}
+use Rattle.polyline_spline.specs.Steps.{Placed, begun_at}
 
 -- ---- one double delta
 

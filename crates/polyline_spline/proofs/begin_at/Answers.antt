@@ -2,7 +2,6 @@
 use mathlib.Core.Path.{sym, ◌∙◌}
 use Rattle.control_points.proofs.Starts.{start_valid}
 use Rattle.polyline_spline.proofs.Goes.{begun_out, begun_stop, begun_meets, begun_at_lem}
-use borrow.Author.Rules.{rules}
 use Rattle.polyline_spline.proofs.begin_at.Goals as goal
 
 pub go_along-requires : goal.go_along-requires

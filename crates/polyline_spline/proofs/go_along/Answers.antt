@@ -1,9 +1,6 @@
-use mathlib.Core.Path.{◌≡◌, ◌∙◌}
-use Prim.Native.Nat.{◌-◌, ◌/◌}
+use mathlib.Core.Path.{◌∙◌}
 use native.Mathlib.Omega.{arith}
-use lib.ListN.{length}
-use Rattle.polyline_spline.proofs.Goes.{Along, along_begin, from_first, along_more, along_stop, along_end}
-use borrow.Author.Rules.{rules}
+use Rattle.polyline_spline.proofs.Goes.{along_begin, from_first, along_more, along_stop, along_end}
 use Rattle.polyline_spline.proofs.go_along.Goals as goal
 
 pub loop-k-init : goal.loop-k-init

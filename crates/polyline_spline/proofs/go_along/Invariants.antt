@@ -1,10 +1,7 @@
 -- `polyline_spline::go_along` meets its contract: before each double delta, what is left leads where the whole does.
-use mathlib.Core.Path.{◌≡◌, ◌∙◌}
 use Prim.Native.Nat.{◌-◌, ◌/◌}
-use native.Mathlib.Omega.{arith}
 use lib.ListN.{length}
-use Rattle.polyline_spline.proofs.Goes.{Along, along_begin, from_first, along_more, along_stop, along_end}
-use borrow.Author.Rules.{rules}
+use Rattle.polyline_spline.proofs.Goes.{Along}
 use Rattle.polyline_spline.proofs.go_along.Given as goal
 
 abbrev pub invariant-loop-k : goal.invariant-loop-k

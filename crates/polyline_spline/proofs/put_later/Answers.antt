@@ -1,8 +1,6 @@
 -- `polyline_spline::put_later` meets its contract: a space and the pair.
-use mathlib.Core.Path.{◌≡◌}
 use native.Mathlib.Omega.{arith}
 use Rattle.polyline_spline.proofs.Puts.{later_put}
-use borrow.Author.Rules.{rules}
 use Rattle.polyline_spline.proofs.put_later.Goals as goal
 
 pub put_pair-requires : goal.put_pair-requires

@@ -1,11 +1,9 @@
 -- `polyline_spline::put_pair` meets its contract: x, a comma, y.
-use mathlib.Core.Path.{◌≡◌}
 use native.Mathlib.Omega.{arith}
 use mir.Syntax.{w32}
 use mir.Facts.{to_z-of_z}
 use Rattle.control_points.proofs.Pairs.{point_range}
 use Rattle.polyline_spline.proofs.Puts.{pair_put}
-use borrow.Author.Rules.{rules}
 use Rattle.polyline_spline.proofs.put_pair.Goals as goal
 
 pub put_number-comma-requires : goal.put_number-comma-requires

@@ -1,9 +1,7 @@
 -- `polyline_spline::put_points` meets its contract: the start, then the rest.
-use mathlib.Core.Path.{◌≡◌}
 use native.Mathlib.Omega.{arith}
 use Rattle.control_points.specs.ControlPoints.{stand_at}
 use Rattle.polyline_spline.proofs.Puts.{points_put}
-use borrow.Author.Rules.{rules}
 use Rattle.polyline_spline.proofs.put_points.Goals as goal
 
 pub put_pair-at-requires : goal.put_pair-at-requires

@@ -1,10 +1,6 @@
-use mathlib.Core.Path.{◌≡◌}
-use Prim.Native.Nat.{◌-◌, ◌/◌}
 use native.Mathlib.Omega.{arith}
-use lib.ListN.{length}
 use Rattle.control_points.proofs.Walks.{walk_moves, walk_more}
-use Rattle.polyline_spline.proofs.Puts.{Rest, rest_begin, rest_more, rest_full, rest_ends}
-use borrow.Author.Rules.{rules}
+use Rattle.polyline_spline.proofs.Puts.{rest_begin, rest_more, rest_full, rest_ends}
 use Rattle.polyline_spline.proofs.put_rest.Goals as goal
 
 pub loop-k-init : goal.loop-k-init
@@ -20,13 +16,13 @@ pub moved-place-requires : goal.moved-place-requires
 moved-place-requires c = let v = c.loop-k in rw c.of.ensures (walk_moves v.place _ v.k (omega (arith, c.loop-k-test.true)) v.invariant.pass)
 
 pub put_later-at-requires : goal.put_later-at-requires
-put_later-at-requires c = let v = c.loop in (omega (arith, c.if1.false), rw (c.moved.ensures, c.of.ensures) (walk_more v.place _ v.k (omega (arith, c.loop_test.true)) v.invariant.pass).point)
+put_later-at-requires c = let v = c.loop-k in (omega (arith, c.if-text-at.false), rw (c.moved-place.ensures, c.of.ensures) (walk_more v.place _ v.k (omega (arith, c.loop-k-test.true)) v.invariant.pass).point)
 
 pub loop-k-smaller : goal.loop-k-smaller
-loop-k-smaller c = omega (arith, c.loop_test.true)
+loop-k-smaller c = omega (arith, c.loop-k-test.true)
 
 pub loop-k-preserved : goal.loop-k-preserved
-loop-k-preserved c = rest_more _ _ _ _ _ _ _ _ c.loop.invariant c.loop_test.true c.if1.false _ (rw c.of.ensures at c.moved.ensures) _ _ c.put_later-at.ensures
+loop-k-preserved c = rest_more _ _ _ _ _ _ _ _ c.loop-k.invariant c.loop-k-test.true c.if-text-at.false _ (rw c.of.ensures at c.moved-place.ensures) _ _ c.put_later-at.ensures
 
 pub returns-then-text-at-2 : goal.returns-then-text-at-2
 returns-then-text-at-2 c = rest_full _ _ _ _ _ _ _ _ c.loop-k.invariant c.if-text-at-2.true _

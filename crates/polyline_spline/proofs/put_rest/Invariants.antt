@@ -1,11 +1,7 @@
 -- `polyline_spline::put_rest` meets its contract: before each double delta, what is put and what is left come to the whole.
-use mathlib.Core.Path.{◌≡◌}
 use Prim.Native.Nat.{◌-◌, ◌/◌}
-use native.Mathlib.Omega.{arith}
 use lib.ListN.{length}
-use Rattle.control_points.proofs.Walks.{walk_moves, walk_more}
-use Rattle.polyline_spline.proofs.Puts.{Rest, rest_begin, rest_more, rest_full, rest_ends}
-use borrow.Author.Rules.{rules}
+use Rattle.polyline_spline.proofs.Puts.{Rest}
 use Rattle.polyline_spline.proofs.put_rest.Given as goal
 
 abbrev pub invariant-loop-k : goal.invariant-loop-k

@@ -5,7 +5,6 @@ use native.Mathlib.Omega.{arith}
 use mir.Syntax.{w32}
 use mir.Facts.{to_z-of_z}
 use Rattle.control_points.specs.ControlPoints.{below_delta_limit, valid_double_delta}
-use borrow.Author.Rules.{rules}
 use Rattle.polyline_spline.proofs.small.Goals as goal
 
 pub returns-then-below_delta_limit : goal.returns-then-below_delta_limit

@@ -1,8 +1,7 @@
 -- `polyline_spline::write_one` meets its contract: the spline is judged, and put where it passes.
-use mathlib.Core.Path.{refl, sym, ◌∙◌}
+use mathlib.Core.Path.{sym, ◌∙◌}
 use native.Mathlib.Omega.{arith}
 use Rattle.polyline_spline.proofs.One.{one_refused, one_passes, one_full, one_ends}
-use borrow.Author.Rules.{rules}
 use Rattle.polyline_spline.proofs.write_one.Goals as goal
 
 pub put_points-requires : goal.put_points-requires
