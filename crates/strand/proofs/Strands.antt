@@ -14,7 +14,7 @@ use Rattle.control_points.specs.declared.Pair.{Pair}
 use Rattle.dequantize.specs.declared.Spline.{Spline}
 use Rattle.curve.specs.Curve as Curve
 use Rattle.curve.specs.Curve.{path_of}
-use Rattle.walk.specs.Walk.{walk_in, walk_length, last_multiplier, flat}
+use Rattle.walk.specs.Walk.{walk_in, walk_length, last_multiplier}
 use Rattle.walk.proofs.Answers.{Taken, taken-last}
 use Rattle.walk.proofs.Walking.{length_flat}
 use Rattle.points.specs.Points.{add_segments_from_points, filled_of, FilledOn}

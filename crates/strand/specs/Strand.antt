@@ -1,5 +1,5 @@
 -- The second loop of `initialize_draw_cache` of spline.rs, for one spline: its path, its walk, and the segments that it makes. Definitions only.
-use Rattle.std.specs.Prelude.{Bool, true, false, cond, List, [], ℕ, ◌-◌, ◌*◌, ◌/◌, leb, ℤ, length, get_or, Float}
+use Rattle.std.specs.Prelude.{Bool, cond, List, [], ℕ, ◌-◌, ◌*◌, ◌/◌, leb, ℤ, length, get_or, Float}
 use Rattle.std.specs.Float.{nan}
 use Rattle.std.specs.Float.Ieee.{le}
 use Rattle.numbers.specs.Arith.{f}

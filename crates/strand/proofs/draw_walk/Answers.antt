@@ -1,5 +1,4 @@
 -- `draw_walk`: by the length, no segments or those of all points.
-use borrow.Author.Rules.{rules}
 use Rattle.strand.proofs.Strands.{flat_none, flat_all, none_filled}
 use Rattle.strand.proofs.draw_walk.Goals as goal
 
