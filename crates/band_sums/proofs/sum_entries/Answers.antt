@@ -1,11 +1,8 @@
-use mathlib.Core.Path.{◌≡◌, refl, sym, ◌∙◌}
-use Prim.Native.Nat.{◌*◌, ◌^◌, ◌-◌, ◌≤◌, ◌<◌}
+use mathlib.Core.Path.{refl, sym, ◌∙◌}
 use native.Mathlib.Omega.{arith}
-use lib.ListN.{length, get_or}
-use lib.Seq.{slice}
+use lib.ListN.{get_or}
 use borrow.Author.Tests.{lt-ltb, le-ltb}
 use Rattle.desks.specs.Desks.{sight_of}
-use Rattle.band_sums.specs.Steps.{sum_over}
 use Rattle.band_sums.proofs.Sums.{over_not_below, over_not_owned, over_next, over_none, with_most}
 use Rattle.band_sums.proofs.sum_entries.Goals as goal
 

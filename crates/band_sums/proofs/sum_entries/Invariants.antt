@@ -1,13 +1,10 @@
 -- What is still to be summed, from entry to entry.
-use mathlib.Core.Path.{◌≡◌, refl, sym, ◌∙◌}
+use mathlib.Core.Path.{◌≡◌}
 use Prim.Native.Nat.{◌*◌, ◌^◌, ◌-◌, ◌≤◌, ◌<◌}
-use native.Mathlib.Omega.{arith}
-use lib.ListN.{length, get_or}
+use lib.ListN.{length}
 use lib.Seq.{slice}
-use borrow.Author.Tests.{lt-ltb, le-ltb}
 use Rattle.desks.specs.Desks.{sight_of}
 use Rattle.band_sums.specs.Steps.{sum_over}
-use Rattle.band_sums.proofs.Sums.{over_not_below, over_not_owned, over_next, over_none, with_most}
 use Rattle.band_sums.proofs.sum_entries.Given as goal
 
 abbrev pub invariant-loop-j : goal.invariant-loop-j

@@ -1,7 +1,6 @@
 -- Each way out is decided by the tests that led there.
 use Prim.Native.Nat.{◌+◌}
 use native.Mathlib.Omega.{arith}
-use borrow.Author.Rules.{rules}
 use borrow.Author.Tests.{lt-leb, le-leb}
 use Rattle.checks.specs.Checks.{entries_good, row_good_for}
 use Rattle.band_sums.proofs.sum_row.Goals as goal

@@ -1,11 +1,8 @@
-use mathlib.Core.Path.{◌≡◌, sym, ◌∙◌}
-use Prim.Native.Nat.{◌-◌, ◌≤◌}
+use mathlib.Core.Path.{sym, ◌∙◌}
+use Prim.Native.Nat.{◌-◌}
 use native.Mathlib.Omega.{arith}
-use lib.ListN.{get_or}
-use borrow.Author.Rules.{rules}
 use Rattle.desks.specs.Desks.{sight_of}
 use Rattle.checks.specs.Tables.{table_of}
-use Rattle.band_sums.specs.Steps.{nothing, sum_rows}
 use Rattle.band_sums.proofs.Sums.{rows_begin, rows_on, rows_off, rows_end, rows_all, row_most}
 use Rattle.band_sums.proofs.sum_rows.Goals as goal
 
@@ -15,7 +12,7 @@ loop-at-init c =
     (omega arith, omega arith, omega arith, rows_begin (table_of A.segments.now A.segment_count A.entries.now A.entry_count A.row_starts.now A.height) (sight_of A.owners.now A.splines A.bits.now A.desk) A.width _ A.y (A.end - A.y) (omega arith) (omega arith) (omega arith) (omega arith) (omega arith))
 
 pub sum_row-requires : goal.sum_row-requires
-sum_row-requires c =  record { lent = c.requires.lent; y_lt_height = (omega arith, c.loop-at.invariant.2) }
+sum_row-requires c = record { lent = c.requires.lent; y_lt_height = (omega arith, c.loop-at.invariant.2) }
 
 pub returns-in_default : goal.returns-in_default
 returns-in_default c =

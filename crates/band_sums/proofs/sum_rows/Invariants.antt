@@ -1,13 +1,10 @@
 -- What is still to be summed, from row to row. Each row begins where the one before it ends, so the count stays below the row's start.
-use mathlib.Core.Path.{◌≡◌, sym, ◌∙◌}
+use mathlib.Core.Path.{◌≡◌}
 use Prim.Native.Nat.{◌-◌, ◌≤◌}
-use native.Mathlib.Omega.{arith}
 use lib.ListN.{get_or}
-use borrow.Author.Rules.{rules}
 use Rattle.desks.specs.Desks.{sight_of}
 use Rattle.checks.specs.Tables.{table_of}
 use Rattle.band_sums.specs.Steps.{nothing, sum_rows}
-use Rattle.band_sums.proofs.Sums.{rows_begin, rows_on, rows_off, rows_end, rows_all, row_most}
 use Rattle.band_sums.proofs.sum_rows.Given as goal
 
 abbrev pub invariant-loop-at : goal.invariant-loop-at

@@ -1,7 +1,6 @@
 -- A hidden segment leaves the sum; any other is counted.
 use mathlib.Core.Path.{◌≡◌, sym, ◌∙◌}
 use mathlib.Core.Bool.{true, false}
-use borrow.Author.Rules.{rules}
 use Rattle.desks.specs.Desks.{sight_of}
 use Rattle.band_sums.proofs.Sums.{sum_hidden, sum_shown}
 use Rattle.band_sums.proofs.with_entry.Goals as goal
