@@ -1,7 +1,5 @@
 -- Each channel agrees.
-use borrow.Author.Tests.{not-false}
 use Rattle.stored.proofs.Begun.{no_true}
-use borrow.Author.Rules.{rules}
 use Rattle.replay_layers.proofs.channels_agree.Goals as goal
 
 pub returns-then-not-begin_f32 : goal.returns-then-not-begin_f32

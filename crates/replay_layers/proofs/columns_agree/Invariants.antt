@@ -1,7 +1,5 @@
 -- It goes through 64 columns.
 use Prim.Native.Nat.{◌-◌, ◌≤◌}
-use native.Mathlib.Omega.{arith}
-use borrow.Author.Rules.{rules}
 use Rattle.replay_layers.proofs.columns_agree.Given as goal
 
 abbrev pub invariant-loop-x : goal.invariant-loop-x

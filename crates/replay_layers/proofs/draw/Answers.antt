@@ -2,7 +2,6 @@
 use lib.ListN.{get_or}
 use Rattle.stored.proofs.Begun.{no_true}
 use Rattle.replay_layers.proofs.Agreeing.{case_agrees}
-use borrow.Author.Rules.{rules}
 use Rattle.replay_layers.proofs.draw.Goals as goal
 
 pub returns-then-input-lt6 : goal.returns-then-input-lt6

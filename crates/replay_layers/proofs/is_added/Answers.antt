@@ -1,6 +1,5 @@
 -- What was added decides.
 use Rattle.replay_layers.proofs.Agreeing.{added_agrees}
-use borrow.Author.Rules.{rules}
 use Rattle.replay_layers.proofs.is_added.Goals as goal
 
 pub returns-in-Nothing : goal.returns-in-Nothing

@@ -1,7 +1,6 @@
 -- The eight cells are the segment's floats.
 use Rattle.stored.proofs.Begun.{no_true}
 use Rattle.replay_layers.proofs.Agreeing.{made_agrees}
-use borrow.Author.Rules.{rules}
 use Rattle.replay_layers.proofs.is_made.Goals as goal
 
 pub returns-then-output-ne15 : goal.returns-then-output-ne15

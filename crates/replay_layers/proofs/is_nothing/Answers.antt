@@ -1,7 +1,6 @@
 -- The one word is 0.
 use borrow.Author.Tests.{eqb-true}
 use Rattle.stored.proofs.Begun.{no_true}
-use borrow.Author.Rules.{rules}
 use Rattle.replay_layers.proofs.is_nothing.Goals as goal
 
 pub returns-then-output-ne1 : goal.returns-then-output-ne1

@@ -1,7 +1,6 @@
 -- The floats are those of the words.
 use Rattle.stored.proofs.Begun.{no_true}
 use Rattle.replay_layers.proofs.Agreeing.{segment_agrees}
-use borrow.Author.Rules.{rules}
 use Rattle.replay_layers.proofs.segment.Goals as goal
 
 pub returns-then-input-ne8 : goal.returns-then-input-ne8

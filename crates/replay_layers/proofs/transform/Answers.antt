@@ -1,7 +1,6 @@
 -- The row is that of the first 32 words, and the sum that of the definition.
 use Rattle.stored.proofs.Begun.{no_true}
 use Rattle.replay_layers.proofs.Agreeing.{transform_agrees}
-use borrow.Author.Rules.{rules}
 use Rattle.replay_layers.proofs.transform.Goals as goal
 
 pub returns-then-input-ne33 : goal.returns-then-input-ne33
