@@ -1,5 +1,5 @@
 -- What putting a trace file speaks of.
-use Rattle.std.specs.Prelude.{◌≡◌, List, ◌++◌, map, ℕ, ◌+◌, ◌*◌, ◌^◌, ◌≤◌, ◌<◌, length, ℤ, Float}
+use Rattle.std.specs.Prelude.{◌≡◌, List, ◌++◌, map, ℕ, ◌*◌, ◌^◌, ◌≤◌, ◌<◌, length, ℤ, Float}
 use Rattle.codes.specs.declared.Code.TheVariants.{Coord}
 use Rattle.shape.specs.Shape.{points_of}
 use Rattle.writer.specs.Write.{first_fault, whole_of}

@@ -1,11 +1,6 @@
-use mathlib.Core.Path.{◌≡◌, refl, sym, ap, ◌∙◌}
-use mathlib.Core.List.{map}
-use Prim.Native.Nat.{◌+◌, ◌-◌, ◌*◌, ◌≤◌}
+use mathlib.Core.Path.{◌≡◌, refl, sym, ◌∙◌}
+use Prim.Native.Nat.{◌+◌, ◌*◌}
 use native.Mathlib.Omega.{arith}
-use lib.ListN.{length, drop, length-map}
-use lib.Seq.{sets}
-use borrow.Author.Rules.{rules}
-use Rattle.little.specs.Little.{bytes_of}
 use Rattle.trace_put.proofs.Puts.{put_more, put_end}
 use Rattle.trace_put.proofs.put_numbers.Goals as goal
 
@@ -18,8 +13,8 @@ loop-i-preserved c =
     let v = c.loop-i in
     let p = c.put_number in (
       omega arith,
-      omega (arith, p.auto.0),
-      put_more (a.numbers.now) v.bytes p.new.0 a.from v.i 0 _ (omega (arith)) refl p.ensures ∙ v.invariant.2,
+      omega (arith, p.auto.bytes),
+      put_more (a.numbers.now) v.bytes p.new.bytes a.from v.i 0 _ (omega (arith)) refl p.ensures ∙ v.invariant.2,
     )
 
 pub returns : goal.returns

@@ -1,15 +1,13 @@
 use mathlib.Core.Path.{◌≡◌, refl, sym, ap, ◌∙◌}
 use mathlib.Core.List.{map}
-use Prim.Native.Nat.{◌+◌, ◌-◌, ◌*◌, ◌≤◌}
+use Prim.Native.Nat.{◌+◌, ◌*◌}
 use native.Mathlib.Omega.{arith}
-use lib.ListN.{length, drop, length-map}
-use lib.Seq.{sets}
-use borrow.Author.Rules.{rules}
+use lib.ListN.{length-map}
 use lib.IntN.{pos}
 use lib.ListN.{get_or}
 use mir.Syntax.{w32}
 use mir.Facts.{to_z-of_z}
-use Rattle.little.specs.Little.{bytes_of, unsigned_of}
+use Rattle.little.specs.Little.{unsigned_of}
 use Rattle.trace_put.proofs.Puts.{put_more, put_end, map_at}
 use Rattle.trace_put.proofs.put_signed.Goals as goal
 
@@ -24,8 +22,8 @@ loop-i-preserved c =
     let u = c.unsigned in
     let z = to_z-of_z {w = w32} {z = get_or a.numbers.now v.i (pos 0)} (record { sfits = c.unsigned-arg-1.given }) in (
       omega arith,
-      omega (arith, p.auto.0),
-      put_more (map unsigned_of a.numbers.now) v.bytes p.new.0 a.from v.i (unsigned_of (pos 0)) _ (omega (arith, length-map a.numbers.now unsigned_of)) (map_at unsigned_of a.numbers.now (pos 0) v.i _ (u.ensures ∙ ap unsigned_of z)) p.ensures ∙ v.invariant.2,
+      omega (arith, p.auto.bytes),
+      put_more (map unsigned_of a.numbers.now) v.bytes p.new.bytes a.from v.i (unsigned_of (pos 0)) _ (omega (arith, length-map a.numbers.now unsigned_of)) (map_at unsigned_of a.numbers.now (pos 0) v.i _ (u.ensures ∙ ap unsigned_of z)) p.ensures ∙ v.invariant.2,
     )
 
 pub returns : goal.returns

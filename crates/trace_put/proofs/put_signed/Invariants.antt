@@ -1,17 +1,10 @@
 -- `put_signed` meets its contract: the numbers from `i` on are left to put.
-use mathlib.Core.Path.{◌≡◌, refl, sym, ap, ◌∙◌}
+use mathlib.Core.Path.{◌≡◌}
 use mathlib.Core.List.{map}
 use Prim.Native.Nat.{◌+◌, ◌-◌, ◌*◌, ◌≤◌}
-use native.Mathlib.Omega.{arith}
-use lib.ListN.{length, drop, length-map}
+use lib.ListN.{length, drop}
 use lib.Seq.{sets}
-use borrow.Author.Rules.{rules}
-use lib.IntN.{pos}
-use lib.ListN.{get_or}
-use mir.Syntax.{w32}
-use mir.Facts.{to_z-of_z}
 use Rattle.little.specs.Little.{bytes_of, unsigned_of}
-use Rattle.trace_put.proofs.Puts.{put_more, put_end, map_at}
 use Rattle.trace_put.proofs.put_signed.Given as goal
 
 abbrev pub invariant-loop-i : goal.invariant-loop-i

@@ -1,13 +1,10 @@
-use mathlib.Core.Path.{◌≡◌, refl, sym, ap, ◌∙◌}
+use mathlib.Core.Path.{◌≡◌, refl, sym, ◌∙◌}
 use mathlib.Core.List.{map}
-use Prim.Native.Nat.{◌+◌, ◌-◌, ◌*◌, ◌≤◌}
+use Prim.Native.Nat.{◌+◌, ◌*◌}
 use native.Mathlib.Omega.{arith}
-use lib.ListN.{length, drop, length-map}
-use lib.Seq.{sets}
-use borrow.Author.Rules.{rules}
+use lib.ListN.{length-map}
 use lib.Ieee.{nan}
 use Rattle.codes.specs.declared.Code.TheVariants.{Coord}
-use Rattle.little.specs.Little.{bytes_of}
 use Rattle.trace.specs.Write.{misfit}
 use Rattle.trace.proofs.Checks.{fine_each}
 use Rattle.trace_put.specs.Steps.{start_number}
@@ -28,8 +25,8 @@ loop-i-preserved c =
     let v = c.loop-i in
     let p = c.put_number in (
       omega arith,
-      omega (arith, p.auto.0),
-      put_more (map start_number a.starts.now) v.bytes p.new.0 a.from v.i (start_number nan) _ (omega (arith, length-map a.starts.now start_number)) (map_at start_number a.starts.now nan v.i _ c.start_number.ensures) p.ensures ∙ v.invariant.2,
+      omega (arith, p.auto.bytes),
+      put_more (map start_number a.starts.now) v.bytes p.new.bytes a.from v.i (start_number nan) _ (omega (arith, length-map a.starts.now start_number)) (map_at start_number a.starts.now nan v.i _ c.start_number.ensures) p.ensures ∙ v.invariant.2,
     )
 
 pub returns : goal.returns

@@ -1,18 +1,11 @@
 -- `put_starts` meets its contract: the starts from `i` on are left to put, and each was judged.
-use mathlib.Core.Path.{◌≡◌, refl, sym, ap, ◌∙◌}
+use mathlib.Core.Path.{◌≡◌}
 use mathlib.Core.List.{map}
 use Prim.Native.Nat.{◌+◌, ◌-◌, ◌*◌, ◌≤◌}
-use native.Mathlib.Omega.{arith}
-use lib.ListN.{length, drop, length-map}
+use lib.ListN.{length, drop}
 use lib.Seq.{sets}
-use borrow.Author.Rules.{rules}
-use lib.Ieee.{nan}
-use Rattle.codes.specs.declared.Code.TheVariants.{Coord}
 use Rattle.little.specs.Little.{bytes_of}
-use Rattle.trace.specs.Write.{misfit}
-use Rattle.trace.proofs.Checks.{fine_each}
 use Rattle.trace_put.specs.Steps.{start_number}
-use Rattle.trace_put.proofs.Puts.{put_more, put_end, map_at}
 use Rattle.trace_put.proofs.put_starts.Given as goal
 
 abbrev pub invariant-loop-i : goal.invariant-loop-i

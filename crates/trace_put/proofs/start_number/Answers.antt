@@ -6,7 +6,6 @@ use mir.Syntax.{w32}
 use mir.Facts.{to_z-of_z}
 use Rattle.trace.proofs.Starts.{fit_signed, fit_small}
 use Rattle.trace_put.specs.Steps.{start_number}
-use borrow.Author.Rules.{rules}
 use Rattle.trace_put.proofs.start_number.Goals as goal
 
 pub float_to_int-x : goal.float_to_int-x
