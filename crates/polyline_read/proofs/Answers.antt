@@ -1,8 +1,8 @@
 -- Laws of the answers of reading: the pairs as they are, the room, and what is left after each.
 use mathlib.Core.Path.{◌≡◌, refl, sym, ap, ◌∙◌}
 use mathlib.Core.Bool.{Bool, true, false, cond, ◌||◌}
-use mathlib.Core.List.{List, [], ◌∷◌, ◌++◌, map}
-use Prim.Native.Nat.{ℕ, zero, suc, ◌+◌, ◌-◌, ◌*◌, ◌/◌, ◌<◌, ◌≤◌}
+use mathlib.Core.List.{List, ◌++◌}
+use Prim.Native.Nat.{ℕ, zero, suc, ◌+◌, ◌-◌, ◌*◌, ◌<◌, ◌≤◌}
 use native.Mathlib.Omega.{arith}
 use lib.Dec.{ltb}
 use lib.IntN.{ℤ, pos}
@@ -28,9 +28,9 @@ use Rattle.polyline.specs.declared.Tracked.{Tracked}
 use Rattle.polyline.specs.declared.Tracked.TheVariants.{Came, Halt}
 use Rattle.polyline.specs.Stages.{text_of}
 use Rattle.polyline.specs.Spots.{figure_at, uncapped, spots_of, capped_spots}
-use Rattle.polyline.specs.Read.{track_from, deltas_from, first_point, start_of, later_of, and_then, track_verdict, room_for, pairs_verdict, points_verdict, leaves, outcome, read_points_of}
+use Rattle.polyline.specs.Read.{track_from, deltas_from, first_point, start_of, later_of, and_then, track_verdict, pairs_verdict, points_verdict, leaves, outcome, read_points_of}
 use Rattle.polyline.proofs.Tracks.{First, walk_first, deltas_length, spots_some}
-use Rattle.polyline.proofs.Capped.{capped_is, walk_capped, came_same, cap_spot}
+use Rattle.polyline.proofs.Capped.{capped_is, walk_capped, came_same}
 use Rattle.polyline_scan.specs.declared.Run.{Run}
 use Rattle.polyline_scan.specs.declared.Turned.TheVariants.{On, Stop}
 use Rattle.polyline_scan.specs.Steps.{ScanLeaves}

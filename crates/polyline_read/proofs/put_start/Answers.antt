@@ -1,10 +1,8 @@
 -- `polyline_read::put_start` meets its contract: two numbers in range are floats.
-use mathlib.Core.Path.{◌∙◌}
 use native.Mathlib.Omega.{arith}
 use mir.Syntax.{w32, w64}
 use mir.Facts.{to_z-of_z}
 use Rattle.control_points.proofs.Pairs.{in_range_mag, point_range}
-use borrow.Author.Rules.{rules}
 use Rattle.polyline_read.proofs.put_start.Goals as goal
 
 pub overflow_cast-p : goal.overflow_cast-p

@@ -1,8 +1,7 @@
 -- `polyline_read::read_text` meets its contract: TEXT, and where it passes the rest.
 use mathlib.Core.Path.{refl, sym, ◌∙◌}
-use Rattle.polyline.specs.Read.{and_then, points_verdict}
+use Rattle.polyline.specs.Read.{points_verdict}
 use Rattle.polyline_read.proofs.Answers.{text-refused, text-fine}
-use borrow.Author.Rules.{rules}
 use Rattle.polyline_read.proofs.read_text.Goals as goal
 
 pub returns-in-Fault : goal.returns-in-Fault
