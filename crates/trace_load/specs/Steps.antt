@@ -1,5 +1,5 @@
 -- What loading the parts of a trace file speaks of.
-use Rattle.std.specs.Prelude.{◌≡◌, List, map, ℕ, ◌+◌, ◌*◌, ◌≤◌, length, ℤ, Float}
+use Rattle.std.specs.Prelude.{◌≡◌, List, map, ℕ, ◌*◌, ◌≤◌, length, ℤ, Float}
 use Rattle.codes.specs.declared.Code.TheVariants.{Coord}
 use Rattle.shape.specs.Shape.{points_of}
 use Rattle.list.specs.List.{ListRooms}

@@ -1,14 +1,10 @@
 -- `load_counts` meets its contract: the first i counts stand in front.
-use mathlib.Core.Path.{◌≡◌, refl, sym, ap, ◌∙◌}
-use mathlib.Core.List.{◌++◌, map}
-use Prim.Native.Nat.{◌+◌, ◌-◌, ◌≤◌}
-use native.Mathlib.Omega.{arith}
-use lib.ListN.{length, take, drop, length-set}
-use borrow.Author.Rules.{rules}
+use mathlib.Core.Path.{◌≡◌}
+use mathlib.Core.List.{◌++◌}
+use Prim.Native.Nat.{◌-◌, ◌≤◌}
+use lib.ListN.{length, take, drop}
 use Rattle.little.specs.Little.{numbers_in}
 use Rattle.trace.specs.Trace.{part}
-use Rattle.trace.proofs.Checks.{part_at}
-use Rattle.trace_load.proofs.Loads.{front_more, front_all, held_length}
 use Rattle.trace_load.proofs.load_counts.Given as goal
 
 abbrev pub invariant-loop-i : goal.invariant-loop-i

@@ -1,13 +1,9 @@
-use mathlib.Core.Path.{◌≡◌, refl, sym, ap, ◌∙◌}
-use mathlib.Core.List.{◌++◌, map}
-use Prim.Native.Nat.{◌+◌, ◌-◌, ◌≤◌}
+use mathlib.Core.Path.{refl, ◌∙◌}
 use native.Mathlib.Omega.{arith}
 use mir.Syntax.{w32}
 use mir.Facts.{to_z-of_z}
-use lib.ListN.{length, take, drop, length-set}
-use borrow.Author.Rules.{rules}
-use Rattle.little.specs.Little.{numbers_in, signed_in}
-use Rattle.trace.specs.Trace.{part}
+use lib.ListN.{length-set}
+use Rattle.little.specs.Little.{signed_in}
 use Rattle.trace_load.proofs.Loads.{load_more, load_all}
 use Rattle.trace_load.proofs.load_signed.Goals as goal
 

@@ -1,15 +1,10 @@
 -- `load_signed` meets its contract: the first i numbers stand in front.
-use mathlib.Core.Path.{◌≡◌, refl, sym, ap, ◌∙◌}
+use mathlib.Core.Path.{◌≡◌}
 use mathlib.Core.List.{◌++◌, map}
-use Prim.Native.Nat.{◌+◌, ◌-◌, ◌≤◌}
-use native.Mathlib.Omega.{arith}
-use mir.Syntax.{w32}
-use mir.Facts.{to_z-of_z}
-use lib.ListN.{length, take, drop, length-set}
-use borrow.Author.Rules.{rules}
+use Prim.Native.Nat.{◌-◌, ◌≤◌}
+use lib.ListN.{length, take, drop}
 use Rattle.little.specs.Little.{numbers_in, signed_in}
 use Rattle.trace.specs.Trace.{part}
-use Rattle.trace_load.proofs.Loads.{load_more, load_all}
 use Rattle.trace_load.proofs.load_signed.Given as goal
 
 abbrev pub invariant-loop-i : goal.invariant-loop-i

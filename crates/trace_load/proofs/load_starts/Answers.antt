@@ -1,11 +1,6 @@
-use mathlib.Core.Path.{◌≡◌, refl, sym, ap, ◌∙◌}
-use mathlib.Core.List.{◌++◌, map}
-use Prim.Native.Nat.{◌+◌, ◌-◌, ◌≤◌}
+use mathlib.Core.Path.{refl}
 use native.Mathlib.Omega.{arith}
-use lib.ListN.{length, take, drop, length-set}
-use borrow.Author.Rules.{rules}
-use Rattle.little.specs.Little.{numbers_in}
-use Rattle.trace.specs.Trace.{part}
+use lib.ListN.{length-set}
 use Rattle.trace_load.specs.Steps.{start_in}
 use Rattle.trace_load.proofs.Loads.{load_more, load_all, placed_at}
 use Rattle.trace_load.proofs.load_starts.Goals as goal

@@ -1,14 +1,11 @@
 -- `load_starts` meets its contract: the first i numbers stand in front, and each that is due was judged.
-use mathlib.Core.Path.{◌≡◌, refl, sym, ap, ◌∙◌}
+use mathlib.Core.Path.{◌≡◌}
 use mathlib.Core.List.{◌++◌, map}
-use Prim.Native.Nat.{◌+◌, ◌-◌, ◌≤◌}
-use native.Mathlib.Omega.{arith}
-use lib.ListN.{length, take, drop, length-set}
-use borrow.Author.Rules.{rules}
+use Prim.Native.Nat.{◌-◌, ◌≤◌}
+use lib.ListN.{length, take, drop}
 use Rattle.little.specs.Little.{numbers_in}
 use Rattle.trace.specs.Trace.{part}
 use Rattle.trace_load.specs.Steps.{start_in}
-use Rattle.trace_load.proofs.Loads.{load_more, load_all, placed_at}
 use Rattle.trace_load.proofs.load_starts.Given as goal
 
 abbrev pub invariant-loop-i : goal.invariant-loop-i

@@ -4,7 +4,6 @@ use mir.Syntax.{w32, w64}
 use mir.Facts.{to_z-of_z}
 use Rattle.trace_load.specs.Steps.{start_in}
 use Rattle.trace_load.proofs.Loads.{placed_small}
-use borrow.Author.Rules.{rules}
 use Rattle.trace_load.proofs.start_in.Goals as goal
 
 pub overflow_cast-signed : goal.overflow_cast-signed
