@@ -1,6 +1,5 @@
 -- `draw_one`: the spline is dequantized again, and its start is a place, since it was accepted.
 use mathlib.Core.Path.{refl, sym, ◌∙◌}
-use borrow.Author.Rules.{rules}
 use Rattle.strand_at.proofs.Starts.{start_walk}
 use Rattle.strand_at.proofs.draw_one.Goals as goal
 
