@@ -1,7 +1,6 @@
 -- The codes of making and refreshing a summary, and when each is given: the table of codes, in the order of the checks. Definitions only.
 use Rattle.std.specs.Prelude.{ℕ, ◌+◌, ◌*◌, ◌^◌, ◌≤◌, ◌<◌, length}
 use Rattle.codes.specs.declared.Code.{Code}
-use Rattle.codes.specs.declared.Code.TheVariants as Code
 use Rattle.desks.specs.Desks.{Sight}
 use Rattle.checks.specs.Tables.{Table}
 use Rattle.checks.specs.Refusals.{OverrunFor, CountsFitFor, Lent, RowBadFor}

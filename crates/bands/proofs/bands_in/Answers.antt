@@ -1,6 +1,5 @@
 -- A division by 64, rounded up.
 use native.Mathlib.Omega.{arith}
-use borrow.Author.Rules.{rules}
 use Rattle.bands.specs.Bands.{bands_in}
 use Rattle.bands.proofs.bands_in.Goals as goal
 

@@ -1,13 +1,12 @@
 use mathlib.Core.Path.{◌≡◌, refl, sym, ap, ◌∙◌}
-use Prim.Native.Nat.{◌+◌, ◌-◌, ◌*◌, ◌≤◌, ◌<◌}
+use Prim.Native.Nat.{◌+◌, ◌*◌, ◌≤◌, ◌<◌}
 use native.Mathlib.Omega.{arith}
 use lib.ListN.{length}
-use borrow.Author.Rules.{rules}
 use Rattle.desks.specs.Desks.{sight_of}
 use Rattle.checks.specs.Tables.{table_of}
 use Rattle.band_sums.proofs.Sums.{was_good, was_bad}
-use Rattle.bands.specs.Bands.{bands_in, rows_good_from, band_numbers, put_bands}
-use Rattle.bands.proofs.Whole.{good_on, goods_on, goods_off, goods_begin, goods_end, put_none, put_next, put_length, cells_fit, not_so}
+use Rattle.bands.specs.Bands.{bands_in, band_numbers, put_bands}
+use Rattle.bands.proofs.Whole.{goods_on, goods_off, goods_begin, goods_end, put_none, put_next, put_length, cells_fit, not_so}
 use Rattle.bands.proofs.fill.Goals as goal
 
 pub bands_in-bands-requires : goal.bands_in-bands-requires
@@ -19,7 +18,7 @@ loop-b-init c =
     (omega arith, refl, put_none _ _, goods_begin (table_of A.segments.now A.segment_count A.entries.now A.entry_count A.row_starts.now A.height) (sight_of A.owners.now A.splines A.bits.now A.desk))
 
 pub sum_band-requires : goal.sum_band-requires
-sum_band-requires c =  record { lent = c.requires.lent; b_bound = (omega (arith, c.bands_in-bands.ensures), c.requires.height_in_bounds.1) }
+sum_band-requires c = record { lent = c.requires.lent; b_bound = (omega (arith, c.bands_in-bands.ensures), c.requires.height_in_bounds.1) }
 
 pub returns-in_default : goal.returns-in_default
 returns-in_default c =

@@ -1,14 +1,11 @@
 -- The bands below b are written, and the rows from band b on decide.
-use mathlib.Core.Path.{◌≡◌, refl, sym, ap, ◌∙◌}
-use Prim.Native.Nat.{◌+◌, ◌-◌, ◌*◌, ◌≤◌, ◌<◌}
-use native.Mathlib.Omega.{arith}
+use mathlib.Core.Path.{◌≡◌}
+use Prim.Native.Nat.{◌-◌, ◌≤◌}
 use lib.ListN.{length}
-use borrow.Author.Rules.{rules}
 use Rattle.desks.specs.Desks.{sight_of}
 use Rattle.checks.specs.Tables.{table_of}
-use Rattle.band_sums.proofs.Sums.{was_good, was_bad}
-use Rattle.bands.specs.Bands.{bands_in, rows_good_from, band_numbers, put_bands}
-use Rattle.bands.proofs.Whole.{good_on, goods_on, goods_off, goods_begin, goods_end, put_none, put_next, put_length, cells_fit, not_so}
+use Rattle.bands.specs.Bands.{rows_good_from, band_numbers, put_bands}
+use Rattle.bands.proofs.Whole.{good_on}
 use Rattle.bands.proofs.fill.Given as goal
 
 abbrev pub invariant-loop-b : goal.invariant-loop-b

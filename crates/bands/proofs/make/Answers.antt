@@ -2,7 +2,6 @@
 use mathlib.Core.Path.{◌≡◌, sym, ◌∙◌}
 use mathlib.Core.Bool.{true, false}
 use lib.ListN.{length}
-use borrow.Author.Rules.{rules}
 use Rattle.desks.specs.Desks.{sight_of}
 use Rattle.checks.specs.Tables.{table_of}
 use Rattle.bands.proofs.Whole.{zeros_room, zeros_again, before_fits, before_same, make_fault, make_bad, make_done}
@@ -41,4 +40,4 @@ returns-else-fill c =
     let A = c.args in
     let h = before_same (table_of A.segments.now A.segment_count A.entries.now A.entry_count A.row_starts.now A.height) (sight_of A.owners.now A.splines A.bits.now A.desk) A.width (length A.cells.now) (zeros_room c.clear_u32.ensures) c.judge.ensures ∙ c.in-Fine.is in
     let g : c.fill.result ≡ false = search c.if-fill.false in
-    make_bad (table_of A.segments.now A.segment_count A.entries.now A.entry_count A.row_starts.now A.height) (sight_of A.owners.now A.splines A.bits.now A.desk) A.width (length A.cells.now) h _ (sym c.fill.ensures.value ∙ g) (zeros_again (length c.fill.new.1.1.1.1.1.1.1.1.1.1.1.0) c.clear_u32-in-Fine.ensures (same-length-3 c))
+    make_bad (table_of A.segments.now A.segment_count A.entries.now A.entry_count A.row_starts.now A.height) (sight_of A.owners.now A.splines A.bits.now A.desk) A.width (length A.cells.now) h _ (sym c.fill.ensures.value ∙ g) (zeros_again (length c.fill.new.cells) c.clear_u32-in-Fine.ensures (c.clear_u32-in-Fine.auto.cells ∙ c.fill.auto.cells ∙ c.clear_u32.auto.cells))

@@ -4,7 +4,6 @@ use Prim.Native.Nat.{ℕ, suc, ◌+◌}
 use native.Mathlib.Omega.{arith}
 use native.Mathlib.Numerals.{add-one}
 use lib.ListN.{length-set}
-use borrow.Author.Rules.{rules}
 use Rattle.bands.proofs.put.Goals as goal
 
 add-two : (n : ℕ) → n + 2 ≡ suc (suc n)

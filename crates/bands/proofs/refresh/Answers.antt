@@ -3,7 +3,6 @@ use mathlib.Core.Path.{refl, sym, ◌∙◌}
 use Prim.Native.Nat.{◌<◌, ◌≤◌}
 use native.Mathlib.Omega.{arith}
 use lib.ListN.{length}
-use borrow.Author.Rules.{rules}
 use Rattle.desks.specs.Desks.{sight_of}
 use Rattle.checks.specs.Tables.{table_of}
 use Rattle.bands.specs.Bands.{bands_in}
