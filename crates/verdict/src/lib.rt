@@ -19,6 +19,7 @@ fn size_good(width: u32, height: u32) -> bool
 }
 
 // SIZE, SHAPE, ROOM for the row starts, then every spline.
+#[tactic(auto, unfolding(crate::specs::Verdict::verdict_of))]
 pub fn judge_all(
     counts: &[u32],
     starts: &[f32],
