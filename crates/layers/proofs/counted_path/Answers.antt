@@ -1,5 +1,4 @@
 -- `counted_path` meets its contract: in each arm what `curve` answers is known.
-use borrow.Author.Rules.{rules}
 use Rattle.layers.proofs.counted_path.Goals as goal
 
 pub returns-in-Points : goal.returns-in-Points

@@ -1,5 +1,4 @@
 -- `counted_segments` meets its contract: in each arm what there was room for is known.
-use borrow.Author.Rules.{rules}
 use Rattle.layers.proofs.counted_segments.Goals as goal
 
 pub returns-in-Count : goal.returns-in-Count

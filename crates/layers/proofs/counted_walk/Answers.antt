@@ -1,5 +1,4 @@
 -- `counted_walk` meets its contract: in each arm what `walk` answers is known.
-use borrow.Author.Rules.{rules}
 use Rattle.layers.proofs.counted_walk.Goals as goal
 
 pub returns-in-Points : goal.returns-in-Points

@@ -1,7 +1,6 @@
 -- `curved_from` meets its contract, by what the start gave.
 use mathlib.Core.Path.{sym, ◌∙◌}
 use Rattle.control_points.proofs.Starts.{start_valid}
-use borrow.Author.Rules.{rules}
 use Rattle.layers.proofs.curved_from.Goals as goal
 
 pub path_from-requires : goal.path_from-requires

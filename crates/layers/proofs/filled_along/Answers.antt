@@ -3,7 +3,6 @@ use Prim.Native.Nat.{◌/◌}
 use native.Mathlib.Omega.{arith}
 use borrow.Author.Tests.{le-leb, lt-leb}
 use lib.ListN.{length}
-use borrow.Author.Rules.{rules}
 use Rattle.layers.proofs.filled_along.Goals as goal
 
 pub returns-then-walk-gt8388608 : goal.returns-then-walk-gt8388608

@@ -1,5 +1,4 @@
 -- `in_eight` meets its contract: in each arm what was added is known.
-use borrow.Author.Rules.{rules}
 use Rattle.layers.proofs.in_eight.Goals as goal
 
 pub returns-in-Made : goal.returns-in-Made

@@ -1,5 +1,4 @@
 -- `layers_add_segment` meets its contract: what `add_segment` makes, as eight floats.
-use borrow.Author.Rules.{rules}
 use Rattle.layers.proofs.layers_add_segment.Goals as goal
 
 pub returns : goal.returns

@@ -1,7 +1,6 @@
 -- `layers_add_segments_from_points` meets its contract: what the layer answers for a spline of the four rows, counted, and the segments that it leaves.
 use mathlib.Core.Path.{ap, ◌∙◌}
 use Rattle.layers.specs.Exported.{counted_segments}
-use borrow.Author.Rules.{rules}
 use Rattle.layers.proofs.layers_add_segments_from_points.Goals as goal
 
 pub returns : goal.returns

@@ -1,5 +1,4 @@
 -- `layers_columns` meets its contract: the calls' results, put in.
-use borrow.Author.Rules.{rules}
 use Rattle.layers.proofs.layers_columns.Goals as goal
 
 pub returns : goal.returns

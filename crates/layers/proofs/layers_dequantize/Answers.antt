@@ -3,7 +3,6 @@ use mathlib.Core.Path.{ap}
 use Rattle.layers.specs.Exported.{dequantized_export}
 use mir.Syntax.{w32}
 use mir.Facts.{to_z-of_z}
-use borrow.Author.Rules.{rules}
 use Rattle.layers.proofs.layers_dequantize.Goals as goal
 
 pub returns : goal.returns

@@ -1,7 +1,6 @@
 -- The machine reads the signed number back from its bits.
 use mir.Syntax.{w32}
 use mir.Facts.{to_z-of_z}
-use borrow.Author.Rules.{rules}
 use Rattle.layers.proofs.layers_inv_adjusted_quant.Goals as goal
 
 pub returns : goal.returns

@@ -2,7 +2,6 @@
 use native.Mathlib.Omega.{arith}
 use borrow.Author.Tests.{le-leb, lt-leb}
 use Rattle.layers.specs.Exported.{length_from}
-use borrow.Author.Rules.{rules}
 use Rattle.layers.proofs.layers_length_of.Goals as goal
 
 pub returns-then-n-lt2 : goal.returns-then-n-lt2

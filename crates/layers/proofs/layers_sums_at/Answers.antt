@@ -1,5 +1,4 @@
 -- `layers_sums_at` meets its contract: the sums of a spline made of the four rows.
-use borrow.Author.Rules.{rules}
 use Rattle.layers.proofs.layers_sums_at.Goals as goal
 
 pub returns : goal.returns

@@ -2,7 +2,6 @@
 use mathlib.Core.Path.{sym, ◌∙◌}
 use Rattle.control_points.proofs.Walks.{traced_walk}
 use Rattle.layers.specs.Exported.{path_from}
-use borrow.Author.Rules.{rules}
 use Rattle.layers.proofs.path_from.Goals as goal
 
 pub curve-requires : goal.curve-requires

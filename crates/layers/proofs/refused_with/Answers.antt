@@ -1,5 +1,4 @@
 -- `refused_with` meets its contract: the number of the code.
-use borrow.Author.Rules.{rules}
 use Rattle.layers.proofs.refused_with.Goals as goal
 
 pub returns : goal.returns

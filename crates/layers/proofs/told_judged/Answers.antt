@@ -1,5 +1,4 @@
 -- `told_judged` meets its contract: in each arm the answer is known.
-use borrow.Author.Rules.{rules}
 use Rattle.layers.proofs.told_judged.Goals as goal
 
 pub returns-in-Fine : goal.returns-in-Fine

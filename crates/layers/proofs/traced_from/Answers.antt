@@ -1,7 +1,6 @@
 -- `traced_from` meets its contract, by what the start gave.
 use mathlib.Core.Path.{sym, ◌∙◌}
 use Rattle.control_points.proofs.Starts.{start_valid}
-use borrow.Author.Rules.{rules}
 use Rattle.layers.proofs.traced_from.Goals as goal
 
 pub trace-requires : goal.trace-requires

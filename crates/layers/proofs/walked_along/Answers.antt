@@ -4,7 +4,6 @@ use native.Mathlib.Omega.{arith}
 use borrow.Author.Tests.{le-leb, lt-leb}
 use lib.ListN.{length}
 use Rattle.layers.specs.Exported.{counted_walk}
-use borrow.Author.Rules.{rules}
 use Rattle.layers.proofs.walked_along.Goals as goal
 
 pub returns-then-path-lt2 : goal.returns-then-path-lt2
