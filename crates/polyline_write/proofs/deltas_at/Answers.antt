@@ -1,10 +1,9 @@
 use mathlib.Core.Path.{◌≡◌, refl, ap, ◌∙◌}
-use Prim.Native.Nat.{ℕ, ◌+◌, ◌-◌, ◌*◌, ◌≤◌}
+use Prim.Native.Nat.{ℕ, ◌*◌}
 use native.Mathlib.Omega.{arith}
-use lib.ListN.{length, take}
+use lib.ListN.{take}
 use Rattle.shape.specs.Shape.{points_of}
 use Rattle.polyline_write.proofs.Answers.{at_more, at-fits}
-use borrow.Author.Rules.{rules}
 use Rattle.polyline_write.proofs.deltas_at.Goals as goal
 
 pub loop-i-init : goal.loop-i-init

@@ -1,11 +1,10 @@
 -- `polyline_write::write_spline` meets its contract: its part of the double deltas is lent.
-use mathlib.Core.Path.{◌≡◌, refl, sym, ◌∙◌}
+use mathlib.Core.Path.{◌≡◌, refl, sym}
 use native.Mathlib.Omega.{arith}
-use lib.ListN.{length, take}
+use lib.ListN.{take}
 use Prim.Native.Nat.{◌*◌}
 use Rattle.shape.specs.Shape.{points_of}
 use Rattle.polyline_write.proofs.Answers.{at-fits, part_is}
-use borrow.Author.Rules.{rules}
 use Rattle.polyline_write.proofs.write_spline.Goals as goal
 
 pub deltas_at-from-requires : goal.deltas_at-from-requires
