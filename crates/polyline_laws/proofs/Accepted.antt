@@ -2,21 +2,21 @@
 use mathlib.Core.Path.{◌≡◌, refl, sym, ap, subst, ◌∙◌}
 use mathlib.Core.Bool.{Bool, true, false, cond, ◌||◌}
 use mathlib.Core.List.{List, [], ◌∷◌, ◌++◌}
-use mathlib.Core.Logic.{◌↔◌, ◌⊎◌, inl, inr}
-use Prim.Native.Nat.{ℕ, zero, suc, ◌+◌, ◌-◌, ◌*◌, ◌/◌, ◌≤◌, ◌<◌}
+use mathlib.Core.Logic.{◌↔◌}
+use Prim.Native.Nat.{ℕ, zero, suc, ◌+◌, ◌-◌, ◌*◌, ◌≤◌, ◌<◌}
 use native.Mathlib.Omega.{arith}
 use lib.Dec.{ltb}
 use lib.ListN.{length, replicate}
 use lib.IntN.{ℤ, pos}
 use lib.Ieee.{Float}
 use Rattle.codes.specs.declared.Code.TheVariants.{Room}
-use Rattle.codes.proofs.Decides.{Decides, both}
+use Rattle.codes.proofs.Decides.{both}
 use Rattle.list.specs.Steps.{f32_of, zero_f32}
 use Rattle.write_judge.specs.declared.Verdict.{Verdict}
 use Rattle.write_judge.specs.declared.Verdict.TheVariants.{Fine, Fault}
-use Rattle.writer.specs.declared.WriteAnswer.TheVariants.{Done, Refused}
-use Rattle.control_points.specs.ControlPoints.{plus_of, stand_at, moved_of, later_points, control_points, valid_double_delta, valid_point_pos, same_point, coincide_from, adjacent_coincide}
-use Rattle.control_points.specs.Asked.{passes, Passable}
+use Rattle.writer.specs.declared.WriteAnswer.TheVariants.{Done}
+use Rattle.control_points.specs.ControlPoints.{stand_at, moved_of, later_points, control_points, valid_double_delta, valid_point_pos, same_point, coincide_from, adjacent_coincide}
+use Rattle.control_points.specs.Asked.{passes}
 use Rattle.control_points.specs.Refusals.{Inside}
 use Rattle.control_points.specs.declared.Pair.{Pair}
 use Rattle.control_points.specs.declared.Stand.{Stand}
@@ -30,11 +30,11 @@ use Rattle.polyline.specs.declared.Track.TheVariants.{Empty, At}
 use Rattle.polyline.specs.Form.{PointsForm}
 use Rattle.polyline.specs.Stages.{text_of}
 use Rattle.polyline.specs.Spots.{spots_of}
-use Rattle.polyline.specs.Read.{minus_of, double_delta, step_deltas, track_to, deltas_from, first_point, start_of, later_of, track_from, track_verdict, and_then, pairs_verdict, points_verdict, PointsOutcome, leaves, outcome, read_points_of}
+use Rattle.polyline.specs.Read.{minus_of, double_delta, step_deltas, track_to, deltas_from, later_of, track_from, track_verdict, and_then, pairs_verdict, points_verdict, PointsOutcome, leaves, outcome, read_points_of}
 use Rattle.polyline.proofs.Tracks.{deltas_length}
 use Rattle.polyline.specs.Write.{pair_text, points_text, gone_by, gone_from, gone_of}
 use Rattle.polyline_laws.specs.Says.{Says}
-use Rattle.polyline_laws.specs.Refusals.{Passes, Before, PointsLack, Legal, PointsAccepted, PointsReadRefusal}
+use Rattle.polyline_laws.specs.Refusals.{Passes, Before, Legal, PointsAccepted}
 use Rattle.polyline_laws.proofs.Places.{form_judged}
 use Rattle.polyline_laws.proofs.Says.{form_says, spots_by, spots_said, spots_length}
 use Rattle.polyline_laws.proofs.Legal.{moved_double, double_moved, delta_moved, double_small, gone_legal}

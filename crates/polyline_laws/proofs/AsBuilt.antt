@@ -1,9 +1,9 @@
 -- What export writes building refuses by DISTANCE or AREA alone, and what building passes export refuses by ROOM alone.
-use mathlib.Core.Path.{◌≡◌, refl, sym, ap, subst, ◌∙◌}
+use mathlib.Core.Path.{◌≡◌, refl, sym, subst, ◌∙◌}
 use mathlib.Core.Bool.{Bool, true, false, cond, true≢false}
 use mathlib.Core.List.{List}
 use mathlib.Core.Logic.{◌⊎◌, inl, inr}
-use Prim.Native.Nat.{ℕ, ◌+◌, ◌*◌, ◌≤◌, ◌<◌}
+use Prim.Native.Nat.{ℕ, ◌+◌, ◌*◌, ◌≤◌}
 use native.Mathlib.Omega.{arith}
 use lib.Dec.{ltb}
 use lib.ListN.{length}
@@ -14,7 +14,7 @@ use Rattle.codes.specs.declared.Code.TheVariants.{Room, Distance, Area}
 use Rattle.codes.proofs.Decides.{Decides}
 use Rattle.write_judge.specs.declared.Verdict.TheVariants.{Fine, Fault}
 use Rattle.writer.specs.declared.WriteAnswer.TheVariants.{Refused}
-use Rattle.control_points.specs.ControlPoints.{starting_point, control_points, pair_at}
+use Rattle.control_points.specs.ControlPoints.{control_points, pair_at}
 use Rattle.dequantize.specs.Judge.{Description, description_of, start_x, start_y, deltas_of}
 use Rattle.control_points.specs.Refusals.{RoundsTo, Adjacent, delta_at, control_point_at, PairRefusal, delta_large, delta_outside, too_far, point_outside}
 use Rattle.dequantize.specs.Refusals.{SplinePasses, SplineRefusal, start_strays, pair_refused, area_above, points_meet}
@@ -23,7 +23,7 @@ use Rattle.control_points.specs.declared.Pair.{Pair}
 use Rattle.control_points.specs.declared.Start.TheVariants as S
 use Rattle.control_points.proofs.Ranges.{point_decides, double_delta_decides, starting_out}
 use Rattle.polyline.specs.Write.{spline_text, write_verdict, write_points_of}
-use Rattle.polyline_laws.specs.Refusals.{StepPasses, There, Goes, points_by}
+use Rattle.polyline_laws.specs.Refusals.{There, Goes, points_by}
 use Rattle.polyline_laws.proofs.Answers.{wrote}
 use Rattle.polyline_laws.proofs.Legal.{pair_is}
 use Rattle.polyline_laws.proofs.WriteWhen.{begins, goes_fine, there_verdict}

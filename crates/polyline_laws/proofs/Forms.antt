@@ -2,22 +2,19 @@
 use mathlib.Core.Path.{◌≡◌, refl, sym, ap, ◌∙◌}
 use mathlib.Core.Bool.{Bool, true, false, cond}
 use mathlib.Core.List.{List, [], ◌∷◌, ◌++◌, append_assoc}
-use Prim.Native.Nat.{ℕ, zero, suc, ◌+◌, ◌≤◌, ◌<◌}
+use Prim.Native.Nat.{ℕ, zero, suc, ◌+◌, ◌<◌}
 use native.Mathlib.Omega.{arith}
-use lib.Dec.{eqb, leb}
 use lib.ListN.{length, take}
-use borrow.Author.Tests.{eq-eqb, ne_eqb, eqb-true, eqb-false, le-leb, lt-leb, leb-true, leb-false}
-use Rattle.codes.proofs.Decides.{both}
+use borrow.Author.Tests.{ne_eqb, le-leb}
 use Rattle.codes.specs.declared.Code.TheVariants.{Text}
-use Rattle.write_judge.specs.declared.Verdict.{Verdict}
 use Rattle.write_judge.specs.declared.Verdict.TheVariants.{Fine, Fault}
 use Rattle.polyline.specs.declared.Stage.{Stage}
 use Rattle.polyline.specs.declared.Stage.TheVariants as S
 use Rattle.polyline.specs.declared.Step.{Step}
 use Rattle.polyline.specs.declared.Step.TheVariants.{To, Stranger}
 use Rattle.polyline.specs.Form.{IsDigit, IsLeading, Digits, Number, nought, plain, minus, PairForm, pair, PointsForm, last, more}
-use Rattle.polyline.specs.Stages.{among, lead_of, begin_of, end_of, next_of, may_end, follow, text_from, text_of}
-use Rattle.polyline_laws.specs.Begins.{Begins, FirstBad, FormJudged, FirstBadByte}
+use Rattle.polyline.specs.Stages.{lead_of, next_of, may_end, follow, text_from, text_of}
+use Rattle.polyline_laws.specs.Begins.{Begins}
 
 -- ---- what a stage makes of a byte
 

@@ -1,11 +1,11 @@
 -- Points that pass pair by pair are the control points of a start and double deltas that building finds legal, and the reverse: the double deltas of the pairs lead from point to point.
-use mathlib.Core.Path.{◌≡◌, refl, sym, ap, subst, ◌∙◌}
-use mathlib.Core.Bool.{Bool, true, false, cond, true≢false}
-use mathlib.Core.List.{List, [], ◌∷◌, ◌++◌}
+use mathlib.Core.Path.{◌≡◌, refl, sym, ap, ◌∙◌}
+use mathlib.Core.Bool.{Bool, true, false, cond}
+use mathlib.Core.List.{List, [], ◌∷◌}
 use Prim.Native.Nat.{ℕ, zero, suc, ◌+◌, ◌-◌, ◌*◌, ◌/◌, ◌^◌, ◌≤◌, ◌<◌}
 use native.Mathlib.Nat.{mul-one, mul_left_comm, mul-add-div_right, div-eq_of_lt}
 use native.Mathlib.Omega.{arith}
-use lib.Dec.{T, ltb, leb, le→leb, lt→ltb}
+use lib.Dec.{ltb, leb, le→leb, lt→ltb}
 use lib.IntN.{ℤ, pos, negsuc, neg_ℤ, nat_abs, ◌+ℤ◌, ◌-ℤ◌, +ℤ_comm, +ℤ-neg_ℤ_cancel, -ℤ-+ℤ_cancel}
 use lib.Signed.{mag}
 use lib.Ieee.{Float, nan, inf, fin, binary32, up, down, round, of_int, to_signed, in_float, is_nan}
@@ -15,12 +15,10 @@ use lib.Ieee.Fits.{down_pos}
 use lib.ListN.{length}
 use Rattle.codes.specs.declared.Code.{Code}
 use Rattle.codes.specs.declared.Code.TheVariants.{Delta, Position, Distance}
-use Rattle.codes.proofs.Decides.{both}
 use Rattle.list.specs.Steps.{f32_of}
 use Rattle.wholes.specs.Whole.{half, whole_by, round_of}
-use Rattle.control_points.specs.ControlPoints.{in_range, or_stop, onward, step_of, trace_from, trace_of, run_at, pair_at, plus_of, manhattan_of, rounded_of, starting_point, stand_at, moved_of, later_points, control_points, valid_double_delta, valid_point_pos, same_point, coincide_from, adjacent_coincide}
-use Rattle.control_points.specs.Asked.{passes, Passable}
-use Rattle.control_points.specs.Refusals.{Inside, Outside, Small, sum_up_to, delta_at, far_at, PairPasses, PairRefusal, delta_large, delta_outside, too_far, point_outside}
+use Rattle.control_points.specs.ControlPoints.{in_range, or_stop, onward, step_of, trace_from, trace_of, run_at, plus_of, manhattan_of, rounded_of, starting_point, stand_at, moved_of, valid_double_delta, valid_point_pos}
+use Rattle.control_points.specs.Refusals.{sum_up_to, delta_at, far_at, PairRefusal, delta_large, delta_outside, too_far, point_outside}
 use Rattle.control_points.specs.declared.Pair.{Pair}
 use Rattle.control_points.specs.declared.Stand.{Stand}
 use Rattle.control_points.specs.declared.Run.{Run}
@@ -30,11 +28,9 @@ use Rattle.control_points.specs.declared.Traced.{Traced}
 use Rattle.control_points.specs.declared.Traced.TheVariants as traced
 use Rattle.control_points.proofs.ByKind.{start_by_kind}
 use Rattle.control_points.proofs.Pairs.{in_range_mag, point_range, abs_mag}
-use Rattle.control_points.proofs.Ranges.{point_decides, double_delta_decides}
-use Rattle.control_points.proofs.Starts.{start_valid}
+use Rattle.control_points.proofs.Ranges.{double_delta_decides}
 use Rattle.control_points.proofs.Steps.{onto}
 use Rattle.control_points.proofs.Coincide.{control_of, coincides}
-use Rattle.control_points.proofs.Walks.{traced_walk}
 use Rattle.control_points.proofs.Tracing.{trace_stops}
 use Rattle.polyline.specs.declared.Gone.{Gone}
 use Rattle.polyline.specs.declared.Gone.TheVariants as gone

@@ -1,8 +1,8 @@
 -- A text that passes has the form: what is left at each stage is what the grammar asks for there.
-use mathlib.Core.Path.{◌≡◌, refl, sym, ap, subst, ◌∙◌}
+use mathlib.Core.Path.{◌≡◌, refl, sym, ap, subst}
 use mathlib.Core.Bool.{Bool, true, false, cond}
 use mathlib.Core.List.{List, [], ◌∷◌, ◌++◌, append_assoc}
-use Prim.Native.Nat.{ℕ, suc, ◌≤◌, ◌<◌}
+use Prim.Native.Nat.{ℕ, suc}
 use native.Mathlib.Omega.{arith}
 use lib.Dec.{eqb, leb}
 use borrow.Author.Tests.{eqb-true, leb-true}
@@ -11,10 +11,9 @@ use Rattle.write_judge.specs.declared.Verdict.{Verdict}
 use Rattle.write_judge.specs.declared.Verdict.TheVariants.{Fine, Fault}
 use Rattle.polyline.specs.declared.Stage.{Stage}
 use Rattle.polyline.specs.declared.Stage.TheVariants as S
-use Rattle.polyline.specs.declared.Step.{Step}
 use Rattle.polyline.specs.declared.Step.TheVariants.{To, Stranger}
-use Rattle.polyline.specs.Form.{IsDigit, IsLeading, Digits, Number, nought, plain, minus, PairForm, pair, PointsForm, last, more}
-use Rattle.polyline.specs.Stages.{among, lead_of, begin_of, end_of, next_of, may_end, follow, text_from, text_of}
+use Rattle.polyline.specs.Form.{IsDigit, IsLeading, Digits, Number, nought, plain, minus, pair, PointsForm, last, more}
+use Rattle.polyline.specs.Stages.{lead_of, begin_of, end_of, next_of, may_end, follow, text_from, text_of}
 
 never : {X : Type 0} (at : ℕ) → Fault Text at ≡ Fine → X
 never at e = let z : ◌≡◌ {A = ℕ} 0 1 = cc in absurd (omega arith)

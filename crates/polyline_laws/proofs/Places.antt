@@ -1,8 +1,8 @@
 -- The place of TEXT: every stage can go on to a text of the form, so the bytes before the place begin one.
-use mathlib.Core.Path.{◌≡◌, refl, sym, ap, ◌∙◌}
+use mathlib.Core.Path.{◌≡◌, refl, ap, ◌∙◌}
 use mathlib.Core.Bool.{Bool, true, false, cond}
 use mathlib.Core.List.{List, [], ◌∷◌, ◌++◌}
-use Prim.Native.Nat.{ℕ, zero, suc, ◌+◌, ◌≤◌, ◌<◌}
+use Prim.Native.Nat.{ℕ, zero, suc, ◌+◌, ◌≤◌}
 use native.Mathlib.Omega.{arith}
 use lib.ListN.{length, take}
 use Rattle.codes.specs.declared.Code.TheVariants.{Text}
@@ -12,8 +12,8 @@ use Rattle.polyline.specs.declared.Stage.TheVariants as S
 use Rattle.polyline.specs.declared.Step.{Step}
 use Rattle.polyline.specs.declared.Step.TheVariants.{To, Stranger}
 use Rattle.polyline.specs.Stages.{next_of, may_end, follow, text_from, text_of}
-use Rattle.polyline_laws.specs.Begins.{Begins, FirstBad, FormJudged, FirstBadByte}
-use Rattle.polyline_laws.proofs.Forms.{form_passes, early, bad_byte, no_form}
+use Rattle.polyline_laws.specs.Begins.{FormJudged, FirstBadByte}
+use Rattle.polyline_laws.proofs.Forms.{form_passes, bad_byte, no_form}
 use Rattle.polyline_laws.proofs.Passes.{passes_form}
 
 -- how each stage may go on

@@ -1,12 +1,12 @@
 -- Each code of reading a text of points is given exactly when the table gives it: the first pair that does not pass stops, at its first byte.
 use mathlib.Core.Path.{◌≡◌, refl, sym, ap, subst, ◌∙◌}
 use mathlib.Core.Bool.{Bool, true, false, cond, ◌||◌}
-use mathlib.Core.List.{List, [], ◌∷◌, ◌++◌}
-use mathlib.Core.Logic.{◌↔◌, ◌⊎◌, inl, inr}
+use mathlib.Core.List.{List, [], ◌∷◌}
+use mathlib.Core.Logic.{◌↔◌, inl, inr}
 use Prim.Native.Nat.{ℕ, zero, suc, ◌+◌, ◌-◌, ◌*◌, ◌≤◌, ◌<◌}
 use native.Mathlib.Omega.{arith}
 use lib.Dec.{ltb}
-use lib.ListN.{length, get_or}
+use lib.ListN.{length}
 use Rattle.codes.specs.declared.Code.{Code}
 use Rattle.codes.specs.declared.Code.TheVariants.{Text, Position, Coincide, Room}
 use Rattle.codes.proofs.Decides.{Decides, less_than, either_decides}
@@ -14,13 +14,11 @@ use Rattle.write_judge.specs.declared.Verdict.{Verdict}
 use Rattle.write_judge.specs.declared.Verdict.TheVariants.{Fine, Fault}
 use Rattle.writer.specs.declared.WriteAnswer.TheVariants.{Refused}
 use Rattle.control_points.specs.ControlPoints.{valid_point_pos, same_point, stand_at}
-use Rattle.control_points.specs.Refusals.{Inside, Outside}
+use Rattle.control_points.specs.Refusals.{Inside}
 use Rattle.control_points.specs.declared.Pair.{Pair}
 use Rattle.control_points.specs.declared.Stand.{Stand}
 use Rattle.control_points.proofs.Ranges.{point_decides}
 use Rattle.control_points.proofs.Coincide.{same_point_lem}
-use Rattle.polyline.specs.declared.Spot.{Spot}
-use Rattle.polyline.specs.declared.Track.{Track}
 use Rattle.polyline.specs.declared.Track.TheVariants.{Empty, At}
 use Rattle.polyline.specs.declared.Judged.{Judged}
 use Rattle.polyline.specs.declared.Judged.TheVariants.{On, Stop}
@@ -28,11 +26,11 @@ use Rattle.polyline.specs.declared.Tracked.{Tracked}
 use Rattle.polyline.specs.declared.Tracked.TheVariants.{Came, Halt}
 use Rattle.polyline.specs.Stages.{text_of}
 use Rattle.polyline.specs.Spots.{spots_of}
-use Rattle.polyline.specs.Read.{minus_of, placeable, meets, track_to, judged_of, after_pair, track_from, track_verdict, later_of, and_then, room_for, pairs_verdict, points_verdict, outcome, read_points_of}
+use Rattle.polyline.specs.Read.{minus_of, placeable, meets, track_to, judged_of, after_pair, track_from, track_verdict, and_then, pairs_verdict, points_verdict, read_points_of}
 use Rattle.polyline.specs.Write.{pair_text}
-use Rattle.polyline.proofs.Tracks.{walk_on, walk_stop, judged_passes, unplaceable}
+use Rattle.polyline.proofs.Tracks.{judged_passes, unplaceable}
 use Rattle.polyline_laws.specs.Begins.{FirstBad}
-use Rattle.polyline_laws.specs.Says.{Says, first_byte, Said}
+use Rattle.polyline_laws.specs.Says.{Says, first_byte}
 use Rattle.polyline_laws.specs.Refusals.{Placed, Misplaced, Again, Passes, Before, PointsLack, PointsReadRefusal, bad, position, coincide, room}
 use Rattle.polyline_laws.proofs.Places.{form_judged}
 use Rattle.polyline_laws.proofs.Answers.{said, bad-said, bad-there, text-exactly}

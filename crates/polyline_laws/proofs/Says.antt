@@ -1,22 +1,21 @@
 -- A text of the form says points, and only these: a number of the form is the text of a whole number, and what is read of a text of points is those points, each with its first byte.
 use mathlib.Core.Path.{◌≡◌, refl, sym, ap, subst, ◌∙◌}
-use mathlib.Core.Bool.{Bool, true, false, cond}
+use mathlib.Core.Bool.{Bool, true, false}
 use mathlib.Core.List.{List, [], ◌∷◌, ◌++◌, append_assoc, map}
-use mathlib.Core.Logic.{◌↔◌}
 use Prim.Native.Nat.{ℕ, zero, suc, ◌+◌, ◌-◌, ◌*◌, ◌/◌, ◌%◌, ◌≤◌, ◌<◌}
 use native.Mathlib.Omega.{arith}
-use lib.Dec.{eqb, ltb}
+use lib.Dec.{ltb}
 use lib.ListN.{length, length-append}
 use lib.IntN.{ℤ, pos, negsuc}
-use borrow.Author.Tests.{ne_eqb, eq-eqb, ltb-true, ltb-false}
+use borrow.Author.Tests.{ne_eqb, ltb-true, ltb-false}
 use Rattle.control_points.specs.declared.Pair.{Pair}
 use Rattle.polyline.specs.declared.Figure.{Figure}
 use Rattle.polyline.specs.declared.Spot.{Spot}
 use Rattle.polyline.specs.Form.{IsDigit, IsLeading, Digits, Number, nought, plain, minus, PairForm, pair, PointsForm, last, more}
-use Rattle.polyline.specs.Spots.{signed_by, figure_at, grown_by, spot_of, spots_from, uncapped, ended, spots_of}
+use Rattle.polyline.specs.Spots.{signed_by, figure_at, grown_by, spot_of, spots_from, uncapped, spots_of}
 use Rattle.polyline.specs.Write.{digits_of, number_text, pair_text, later_text, points_text}
 use Rattle.polyline.proofs.Digits.{digits_small, digits_large}
-use Rattle.polyline_laws.specs.Says.{Says, first_byte, Said, FormSays, OneSaying}
+use Rattle.polyline_laws.specs.Says.{Says, Said, FormSays, OneSaying}
 
 pub append_none : (l : List ℕ) → l ++ [] ≡ l
 append_none [] = refl

@@ -1,6 +1,6 @@
 -- Export undoes import, and import export: the text of what was read is that text, and what is read of a text that was written is the rounded start and the double deltas.
 use mathlib.Core.Path.{◌≡◌, refl, sym, ap, subst, ◌∙◌}
-use mathlib.Core.Bool.{Bool, true, false, cond}
+use mathlib.Core.Bool.{true, false}
 use mathlib.Core.List.{List, [], ◌∷◌, ◌++◌}
 use Prim.Native.Nat.{ℕ, zero, suc, ◌+◌, ◌-◌, ◌*◌, ◌≤◌, ◌<◌}
 use native.Mathlib.Omega.{arith}
@@ -9,30 +9,26 @@ use lib.ListN.{length, get_or, take, drop, replicate, length-drop}
 use lib.Seq.{take_at, take_all, length-take-le}
 use lib.IntN.{ℤ, pos}
 use lib.Ieee.{Float, nan}
-use Rattle.codes.specs.declared.Code.TheVariants.{Room}
 use Rattle.codes.proofs.Decides.{less_than}
-use Rattle.shape.specs.Shape.{points_of, Shaped}
-use Rattle.list.specs.Steps.{f32_of, zero_f32}
+use Rattle.shape.specs.Shape.{points_of}
+use Rattle.list.specs.Steps.{f32_of}
 use Rattle.writer.specs.Write as writing
 use Rattle.writer.specs.Write.{WriteOutcome}
-use Rattle.write_judge.specs.declared.Verdict.{Verdict}
-use Rattle.write_judge.specs.declared.Verdict.TheVariants.{Fine, Fault}
+use Rattle.write_judge.specs.declared.Verdict.TheVariants.{Fine}
 use Rattle.writer.specs.declared.WriteAnswer.TheVariants.{Done}
-use Rattle.control_points.specs.ControlPoints.{starting_point, control_points, valid_point_pos}
+use Rattle.control_points.specs.ControlPoints.{starting_point, control_points}
 use Rattle.dequantize.specs.Judge.{Description, description_of, start_x, start_y, deltas_at, deltas_of}
 use Rattle.control_points.specs.declared.Pair.{Pair}
-use Rattle.control_points.specs.declared.Stand.{Stand}
 use Rattle.control_points.specs.declared.Start.TheVariants as S
-use Rattle.control_points.proofs.Coincide.{control_of}
 use Rattle.control_points.proofs.Starts.{start_valid}
 use Rattle.polyline.specs.declared.Gone.{Gone}
 use Rattle.polyline.specs.declared.Gone.TheVariants.{On, Stop}
 use Rattle.polyline.specs.Read.{PointsOutcome, leaves, read_points_of}
 use Rattle.polyline.specs.Write.{points_text, gone_of, settled, spline_verdict, spline_text, write_points_of}
-use Rattle.polyline_laws.specs.Refusals.{Legal, There, Goes, points_by, PointsAccepted, PointsWritten}
+use Rattle.polyline_laws.specs.Refusals.{Legal, There, PointsAccepted, PointsWritten}
 use Rattle.polyline_laws.proofs.Legal.{gone_legal, legal_gone}
 use Rattle.polyline_laws.proofs.Accepted.{start_left, deltas_left, read_says, accepted_leaves, accepted_exactly}
-use Rattle.polyline_laws.proofs.WriteWhen.{there_verdict, begins, goes_fine, goes_text, text_by, written_leaves, written_exactly}
+use Rattle.polyline_laws.proofs.WriteWhen.{there_verdict, begins, goes_fine, text_by, written_leaves, written_exactly}
 
 -- ---- a spline with legal points is written
 

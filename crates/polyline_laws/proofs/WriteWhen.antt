@@ -2,25 +2,24 @@
 use mathlib.Core.Path.{◌≡◌, refl, sym, ap, subst, ◌∙◌}
 use mathlib.Core.Bool.{Bool, true, false, not, cond, ◌||◌, true≢false}
 use mathlib.Core.List.{List, [], ◌∷◌, ◌++◌}
-use mathlib.Core.Logic.{◌↔◌, ◌⊎◌, inl, inr}
-use Prim.Native.Nat.{ℕ, zero, suc, ◌+◌, ◌-◌, ◌*◌, ◌/◌, ◌≤◌, ◌<◌}
+use mathlib.Core.Logic.{◌↔◌, ◌⊎◌}
+use Prim.Native.Nat.{ℕ, zero, suc, ◌+◌, ◌-◌, ◌*◌, ◌≤◌, ◌<◌}
 use native.Mathlib.Omega.{arith}
 use lib.Dec.{ltb, leb}
 use lib.ListN.{length, get_or, replicate}
-use lib.IntN.{ℤ, pos}
+use lib.IntN.{ℤ}
 use lib.Ieee.{Float}
-use borrow.Author.Tests.{not-false}
 use Rattle.codes.specs.declared.Code.{Code}
-use Rattle.codes.specs.declared.Code.TheVariants.{Room, Shape, Delta, Position, Coincide, Distance}
+use Rattle.codes.specs.declared.Code.TheVariants.{Room, Shape, Position, Coincide}
 use Rattle.codes.proofs.Decides.{both, Decides, at_most, less_than}
-use Rattle.shape.specs.Shape.{Shaped, shaped}
-use Rattle.shape.proofs.Shape.{is_shaped, shaped_is, not_shaped}
+use Rattle.shape.specs.Shape.{shaped}
+use Rattle.shape.proofs.Shape.{is_shaped, shaped_is}
 use Rattle.writer.specs.Write.{misshapen, WriteOutcome, leaves}
 use Rattle.writer.specs.Write as writing
 use Rattle.write_judge.specs.declared.Verdict.{Verdict}
 use Rattle.write_judge.specs.declared.Verdict.TheVariants.{Fine, Fault}
 use Rattle.writer.specs.declared.WriteAnswer.TheVariants.{Done, Refused}
-use Rattle.control_points.specs.ControlPoints.{starting_point, stand_at, control_points, valid_point_pos, same_point, coincide_from, adjacent_coincide, trace_of, pair_at}
+use Rattle.control_points.specs.ControlPoints.{starting_point, control_points, valid_point_pos, same_point, coincide_from, adjacent_coincide, trace_of}
 use Rattle.dequantize.specs.Judge.{Description, description_of, start_x, start_y, deltas_of}
 use Rattle.control_points.specs.Refusals.{Inside, Outside, Small, Large, RoundsTo, Strays, nowhere, delta_at, control_point_at, Adjacent, PairPasses, PairRefusal}
 use Rattle.control_points.specs.Refusals as building
@@ -36,7 +35,7 @@ use Rattle.control_points.proofs.Starts.{start_valid}
 use Rattle.control_points.proofs.Tracing.{trace_passed, trace_stops, refused_stops, passed_traces}
 use Rattle.control_points.proofs.Walks.{all_in_range, points_in_range, traced_walk}
 use Rattle.polyline.specs.Read.{and_then}
-use Rattle.polyline.specs.Write.{points_text, gone_of, settled, begun, spline_verdict, text_at, spline_text, no_spline, write_verdict, write_points_of}
+use Rattle.polyline.specs.Write.{points_text, settled, begun, spline_verdict, spline_text, no_spline, write_verdict, write_points_of}
 use Rattle.polyline_laws.specs.Refusals.{StepPasses, StepRefusal, delta_large, delta_outside, point_outside, There, Goes, points_by, PointsWriteRefusal, shape, start, pair, coincide, room, PointsWritten}
 use Rattle.polyline_laws.proofs.Answers.{wrote}
 use Rattle.polyline_laws.proofs.Legal.{wide_limit, far_within, untraced, gone_is}

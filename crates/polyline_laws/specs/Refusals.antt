@@ -1,6 +1,6 @@
 -- The codes of reading and of writing a text of points, and when each is given: the table of codes, in the order of the checks. Definitions only.
 -- That a call refuses exactly so is `read_exactly` of proofs/ReadWhen.antt and `write_exactly` of proofs/WriteWhen.antt.
-use Rattle.std.specs.Prelude.{◌≡◌, true, false, List, [], ◌∷◌, ◌⊎◌, ℕ, zero, suc, ◌+◌, ◌-◌, ◌*◌, ◌≤◌, ◌<◌, length, get_or, ℤ, Float}
+use Rattle.std.specs.Prelude.{◌≡◌, false, List, ◌⊎◌, ℕ, zero, suc, ◌+◌, ◌-◌, ◌*◌, ◌≤◌, ◌<◌, length, get_or, ℤ, Float}
 use Rattle.codes.specs.declared.Code.{Code}
 use Rattle.codes.specs.declared.Code.TheVariants.{Text, Position, Coincide, Room, Shape, Delta}
 use Rattle.shape.specs.Shape.{Shaped}
@@ -13,7 +13,7 @@ use Rattle.control_points.specs.declared.Run.{Run}
 use Rattle.control_points.specs.declared.Start.TheVariants.{At}
 use Rattle.control_points.specs.declared.Traced.TheVariants.{On}
 use Rattle.polyline.specs.Form.{PointsForm}
-use Rattle.polyline.specs.Read.{minus_of, later_of}
+use Rattle.polyline.specs.Read.{minus_of}
 use Rattle.polyline.specs.Write.{points_text}
 use Rattle.polyline_laws.specs.Begins.{FirstBad}
 use Rattle.polyline_laws.specs.Says.{Says, first_byte}
