@@ -5,11 +5,11 @@ use Prim.Native.Nat.{ℕ, zero, suc, ◌+◌, ◌*◌, ◌/◌, ◌^◌, ◌≤�
 use native.Mathlib.Nat.{mul-le-mul, add_comm, add-mul, mul-one, mul_right_comm, mul-mul-mul_comm, mul-div_cancel}
 use native.Mathlib.Omega.{arith}
 use lib.IntN.{ℤ, pos, negsuc, neg_ℤ, nat_abs}
-use lib.Ieee.{Float, nan, inf, fin, Format, binary32, prec, low, up, down, size, of_int}
+use lib.Ieee.{Float, nan, inf, fin, Format, binary32, prec, low, up, down, of_int}
 use lib.Ieee.Back.{round_whole}
 use lib.Ieee.Exact.{HasValue}
 use lib.Ieee.Fits.{down_pos}
-use Rattle.roots.specs.Root.{root, root_of, root_of_whole}
+use Rattle.roots.specs.Root.{root_of, root_of_whole}
 use Rattle.roots.specs.Length.{units_in, squares, hypot_of, length_of, NearestWhole}
 use Rattle.roots.proofs.RootOf.{square}
 use Rattle.ieee754.proofs.Nearness.{whole_root}

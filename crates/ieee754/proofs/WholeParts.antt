@@ -7,7 +7,7 @@ use native.Mathlib.Omega.{arith}
 use lib.IntN.{ℤ, pos, negsuc, neg_ℤ, suc_ℤ, pred_ℤ, ◌+ℤ◌, ◌-ℤ◌, ◌*ℤ◌, +ℤ_one, -ℤ_one}
 use lib.Signed.{◌≤ℤ◌, ◌<ℤ◌}
 use lib.Dec.{T, le→leb, lt→ltb}
-use lib.Ieee.{Float, nan, inf, fin, Format, up, down, round, fits}
+use lib.Ieee.{Float, nan, inf, fin, Format, up, down, fits}
 use lib.Ieee.Fits.{down_pos, round-fits, nan-fits, inf-fits}
 use Rattle.wholes.specs.Whole.{raised, half, whole_by, downward, upward, away}
 use Rattle.wholes.proofs.Wholes.{floor_id, ceil_id}

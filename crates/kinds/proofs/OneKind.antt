@@ -1,6 +1,5 @@
 -- The one kind over the range, read by the magnitude: for a range with a sign, and for one from 0 on.
-use Rattle.std.proofs.Common.{◌≡◌, ℕ, zero, suc, ◌+◌, ◌-◌, ◌*◌, ◌/◌, ◌^◌, ◌<◌, ◌≤◌, Bool, true, false, cond, not, T, eqb, ltb, leb, ℤ, pos, negsuc, neg_ℤ, nat_abs, sym, refl, ap, ◌∙◌, arith, eqb→eq, ltb→lt, lt→ltb, leb→le, nltb→le, pow_pos}
-use lib.Signed.{lt_z}
+use Rattle.std.proofs.Common.{◌≡◌, ℕ, zero, suc, ◌-◌, ◌*◌, ◌/◌, ◌^◌, ◌<◌, ◌≤◌, Bool, true, false, cond, not, T, eqb, ltb, leb, ℤ, pos, negsuc, neg_ℤ, nat_abs, sym, refl, ap, ◌∙◌, arith, eqb→eq, ltb→lt, lt→ltb, leb→le, nltb→le, pow_pos}
 use lib.Dec.{nleb→lt, not_T, leb-zero, leb-suc-zero}
 use lib.Arith.{le→nltb}
 use lib.Ieee.Bits.{is_false}

@@ -1,5 +1,5 @@
 -- What a number above 0 and below 2 ^ 23 rounds to is exact, at each width.
-use Rattle.std.proofs.Common.{◌≡◌, ℕ, suc, ◌+◌, ◌-◌, ◌*◌, ◌/◌, ◌^◌, ◌<◌, ◌≤◌, Bool, true, false, cond, T, ltb, ℤ, pos, negsuc, neg_ℤ, sym, refl, ap, ◌∙◌, subst, true≢false, mul-one, mul-div_cancel, arith}
+use Rattle.std.proofs.Common.{◌≡◌, ℕ, ◌*◌, ◌/◌, ◌≤◌, Bool, true, false, cond, T, ltb, ℤ, pos, sym, ap, ◌∙◌, subst, true≢false, mul-one, mul-div_cancel, arith}
 use lib.Signed.{lt_z}
 use lib.Arith.{le→nltb}
 use lib.Ieee.Bits.{is_false}

@@ -2,7 +2,7 @@
 use mathlib.Core.Path.{◌≡◌, refl, sym, ap, ◌∙◌, subst}
 use mathlib.Core.Bool.{Bool, true, false, not, ◌&&◌, cond}
 use Prim.Native.Nat.{ℕ, zero, suc, ◌+◌, ◌-◌, ◌*◌, ◌/◌, ◌%◌, ◌^◌, ◌≤◌, ◌<◌, min}
-use native.Mathlib.Nat.{le_trans, le_of_eq, lt_of_le_of_lt, lt_irrefl, mul-one, mul_assoc, mul-div_cancel, pow-suc}
+use native.Mathlib.Nat.{le_trans, le_of_eq, lt_of_le_of_lt, lt_irrefl, mul-one, mul_assoc, pow-suc}
 use native.Mathlib.Omega.{arith}
 use lib.IntN.{ℤ, pos, negsuc, neg_ℤ, suc_ℤ, +ℤ_one}
 use lib.Signed.{le_z, lt_z}
@@ -11,9 +11,8 @@ use lib.Arith.{lt→nleb, lt_of_le-ne}
 use lib.Ieee.Bits.{is_false}
 use lib.Ieee.{Float, nan, inf, fin, binary32, up, down, fits, to_signed, to_unsigned}
 use lib.Ieee.Fits.{down_pos, and_l, and_r, add-fits, sub-fits}
-use lib.Ieee.Exact.{HasValue}
 use Rattle.numbers.specs.Arith.{◌⊕◌, ◌⊖◌}
-use Rattle.wholes.specs.Whole.{half, whole_by, round_of}
+use Rattle.wholes.specs.Whole.{half, round_of}
 use Rattle.wholes.proofs.Wholes.{half_id, digits}
 use Rattle.segments.specs.Bounds.{Bound, under, at, over, rounded, or_zero, begins_by, lasts_to}
 use Rattle.segments.specs.Expressions.{bound_of, one_more_i64, one_more_usize, as_i64, as_usize, AsSplineRs}

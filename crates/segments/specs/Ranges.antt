@@ -1,6 +1,6 @@
 -- The rows and columns of a segment: from R(c - d) through R(c + d), by the centre c and the distance d. Definitions only.
 -- R rounds half away from zero. Each of the four ends is told by its kind: an exact number, no number, or below or above the range of the conversion, which is an i64's for rows and a u64's for columns.
-use Rattle.std.specs.Prelude.{Bool, true, false, ◌&&◌, ℕ, leb, ℤ, pos, negsuc, Float}
+use Rattle.std.specs.Prelude.{Bool, true, false, ◌&&◌, ℕ, leb, pos, negsuc, Float}
 use Rattle.std.specs.Float.{binary32}
 use Rattle.numbers.specs.Arith.{◌⊕◌, ◌⊖◌}
 use Rattle.wholes.specs.Whole.{round_of}

@@ -8,7 +8,7 @@ use native.Mathlib.Omega.{arith}
 use lib.IntN.{pos, negsuc}
 use lib.Dec.{T, T_not, lit≤}
 use lib.Pow.{pow_mono, shl_lt}
-use lib.Ieee.{Float, nan, inf, fin, binary32, up, down, nearest, round, sum, add, sub, lt, of_int, in_unsigned, to_unsigned}
+use lib.Ieee.{Float, nan, inf, fin, binary32, up, down, nearest, round, sum, add, lt, of_int, in_unsigned, to_unsigned}
 use lib.Ieee.Fits.{down_pos, nearest-le}
 use lib.Ieee.Exact.{HasValue, round_exact}
 use lib.Ieee.Nearest.{closest, nearest-ge}

@@ -1,7 +1,6 @@
 -- The three constants are computed; the folded angle is the definition's, and each branch its own.
 use mathlib.Core.Path.{◌≡◌, refl, ◌∙◌}
 use mathlib.Core.Bool.{true, false}
-use borrow.Author.Rules.{rules}
 use lib.Ieee.{Float, of_bits, mul, div, le, neg}
 use Rattle.numbers.specs.Arith.{f, ◌⊗◌, ◌⊘◌, ◌⊖◌}
 use Rattle.approximations.specs.Cos.{fast_cos, cos_core, folded}

@@ -1,5 +1,4 @@
 -- The calls' promises joined are the definition.
-use borrow.Author.Rules.{rules}
 use Rattle.approximations.specs.Erf.{fast_erff}
 use Rattle.approximations.proofs.fast_erff.Goals as goal
 

@@ -2,7 +2,6 @@
 use mathlib.Core.Path.{◌≡◌, refl}
 use mathlib.Core.Bool.{true, false, not}
 use Prim.Native.Nat.{zero, suc}
-use borrow.Author.Rules.{rules}
 use lib.Dec.{T, T_not}
 use lib.Ieee.{Float, nan, inf, fin, of_bits, div, neg, lt, eq}
 use Rattle.numbers.proofs.Zero.{yes, no, null, over, zero_is, not_zero, above}

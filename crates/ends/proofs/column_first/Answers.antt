@@ -1,6 +1,5 @@
 -- `column_first` meets its contract: each arm is the definition's case of the kind.
 use mathlib.Core.Path.{ap, sym, ◌∙◌}
-use borrow.Author.Rules.{rules}
 use Rattle.ends.specs.Ends.{column_first_by, column_first_of}
 use Rattle.ends.proofs.column_first.Goals as goal
 

@@ -2,7 +2,6 @@
 use mathlib.Core.Path.{ap, sym, ◌∙◌}
 use Prim.Native.Nat.{ℕ, ◌+◌}
 use native.Mathlib.Numerals.{add-one}
-use borrow.Author.Rules.{rules}
 use Rattle.ends.specs.Ends.{column_past_by, column_past_of}
 use Rattle.ends.proofs.column_past.Goals as goal
 

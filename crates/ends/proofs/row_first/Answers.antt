@@ -1,6 +1,5 @@
 -- `row_first` meets its contract: each arm is the definition's case of the kind.
 use mathlib.Core.Path.{◌≡◌, ap, sym, ◌∙◌}
-use borrow.Author.Rules.{rules}
 use lib.Ieee.{binary32}
 use mir.Facts.{to_z-of_z}
 use mir.Syntax.{w64}

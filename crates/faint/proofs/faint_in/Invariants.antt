@@ -1,11 +1,8 @@
 -- `faint_in`: the first i segments are counted.
-use mathlib.Core.Path.{◌≡◌, refl, ap, ◌∙◌}
-use Prim.Native.Nat.{◌+◌, ◌-◌, ◌*◌, ◌^◌, ◌≤◌}
-use native.Mathlib.Omega.{arith}
-use borrow.Author.Rules.{rules}
+use mathlib.Core.Path.{◌≡◌}
+use Prim.Native.Nat.{◌-◌, ◌*◌, ◌^◌, ◌≤◌}
 use lib.ListN.{length}
 use Rattle.faint.specs.Faint.{faint_in}
-use Rattle.faint.proofs.Counts.{faint_most, faint_more}
 use Rattle.faint.proofs.faint_in.Given as goal
 
 abbrev pub invariant-loop-i : goal.invariant-loop-i

@@ -1,5 +1,4 @@
 -- Each way out is decided by the tests that led there.
-use borrow.Author.Rules.{rules}
 use borrow.Author.Tests.{lt-ltb, le-ltb}
 use Rattle.joins.specs.Joins.{joined}
 use Rattle.joins.proofs.join.Goals as goal

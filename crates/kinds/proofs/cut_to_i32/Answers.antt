@@ -1,5 +1,5 @@
 -- Each arm is a case of the kind for an i64, held against the range of an i32.
-use Rattle.std.proofs.Common.{◌≡◌, sym, ap, ◌∙◌, subst, to_z-of_z, w64, SFits, rules}
+use Rattle.std.proofs.Common.{◌≡◌, sym, ap, ◌∙◌, subst, to_z-of_z, w64, SFits}
 use lib.Ieee.{to_signed}
 use lib.Ieee.Casts.{to_signed_in}
 use Rattle.kinds.specs.Kind.{within_i32, saturated_i64}

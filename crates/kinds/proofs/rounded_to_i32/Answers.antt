@@ -1,5 +1,5 @@
 -- The kind of what `round` gives.
-use Rattle.std.proofs.Common.{ap, ◌∙◌, rules}
+use Rattle.std.proofs.Common.{ap, ◌∙◌}
 use Rattle.kinds.specs.Kind.{cut_i32}
 use Rattle.kinds.proofs.rounded_to_i32.Goals as goal
 

@@ -1,5 +1,5 @@
 -- A number above 0 and below 2 ^ 23 is exact; else it is the kind of what `round` gives.
-use Rattle.std.proofs.Common.{◌^◌, T, pos, neg_ℤ, refl, ap, ◌∙◌, arith, lit≤, w64, rules}
+use Rattle.std.proofs.Common.{◌^◌, T, pos, neg_ℤ, refl, ap, ◌∙◌, arith, lit≤, w64}
 use mir.Facts.{to_z_pos}
 use lib.Ieee.{binary32, of_bits, fits}
 use Rattle.kinds.specs.declared.KindI64.TheVariants as I64

@@ -1,5 +1,5 @@
 -- A number above 0 and below 2 ^ 23 is exact; else it is the kind of what `round` gives.
-use Rattle.std.proofs.Common.{T, pos, nat_abs, ap, ◌∙◌, arith, lit≤, rules}
+use Rattle.std.proofs.Common.{T, pos, nat_abs, ap, ◌∙◌, lit≤}
 use lib.Dec.{leb-suc-zero}
 use lib.Ieee.{binary32, of_bits, fits}
 use Rattle.kinds.specs.declared.KindU64.TheVariants as U64

@@ -1,5 +1,5 @@
 -- Each arm is the definition's case of the kind, which held to the range is Rust's `as`.
-use Rattle.std.proofs.Common.{◌≡◌, sym, ap, ◌∙◌, to_z-of_z, w32, rules}
+use Rattle.std.proofs.Common.{◌≡◌, sym, ap, ◌∙◌, to_z-of_z, w32}
 use lib.Ieee.{to_signed}
 use lib.Ieee.Casts.{to_signed_in}
 use Rattle.kinds.specs.Kind.{saturated_i32}

@@ -1,5 +1,5 @@
 -- Each arm is the definition's case of the kind, which held to the range is Rust's `as`.
-use Rattle.std.proofs.Common.{sym, ap, ◌∙◌, rules}
+use Rattle.std.proofs.Common.{sym, ap, ◌∙◌}
 use Rattle.kinds.specs.Kind.{saturated_u64}
 use Rattle.kinds.proofs.ByKind.{saturated_u64_lem}
 use Rattle.kinds.proofs.saturating_f32_to_u64.Goals as goal

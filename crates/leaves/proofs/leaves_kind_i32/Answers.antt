@@ -1,6 +1,5 @@
 -- Each arm is the number of the kind that the cut was found to be.
 use mathlib.Core.Path.{ap, sym, ◌∙◌}
-use borrow.Author.Rules.{rules}
 use Rattle.leaves.specs.Kinds.{number_i32}
 use Rattle.leaves.proofs.leaves_kind_i32.Goals as goal
 

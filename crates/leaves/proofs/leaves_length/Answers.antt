@@ -1,5 +1,4 @@
 -- The machine reads both signed numbers back from their bits.
-use borrow.Author.Rules.{rules}
 use mir.Facts.{to_z-of_z}
 use mir.Syntax.{w32}
 use Rattle.leaves.proofs.leaves_length.Goals as goal

@@ -1,6 +1,5 @@
 -- The machine reads the signed number back from its bits.
 use mathlib.Core.Path.{ap, ◌∙◌}
-use borrow.Author.Rules.{rules}
 use lib.Ieee.{binary32, of_int}
 use mir.Facts.{to_z-of_z}
 use mir.Syntax.{w64}

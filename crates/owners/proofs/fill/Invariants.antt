@@ -1,10 +1,8 @@
 -- `fill`: the cells from `from` up to i have the number.
-use mathlib.Core.Path.{◌≡◌, ap, ◌∙◌}
+use mathlib.Core.Path.{◌≡◌}
 use Prim.Native.Nat.{◌-◌, ◌≤◌}
-use native.Mathlib.Omega.{arith}
-use lib.ListN.{length, replicate, length-set}
+use lib.ListN.{length, replicate}
 use lib.Seq.{sets}
-use Rattle.owners.proofs.Runs.{run_none, run_more}
 use Rattle.owners.proofs.fill.Given as goal
 
 abbrev pub invariant-loop-i : goal.invariant-loop-i

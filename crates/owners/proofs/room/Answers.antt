@@ -1,7 +1,6 @@
 -- The lesser of the records and the cells, and of that and the limit.
 use mathlib.Core.Path.{ap, ◌∙◌}
 use Prim.Native.Nat.{ℕ, min}
-use borrow.Author.Rules.{rules}
 use Rattle.owners.proofs.room.Goals as goal
 
 pub returns : goal.returns

@@ -1,14 +1,13 @@
 -- Only the bounds are shown: whatever the estimate, the cut is held below 2 ^ 24.
 -- what is above a number is one itself
-use mathlib.Core.Path.{sym, ap, subst}
+use mathlib.Core.Path.{sym, subst}
 use mathlib.Core.Bool.{not}
-use Prim.Native.Nat.{ℕ, ◌*◌, ◌<◌, ◌≤◌, ◌^◌, ◌%◌}
+use Prim.Native.Nat.{ℕ, ◌*◌, ◌<◌, ◌^◌, ◌%◌}
 use native.Mathlib.Nat.{le_of_lt, lt_of_lt_of_le}
 use native.Mathlib.Omega.{arith}
-use borrow.Author.Rules.{rules}
 use lib.Dec.{T, lit≤}
 use lib.IntN.{ℤ}
-use lib.Ieee.{Float, nan, inf, fin, binary64, in_float, is_nan, lt, to_bits}
+use lib.Ieee.{Float, nan, inf, fin, binary64, in_float, is_nan, lt}
 use mir.Syntax.{w64}
 use mir.Val.{Fits, hbits}
 use mir.Facts.{to_z_pos}

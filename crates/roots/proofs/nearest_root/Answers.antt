@@ -1,5 +1,4 @@
 -- A root is never half way, so the remainder against the root decides.
-use borrow.Author.Rules.{rules}
 use Rattle.roots.proofs.Roots.{kept, raised}
 use Rattle.roots.proofs.nearest_root.Goals as goal
 

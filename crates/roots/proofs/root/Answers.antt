@@ -2,7 +2,6 @@
 use mathlib.Core.Path.{◌≡◌, refl}
 use mathlib.Core.Bool.{true, false, not}
 use Prim.Native.Nat.{zero, suc}
-use borrow.Author.Rules.{rules}
 use lib.Dec.{T, T_not}
 use lib.Ieee.{Float, nan, inf, fin, binary32, of_bits, div, lt}
 use Rattle.numbers.proofs.Zero.{yes, no, null, over, under, not_under, zero_not_under, above}

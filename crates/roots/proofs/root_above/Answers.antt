@@ -3,11 +3,10 @@ use mathlib.Core.Path.{◌≡◌, sym, ap, ◌∙◌, subst}
 use Prim.Native.Nat.{ℕ, ◌*◌, ◌%◌, ◌^◌, ◌≤◌, ◌<◌}
 use native.Mathlib.Nat.{lt_of_lt_of_le}
 use native.Mathlib.Omega.{arith}
-use borrow.Author.Rules.{rules}
 use lib.Count.{count_leading_zeros}
 use lib.Dec.{lit≤}
 use lib.IntN.{pos}
-use lib.Ieee.{Float, binary32, mul, of_int}
+use lib.Ieee.{binary32, mul, of_int}
 use Rattle.numbers.proofs.Units.{castable}
 use Rattle.roots.specs.Root.{nearest_root}
 use Rattle.roots.proofs.Laid.{t_of, z_lo, z_hi, exact, n_hi, small_enough, w_hi, rooted}

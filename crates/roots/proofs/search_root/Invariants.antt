@@ -1,10 +1,5 @@
 -- The invariant: the root lies from lo up to but not including hi. The measure is their distance.
-use mathlib.Core.Path.{◌≡◌, subst}
-use Prim.Native.Nat.{ℕ, ◌+◌, ◌-◌, ◌*◌, ◌/◌, ◌≤◌, ◌<◌}
-use native.Mathlib.Omega.{arith}
-use mir.Syntax.{w64}
-use mir.Val.{Fits}
-use Rattle.roots.proofs.Roots.{product_fits}
+use Prim.Native.Nat.{◌-◌, ◌*◌, ◌≤◌, ◌<◌}
 use Rattle.roots.proofs.search_root.Given as goal
 
 abbrev pub invariant-loop-hi : goal.invariant-loop-hi

@@ -1,7 +1,6 @@
 -- `add_segment` meets its contract: one branch for a point that makes nothing, one for the record of its eight floats.
 use mathlib.Core.Path.{sym}
 use Rattle.segments.specs.Segment.{add_segment}
-use borrow.Author.Rules.{rules}
 use Rattle.segments.proofs.add_segment.Goals as goal
 
 pub returns-then-skipped : goal.returns-then-skipped

@@ -1,6 +1,5 @@
 -- `max_color` meets its contract: its calls' results, put in one after another.
 use Rattle.segments.specs.Segment.{max_color}
-use borrow.Author.Rules.{rules}
 use Rattle.segments.proofs.max_color.Goals as goal
 
 pub returns : goal.returns

@@ -5,7 +5,6 @@ use Rattle.numbers.specs.Arith.{f}
 use Rattle.to_f32.specs.Narrow.{narrow}
 use Rattle.approximations.specs.Ln.{ln_of, ln_above, ln_at}
 use Rattle.segments.specs.Segment.{max_distance}
-use borrow.Author.Rules.{rules}
 use Rattle.segments.proofs.max_distance.Goals as goal
 
 -- the code's literal

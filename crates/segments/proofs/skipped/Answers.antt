@@ -2,7 +2,6 @@
 use mathlib.Core.Path.{sym}
 use lib.Ieee.{of_bits}
 use Rattle.segments.specs.Segment.{skipped}
-use borrow.Author.Rules.{rules}
 use Rattle.segments.proofs.skipped.Goals as goal
 
 pub returns-then-is_infinite : goal.returns-then-is_infinite

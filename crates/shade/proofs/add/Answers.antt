@@ -1,9 +1,7 @@
-use mathlib.Core.Path.{◌≡◌, refl, ◌∙◌}
-use Prim.Native.Nat.{◌-◌, ◌<◌, ◌≤◌, zero-le}
+use mathlib.Core.Path.{refl, ◌∙◌}
+use Prim.Native.Nat.{◌<◌, ◌≤◌, zero-le}
 use native.Mathlib.Omega.{arith}
-use lib.ListN.{length, get_or, length-set}
-use lib.Ieee.{nan}
-use Rattle.shade.specs.Edit.{edit, first_cells}
+use lib.ListN.{length, length-set}
 use Rattle.shade.specs.Shade.{shaded_by_intensity}
 use Rattle.shade.proofs.Edits.{edit_none, edit_all, stored}
 use Rattle.shade.proofs.add.Goals as goal

@@ -1,12 +1,10 @@
 -- The cells below k of each channel have the segment added, from turn to turn; one law turns each channel.
-use mathlib.Core.Path.{◌≡◌, refl, ◌∙◌}
-use Prim.Native.Nat.{◌-◌, ◌<◌, ◌≤◌, zero-le}
-use native.Mathlib.Omega.{arith}
-use lib.ListN.{length, get_or, length-set}
+use mathlib.Core.Path.{◌≡◌}
+use Prim.Native.Nat.{◌-◌, ◌≤◌}
+use lib.ListN.{length, get_or}
 use lib.Ieee.{nan}
 use Rattle.shade.specs.Edit.{edit, first_cells}
 use Rattle.shade.specs.Shade.{shaded_by_intensity}
-use Rattle.shade.proofs.Edits.{edit_none, edit_all, stored}
 use Rattle.shade.proofs.add.Given as goal
 
 abbrev pub invariant-loop-k : goal.invariant-loop-k

@@ -1,5 +1,4 @@
 -- By the comparison: below zero the magnitude's value is turned, else it is kept.
-use borrow.Author.Rules.{rules}
 use lib.Ieee.{of_bits}
 use Rattle.numbers.proofs.Zero.{yes}
 use Rattle.shade.proofs.Erfs.{erf_alike}

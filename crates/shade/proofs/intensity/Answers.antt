@@ -1,5 +1,4 @@
 -- The definition's steps are the code's; the two calls give what they promise but for the sign of a zero, which the square does not show.
-use borrow.Author.Rules.{rules}
 use Rattle.shade.specs.Shade.{intensity_at}
 use Rattle.shade.proofs.Erfs.{difference_alike, square_alike, erff_fits}
 use Rattle.shade.proofs.intensity.Goals as goal

@@ -1,6 +1,5 @@
 -- The closest whole number, and one more at a tie that went down, is the number rounded half up.
 use native.Mathlib.Omega.{arith}
-use borrow.Author.Rules.{rules}
 use Prim.Native.Nat.{◌+◌}
 use lib.Ieee.{of_bits, to_unsigned}
 use Rattle.wholes.specs.Small.{Made}

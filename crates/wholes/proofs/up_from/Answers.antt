@@ -1,6 +1,5 @@
 -- The nearest whole number, and a step where the comparison asks for one.
 use mathlib.Core.Path.{ap, sym, ◌∙◌}
-use borrow.Author.Rules.{rules}
 use lib.Ieee.{Float, binary32, of_bits, add, lt}
 use Rattle.numbers.proofs.Zero.{yes, no, two_to}
 use Rattle.wholes.proofs.Steps.{stepped_up, stayed_up}

@@ -1,5 +1,4 @@
 -- `wipe`: the working cells, then four buffers, cleared one after the other.
-use borrow.Author.Rules.{rules}
 use Rattle.wipe.proofs.wipe.Goals as goal
 
 pub returns : goal.returns

@@ -1,7 +1,6 @@
 -- `wipe_unused`: the working cells, then what is behind the count.
 use Prim.Native.Nat.{◌*◌}
 use lib.Ieee.{binary32, of_bits}
-use borrow.Author.Rules.{rules}
 use Rattle.buffers.proofs.Blanks.{blank_behind}
 use Rattle.wipe.proofs.wipe_unused.Goals as goal
 

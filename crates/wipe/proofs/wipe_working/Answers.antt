@@ -1,5 +1,4 @@
 -- `wipe_working`: two buffers, cleared one after the other.
-use borrow.Author.Rules.{rules}
 use Rattle.wipe.proofs.wipe_working.Goals as goal
 
 pub returns : goal.returns

@@ -4,9 +4,8 @@ use mathlib.Core.Logic.{◌⊎◌, inl, inr}
 use mathlib.Core.Bool.{not}
 use Prim.Native.Nat.{ℕ, ◌<◌}
 use native.Mathlib.Nat.{lt_irrefl}
-use borrow.Author.Rules.{rules}
 use lib.Dec.{T}
-use lib.Ieee.{Float, binary32, le, fits, of_bits, to_bits, nan_bits}
+use lib.Ieee.{binary32, le, fits, of_bits, to_bits, nan_bits}
 use Rattle.numbers.proofs.Zero.{yes, positive_is}
 use Rattle.roots.specs.RootBy.{root_bits}
 use Rattle.roots.proofs.RootBy.{least, most, above, root_by_bits, rooted_no_nan}

@@ -1,7 +1,6 @@
 -- `length` meets its contract: the sum of the squares is exact, and `root_of_whole` takes its root.
 use mathlib.Core.Path.{◌≡◌, ◌∙◌}
 use Prim.Native.Nat.{◌*◌}
-use borrow.Author.Rules.{rules}
 use lib.IntN.{nat_abs}
 use mir.Syntax.{w32}
 use mir.Facts.{to_z-of_z}

@@ -1,5 +1,4 @@
 -- `placed` meets its contract: the pattern of q * 2 ^ w is the sum that the code makes.
-use borrow.Author.Rules.{rules}
 use Rattle.roots.proofs.Placed.{pattern_is, pattern_no_nan}
 use Rattle.roots.proofs.lengths.placed.Goals as goal
 

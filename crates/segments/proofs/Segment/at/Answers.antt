@@ -1,7 +1,6 @@
 -- `Segment::at` meets its contract: eight reads of the slice, in bounds.
 use mathlib.Core.Path.{refl}
 use native.Mathlib.Numerals.{unary_clauses}
-use native.Mathlib.Omega.{arith}
 use Rattle.segments.specs.Segment.{segment_at}
 use Rattle.segments.proofs.Segment.at.Goals as goal
 

@@ -1,5 +1,4 @@
 -- `columns` meets its contract: its two calls give the two ends.
-use borrow.Author.Rules.{rules}
 use Rattle.segments.specs.Ranges.{columns_of}
 use Rattle.segments.proofs.Segment.columns.Goals as goal
 

@@ -4,7 +4,6 @@ use Prim.Native.Nat.{ℕ, suc, ◌+◌}
 use native.Mathlib.Omega.{arith}
 use native.Mathlib.Numerals.{add-one}
 use lib.ListN.{length-set}
-use borrow.Author.Rules.{rules}
 use Rattle.segments.proofs.Segment.put.Goals as goal
 
 sucs : (n : ℕ) → (n + 2 ≡ suc (suc n)) × (n + 3 ≡ suc (suc (suc n))) × (n + 4 ≡ suc (suc (suc (suc n)))) × (n + 5 ≡ suc (suc (suc (suc (suc n)))))

@@ -1,5 +1,4 @@
 -- `rows` meets its contract: its two calls give the two ends.
-use borrow.Author.Rules.{rules}
 use Rattle.segments.specs.Ranges.{rows_of}
 use Rattle.segments.proofs.Segment.rows.Goals as goal
 
