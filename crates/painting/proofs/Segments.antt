@@ -6,7 +6,6 @@ use mathlib.Core.Logic.{◌↔◌, ◌⊎◌, inl, inr}
 use Prim.Native.Nat.{ℕ, zero, suc, ◌+◌, ◌-◌, ◌*◌, ◌/◌, ◌^◌, ◌≤◌, ◌<◌, min}
 use native.Mathlib.Omega.{arith}
 use lib.Dec.{leb}
-use lib.IntN.{ℤ}
 use lib.ListN.{length, get_or, take, drop, length-append, length-drop, length-replicate}
 use lib.Seq.{length-take-le}
 use lib.Ieee.{Float}
@@ -16,14 +15,14 @@ use Rattle.control_points.specs.declared.Pair.{Pair}
 use Rattle.control_points.specs.declared.Start.{Start}
 use Rattle.control_points.specs.declared.Start.TheVariants.{At, Out}
 use Rattle.control_points.specs.ControlPoints.{starting_point}
-use Rattle.dequantize.specs.Judge.{Description, Shaped, start_x, start_y, deltas_at, deltas_of, spline_of, judge_of}
+use Rattle.dequantize.specs.Judge.{Description, Shaped, start_x, start_y, deltas_at, deltas_of, spline_of}
 use Rattle.dequantize.proofs.Judging.{deltas_fit}
 use Rattle.dequantize.proofs.Judgement.{fine_accepted}
 use Rattle.segments.specs.declared.Segment.{Segment}
 use Rattle.curve.specs.Curve as Curve
 use Rattle.curve.specs.Curve.{path_of, path_room}
 use Rattle.curve.proofs.Paths.{length_path}
-use Rattle.walk.specs.Walk.{PointToDraw, Walk, More, Ended, walk_in, Walks, walk_room}
+use Rattle.walk.specs.Walk.{Walk, More, Ended, walk_in, Walks, walk_room}
 use Rattle.walk.proofs.Fuel.{walk_within, walk_enough, walk_one, walk_fewer}
 use Rattle.points.specs.declared.Filled.TheVariants.{Count, Room}
 use Rattle.points.specs.Points.{filled_of}
@@ -31,7 +30,7 @@ use Rattle.owners.specs.Owners.{owned_room, owners_of}
 use Rattle.strand.specs.Strand.{Strand, NoRoom, Segments, walk_segments, after_walk, strand_of, strand_filled, segments_of}
 use Rattle.strand_at.specs.Strands.{strand_at}
 use Rattle.painting.specs.Painting.{strand_of_spline, Painted, All, NoRoomAt, after_strand, paint_from, paint_of, Passed}
-use Rattle.painting.specs.Segments.{SplineMakes, MakesUpTo, none_made, one_made, path_needs, Suffices, Lacks, SplineFits, DrawnUpTo, none_drawn, one_drawn, SplineLacks, path_lacks, walk_lacks, segments_lack, FirstLacks}
+use Rattle.painting.specs.Segments.{SplineMakes, MakesUpTo, none_made, one_made, path_needs, SplineFits, DrawnUpTo, none_drawn, one_drawn, SplineLacks, path_lacks, walk_lacks, segments_lack, FirstLacks}
 
 differ : {A : Type 0} → ◌≡◌ {A = ℕ} 0 1 → A
 differ e = absurd (omega arith)

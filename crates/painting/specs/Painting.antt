@@ -7,13 +7,11 @@ use Rattle.control_points.specs.ControlPoints.{starting_point}
 use Rattle.dequantize.specs.Judge.{Description, start_x, start_y, deltas_of, spline_of, judge_of}
 use Rattle.segments.specs.declared.Segment.{Segment}
 use Rattle.points.specs.declared.Filled.{Filled}
-use Rattle.points.specs.declared.Filled.TheVariants as Filled
 use Rattle.points.specs.Points.{eights}
 use Rattle.strand.specs.Strand.{Strand, strand_filled, segments_of}
 use Rattle.strand_at.specs.Strands.{strand_at}
 use Rattle.owners.specs.Owners.{owners_of}
 use Rattle.painting.specs.declared.Segmented.{Segmented}
-use Rattle.painting.specs.declared.Segmented.TheVariants as Segmented
 
 -- the spline k of a description
 unfoldable pub strand_of_spline : Description → Given → Bool → ℕ → ℕ → ℕ → Strand

@@ -6,9 +6,8 @@ use lib.ListN.{length}
 use Rattle.dequantize.specs.Judge.{description_of}
 use Rattle.curve.specs.Curve.{path_room}
 use Rattle.walk.specs.Walk.{walk_room}
-use Rattle.painting.specs.Painting.{Painted, paint_of}
+use Rattle.painting.specs.Painting.{paint_of}
 use Rattle.painting.proofs.Rooms.{room_is, part_drawn}
-use borrow.Author.Rules.{rules}
 use Rattle.painting.proofs.draw_all.Goals as goal
 
 pub slice_bounds-draw_each-end : goal.slice_bounds-draw_each-end
@@ -26,4 +25,5 @@ pub returns : goal.returns
 returns c =
     let m = c.room-end in
     let d = c.draw_each in
-    part_drawn ((let h_painted : ℕ → Painted = (λ room. paint_of (description_of c.args.counts.now c.args.starts.now c.args.deltas.now c.args.coefficients.now) c.args.given c.args.high_precision (path_room (length c.args.path.now)) (walk_room (length c.args.walk.now)) room) in h_painted)) c.args.out.now d.new.1.1.1.1.1.1.1.1.0 c.args.owners.now d.new.1.1.1.1.1.1.1.1.1.0 m.result m.ensures d.ensures
+    part_drawn (λ (room : ℕ). paint_of (description_of c.args.counts.now c.args.starts.now c.args.deltas.now c.args.coefficients.now) c.args.given c.args.high_precision (path_room (length c.args.path.now)) (walk_room (length c.args.walk.now)) room)
+    c.args.out.now d.new.out c.args.owners.now d.new.owners m.result m.ensures d.ensures

@@ -1,20 +1,13 @@
 -- `draw_each`: the splines below k are drawn.
-use mathlib.Core.Path.{◌≡◌, refl, sym, ap, ◌∙◌}
-use Prim.Native.Nat.{◌+◌, ◌-◌, ◌*◌, ◌<◌, ◌≤◌, ◌^◌}
-use native.Mathlib.Omega.{arith}
-use borrow.Author.Rules.{rules}
-use lib.ListN.{length, replicate}
-use lib.Seq.{sets}
-use Rattle.dequantize.specs.Judge.{Description, description_of, Shaped, start_x, start_y, coefficients_of, spline_of}
-use Rattle.dequantize.proofs.Judging.{deltas_fit}
-use Rattle.dequantize.proofs.Judgement.{fine_accepted}
+use mathlib.Core.Path.{◌≡◌}
+use Prim.Native.Nat.{◌-◌, ◌*◌, ◌<◌, ◌≤◌, ◌^◌}
+use lib.ListN.{length}
+use Rattle.dequantize.specs.Judge.{description_of, Shaped}
 use Rattle.curve.specs.Curve.{path_room}
 use Rattle.walk.specs.Walk.{walk_room}
-use Rattle.points.specs.Points.{segment_room, FilledOn}
-use Rattle.strand.specs.Strand.{strand_filled, segments_of}
-use Rattle.painting.specs.declared.Segmented.TheVariants as Segmented
-use Rattle.painting.specs.Painting.{Passed, strand_of_spline}
-use Rattle.painting.proofs.Painting.{Painting, painting_none, painting_all, painting_room, painting_fits, painting_more, part_is}
+use Rattle.points.specs.Points.{segment_room}
+use Rattle.painting.specs.Painting.{Passed}
+use Rattle.painting.proofs.Painting.{Painting}
 use Rattle.painting.proofs.draw_each.Given as goal
 
 abbrev pub invariant-loop-k : goal.invariant-loop-k
