@@ -1,19 +1,19 @@
 -- Sums over rows that fit: they list no more than is due, what lacks never gets less from row to row, and so the first row that lists too few is found by halving.
-use mathlib.Core.Path.{◌≡◌, refl, sym, ap, ◌∙◌}
+use mathlib.Core.Path.{◌≡◌, ap}
 use mathlib.Core.Logic.{⊎_elim}
 use mathlib.Core.Bool.{Bool, true, false}
 use mathlib.Core.List.{List}
-use Prim.Native.Nat.{ℕ, zero, suc, ◌+◌, ◌-◌, ◌≤◌, ◌<◌}
+use Prim.Native.Nat.{ℕ, zero, suc, ◌+◌, ◌≤◌, ◌<◌}
 use native.Mathlib.Nat.{eq-or-lt_of_le}
 use native.Mathlib.Omega.{arith}
 use lib.ListN.{length, get_or}
 use lib.Seq.{length-slice}
-use Rattle.rows.specs.Rows.{listed, rows, start_of, entries_between}
+use Rattle.rows.specs.Rows.{rows, start_of, entries_between}
 use Rattle.rows.specs.Steps.{cnt}
 use Rattle.rows.proofs.Counts.{start_suc, split}
-use Rattle.makers.specs.Check.{row_right, RowRight, wrong_from}
+use Rattle.makers.specs.Check.{row_right, wrong_from}
 use Rattle.makers.specs.Steps.{row_fits, Fitting}
-use Rattle.makers.proofs.Rows.{First, first_is, first_one, is_false, false_not_true, right_facts, right_made, fit_facts, right_fits, no_longer, as_long}
+use Rattle.makers.proofs.Rows.{first_is, first_one, is_false, false_not_true, right_facts, right_made, fit_facts, right_fits, no_longer, as_long}
 
 module _ (has : ℕ → ℕ → Bool) (S : ℕ) (starts entries : List ℕ) (n : ℕ) where
   module _ (bad : ℕ) (f : Fitting has S starts entries n bad) where

@@ -1,6 +1,6 @@
 -- The check of a row table that another maker offers for our segments: which rows are right, and what the check answers. Definitions only.
 -- S segments stand in `segs`, n entries in `entries`; `starts` are the row starts of an image of H rows; `has i y` tells whether segment i has row y.
-use Rattle.std.specs.Prelude.{◌≡◌, Bool, true, false, cond, ◌&&◌, List, [], ◌∷◌, ℕ, zero, suc, ◌*◌, ◌^◌, ◌≤◌, ◌<◌, leb, eqb, Float, length, get_or}
+use Rattle.std.specs.Prelude.{◌≡◌, Bool, true, false, cond, ◌&&◌, List, [], ◌∷◌, ℕ, zero, suc, ◌*◌, ◌^◌, ◌≤◌, leb, eqb, Float, length, get_or}
 use Rattle.codes.specs.Codes.{number_of}
 use Rattle.codes.specs.declared.Code.{Code}
 use Rattle.rows.specs.Rows.{listed, entries_between, in_row}

@@ -1,5 +1,5 @@
 -- What the steps of a check tell: cited by contracts of private functions. Definitions only.
-use Rattle.std.specs.Prelude.{◌≡◌, Bool, true, false, ◌&&◌, List, [], ◌∷◌, ℕ, suc, ◌≤◌, ◌<◌, leb, ltb, get_or, length}
+use Rattle.std.specs.Prelude.{◌≡◌, Bool, true, ◌&&◌, List, [], ◌∷◌, ℕ, suc, ◌≤◌, ◌<◌, leb, ltb, get_or, length}
 use Rattle.rows.specs.Rows.{entries_between}
 use Rattle.makers.specs.Check.{starts_good}
 

@@ -1,12 +1,8 @@
-use mathlib.Core.Path.{◌≡◌, refl, sym, ◌∙◌}
-use Prim.Native.Nat.{◌-◌, ◌≤◌}
+use mathlib.Core.Path.{refl, sym, ◌∙◌}
 use native.Mathlib.Omega.{arith}
-use lib.ListN.{length, get_or}
-use lib.Seq.{slice}
-use borrow.Author.Rules.{rules}
-use borrow.Author.Tests.{le-leb, lt-leb, lt-ltb, le-ltb, not-true, not-false}
+use lib.ListN.{get_or}
+use borrow.Author.Tests.{le-leb, lt-leb, lt-ltb, le-ltb}
 use Rattle.rows.specs.Rows.{in_row}
-use Rattle.makers.specs.Steps.{rising}
 use Rattle.makers.proofs.Rows.{rising_next, rising_turn, rising_none}
 use Rattle.makers.proofs.entries_rise.Goals as goal
 
@@ -24,14 +20,14 @@ returns-then-segment_count-i c =
     let A = c.args in
     let l = c.loop-j in
     sym (l.invariant.2 ∙ rising_next _ _ _ _ _ _ c.loop-j-test.true l.invariant.1
-    ∙ rw (le-leb l.least (get_or A.entries.now l.j 0) (omega arith), le-ltb (get_or A.entries.now l.j 0) A.segment_count_lem (omega arith)))
+    ∙ rw (le-leb l.least (get_or A.entries.now l.j 0) (omega arith), le-ltb (get_or A.entries.now l.j 0) A.segment_count (omega arith)))
 
 pub returns-then-not-has_row : goal.returns-then-not-has_row
 returns-then-not-has_row c =
     let A = c.args in
     let l = c.loop-j in
     sym (l.invariant.2 ∙ rising_next _ _ _ _ _ _ c.loop-j-test.true l.invariant.1
-    ∙ rw (le-leb l.least (get_or A.entries.now l.j 0) (omega arith), lt-ltb (get_or A.entries.now l.j 0) A.segment_count_lem (omega arith), sym c.has_row.ensures ∙ not-true _ c.if-not-has_row.true))
+    ∙ rw (le-leb l.least (get_or A.entries.now l.j 0) (omega arith), lt-ltb (get_or A.entries.now l.j 0) A.segment_count (omega arith), sym c.has_row.ensures ∙ c.if-not-has_row.true))
 
 pub loop-j-preserved : goal.loop-j-preserved
 loop-j-preserved c =
@@ -40,8 +36,8 @@ loop-j-preserved c =
       omega arith,
       omega arith,
       l.invariant.2
-          ∙ rising_turn (λ i. in_row A.segments.now i A.y) A.segment_count_lem l.least l.j A.e A.entries.now c.loop-j-test.true l.invariant.1 (omega arith) (omega arith)
-          (sym c.has_row.ensures ∙ not-false _ c.if-not-has_row.false) (omega arith),
+          ∙ rising_turn (λ i. in_row A.segments.now i A.y) A.segment_count l.least l.j A.e A.entries.now c.loop-j-test.true l.invariant.1 (omega arith) (omega arith)
+          (sym c.has_row.ensures ∙ c.if-not-has_row.false) (omega arith),
     )
 
 pub returns : goal.returns

@@ -1,14 +1,10 @@
 -- `entries_rise`: the entries from j on decide, from turn to turn.
-use mathlib.Core.Path.{◌≡◌, refl, sym, ◌∙◌}
+use mathlib.Core.Path.{◌≡◌}
 use Prim.Native.Nat.{◌-◌, ◌≤◌}
-use native.Mathlib.Omega.{arith}
-use lib.ListN.{length, get_or}
+use lib.ListN.{length}
 use lib.Seq.{slice}
-use borrow.Author.Rules.{rules}
-use borrow.Author.Tests.{le-leb, lt-leb, lt-ltb, le-ltb, not-true, not-false}
 use Rattle.rows.specs.Rows.{in_row}
 use Rattle.makers.specs.Steps.{rising}
-use Rattle.makers.proofs.Rows.{rising_next, rising_turn, rising_none}
 use Rattle.makers.proofs.entries_rise.Given as goal
 
 abbrev pub invariant-loop-j : goal.invariant-loop-j

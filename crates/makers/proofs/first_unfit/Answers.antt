@@ -1,11 +1,5 @@
-use mathlib.Core.Path.{◌≡◌, sym, ◌∙◌}
-use Prim.Native.Nat.{◌-◌, ◌≤◌}
+use mathlib.Core.Path.{sym, ◌∙◌}
 use native.Mathlib.Omega.{arith}
-use borrow.Author.Rules.{rules}
-use borrow.Author.Tests.{not-true, not-false}
-use Rattle.rows.specs.Rows.{in_row}
-use Rattle.makers.specs.Check.{wrong_from}
-use Rattle.makers.specs.Steps.{row_fits}
 use Rattle.makers.proofs.Rows.{first_begin, first_next, first_stop, first_end}
 use Rattle.makers.proofs.first_unfit.Goals as goal
 
@@ -13,10 +7,10 @@ pub loop-y-init : goal.loop-y-init
 loop-y-init c = (omega arith, first_begin _ _)
 
 pub returns-then-not-row_fits : goal.returns-then-not-row_fits
-returns-then-not-row_fits c = sym (c.loop-y.invariant.1 ∙ first_stop _ _ _ (omega arith) (sym c.row_fits.ensures ∙ not-true _ c.if-not-row_fits.true))
+returns-then-not-row_fits c = sym (c.loop-y.invariant.1 ∙ first_stop _ _ _ (omega arith) (sym c.row_fits.ensures ∙ c.if-not-row_fits.true))
 
 pub loop-y-preserved : goal.loop-y-preserved
-loop-y-preserved c = (omega arith, c.loop-y.invariant.1 ∙ first_next _ _ _ (omega arith) (sym c.row_fits.ensures ∙ not-false _ c.if-not-row_fits.false))
+loop-y-preserved c = (omega arith, c.loop-y.invariant.1 ∙ first_next _ _ _ (omega arith) (sym c.row_fits.ensures ∙ c.if-not-row_fits.false))
 
 pub returns : goal.returns
 returns c = sym (c.loop-y.invariant.1 ∙ first_end _ _ _ (omega arith))

@@ -1,13 +1,9 @@
 -- `first_unfit`: what is left to scan decides, from turn to turn.
-use mathlib.Core.Path.{◌≡◌, sym, ◌∙◌}
+use mathlib.Core.Path.{◌≡◌}
 use Prim.Native.Nat.{◌-◌, ◌≤◌}
-use native.Mathlib.Omega.{arith}
-use borrow.Author.Rules.{rules}
-use borrow.Author.Tests.{not-true, not-false}
 use Rattle.rows.specs.Rows.{in_row}
 use Rattle.makers.specs.Check.{wrong_from}
 use Rattle.makers.specs.Steps.{row_fits}
-use Rattle.makers.proofs.Rows.{first_begin, first_next, first_stop, first_end}
 use Rattle.makers.proofs.first_unfit.Given as goal
 
 abbrev pub invariant-loop-y : goal.invariant-loop-y

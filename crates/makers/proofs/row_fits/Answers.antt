@@ -1,8 +1,7 @@
 -- `row_fits`: each way out is decided by the tests that led there.
-use mathlib.Core.Path.{◌≡◌, sym, ◌∙◌}
+use mathlib.Core.Path.{sym, ◌∙◌}
 use Prim.Native.Nat.{◌+◌}
 use native.Mathlib.Omega.{arith}
-use borrow.Author.Rules.{rules}
 use borrow.Author.Tests.{le-leb, lt-leb}
 use Rattle.makers.proofs.Rows.{fits_by}
 use Rattle.makers.proofs.row_fits.Goals as goal
