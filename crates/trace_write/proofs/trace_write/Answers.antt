@@ -7,7 +7,6 @@ use Rattle.trace.specs.Trace.{version1}
 use mir.Syntax.{w32}
 use mir.Facts.{to_z-of_z}
 use Rattle.trace_write.proofs.Puts.{file_put, judged, size_is, half_is, answer_fault, answer_room, answer_done}
-use borrow.Author.Rules.{rules}
 use Rattle.trace_write.proofs.trace_write.Goals as goal
 
 pub overflow_mul-size : goal.overflow_mul-size
@@ -37,7 +36,7 @@ overflow_mul-size-in-Fine-2 c =
 pub returns-then-bytes-size : goal.returns-then-bytes-size
 returns-then-bytes-size c =
     let a = c.args in
-    answer_room a.counts.now a.starts.now a.deltas.now a.coefficients.now a.adjustment (length a.bytes.now) (sym c.judge.ensures ∙ c.in-Fine.is) c.clear_u8.new.0 c.clear_u8.ensures c.if-bytes-size.true
+    answer_room a.counts.now a.starts.now a.deltas.now a.coefficients.now a.adjustment (length a.bytes.now) (sym c.judge.ensures ∙ c.in-Fine.is) c.clear_u8.new.cells c.clear_u8.ensures c.if-bytes-size.true
 
 pub overflow_cast-s : goal.overflow_cast-s
 overflow_cast-s c =
@@ -71,13 +70,13 @@ put_parts-requires c =
       points = j.points;
       rows = j.rows;
       fit = j.fit;
-      held = omega (arith, room, size_is 8 a.counts.now a.starts.now a.deltas.now a.coefficients.now j, c.put_header.auto.0);
+      held = omega (arith, room, size_is 8 a.counts.now a.starts.now a.deltas.now a.coefficients.now j, c.put_header.auto.bytes);
     }
 
 pub returns-in-Fault : goal.returns-in-Fault
 returns-in-Fault c =
     let a = c.args in
-    answer_fault a.counts.now a.starts.now a.deltas.now a.coefficients.now a.adjustment (length a.bytes.now) _ _ c.clear_u8.new.0 c.clear_u8.ensures (sym c.judge.ensures ∙ c.in-Fault.is)
+    answer_fault a.counts.now a.starts.now a.deltas.now a.coefficients.now a.adjustment (length a.bytes.now) _ _ c.clear_u8.new.cells c.clear_u8.ensures (sym c.judge.ensures ∙ c.in-Fault.is)
 
 pub returns-else-bytes-size : goal.returns-else-bytes-size
 returns-else-bytes-size c =
@@ -85,6 +84,6 @@ returns-else-bytes-size c =
     let j = judged 8 a.counts.now a.starts.now a.deltas.now a.coefficients.now (sym c.judge.ensures ∙ c.in-Fine.is) in
     let h = c.put_header in
     let z = to_z-of_z {w = w32} {z = a.adjustment} c.ranges.adjustment in
-    let put = file_put version1 [] a.counts.now a.starts.now a.deltas.now a.coefficients.now a.adjustment refl c.clear_u8.new.0 h.new.0 c.put_parts.new.1.1.1.1.0
+    let put = file_put version1 [] a.counts.now a.starts.now a.deltas.now a.coefficients.now a.adjustment refl c.clear_u8.new.cells h.new.bytes c.put_parts.new.bytes
     (rw (half_is 8 a.counts.now a.starts.now a.deltas.now a.coefficients.now j, z) at h.ensures) c.put_parts.ensures in
-    answer_done a.counts.now a.starts.now a.deltas.now a.coefficients.now a.adjustment (length a.bytes.now) (sym c.judge.ensures ∙ c.in-Fine.is) c.clear_u8.new.0 _ _ c.clear_u8.ensures refl c.if-bytes-size.false put
+    answer_done a.counts.now a.starts.now a.deltas.now a.coefficients.now a.adjustment (length a.bytes.now) (sym c.judge.ensures ∙ c.in-Fine.is) c.clear_u8.new.cells _ _ c.clear_u8.ensures refl c.if-bytes-size.false put
