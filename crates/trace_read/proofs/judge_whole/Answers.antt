@@ -3,7 +3,6 @@ use mathlib.Core.Path.{sym, ◌∙◌}
 use native.Mathlib.Omega.{arith}
 use Rattle.trace_read.specs.Steps.{rooms_from}
 use Rattle.trace_read.proofs.Loads.{sound, whole_room, whole_fault, whole_fine}
-use borrow.Author.Rules.{rules}
 use Rattle.trace_read.proofs.judge_whole.Goals as goal
 
 pub number_at-s-requires : goal.number_at-s-requires

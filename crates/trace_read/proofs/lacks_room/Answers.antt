@@ -1,6 +1,5 @@
 -- `lacks_room` meets its contract: four comparisons.
 use Rattle.trace_read.proofs.Loads.{tight_counts, tight_starts, tight_coefficients, tight_deltas}
-use borrow.Author.Rules.{rules}
 use Rattle.trace_read.proofs.lacks_room.Goals as goal
 
 pub returns-then-counts-s : goal.returns-then-counts-s
