@@ -1,7 +1,6 @@
 -- `counts_good`: each way out is decided by the tests that led there.
 use borrow.Author.Tests.{le-leb, lt-leb}
 use Rattle.makers.specs.Check.{offered_counts_good}
-use borrow.Author.Rules.{rules}
 use Rattle.makers_search.proofs.counts_good.Goals as goal
 
 pub returns-then-segment_count-gt16777216 : goal.returns-then-segment_count-gt16777216

@@ -1,5 +1,4 @@
 use mathlib.Core.Path.{◌≡◌, ap, ◌∙◌}
-use Prim.Native.Nat.{◌*◌, ◌≤◌, ◌-◌}
 use native.Mathlib.Omega.{arith}
 use native.Mathlib.Numerals.{add-one}
 use borrow.Author.Rules.{rules}
@@ -29,4 +28,4 @@ returns c =
     let e : c.loop-i.i ≡ s.count = omega arith in
     c.loop-i.invariant.1
     ∙ ap (heights (first_of s.segments.now) (past_of s.segments.now s.n)) e
-    ∙ due_is s.segments.now s.count s.n c.requires.1.1
+    ∙ due_is s.segments.now s.count s.n c.requires.n_bound

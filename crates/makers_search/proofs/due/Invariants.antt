@@ -1,12 +1,7 @@
 -- `due`: the sum is that of the segments below i, each at most n.
-use mathlib.Core.Path.{◌≡◌, ap, ◌∙◌}
+use mathlib.Core.Path.{◌≡◌}
 use Prim.Native.Nat.{◌*◌, ◌≤◌, ◌-◌}
-use native.Mathlib.Omega.{arith}
-use native.Mathlib.Numerals.{add-one}
-use borrow.Author.Rules.{rules}
 use Rattle.rows.specs.Steps.{heights, first_of, past_of}
-use Rattle.rows.proofs.Table.{past_in}
-use Rattle.makers_search.proofs.Sums.{due_is}
 use Rattle.makers_search.proofs.due.Given as goal
 
 abbrev pub invariant-loop-i : goal.invariant-loop-i

@@ -1,13 +1,7 @@
 -- `first_short`: nothing lacks before the low row, and something before the high one.
-use mathlib.Core.Path.{◌≡◌, sym, ◌∙◌}
-use Prim.Native.Nat.{suc, ◌-◌, ◌≤◌, ◌<◌}
-use native.Mathlib.Omega.{arith}
+use Prim.Native.Nat.{◌-◌, ◌≤◌, ◌<◌}
 use lib.ListN.{get_or}
-use borrow.Author.Rules.{rules}
-use borrow.Author.Tests.{ltb-true, ltb-false, not-true, not-false}
 use Rattle.rows.specs.Rows.{start_of, in_row}
-use Rattle.makers.proofs.Short.{none_short, first_short}
-use Rattle.makers_search.proofs.Sums.{begin_full, some_rows}
 use Rattle.makers_search.proofs.first_short.Given as goal
 
 abbrev pub invariant-loop-low : goal.invariant-loop-low

@@ -1,12 +1,11 @@
 -- `first_wrong`: the rows below the first that does not fit do, and it is wrong itself.
-use mathlib.Core.Path.{◌≡◌, sym, ap, ◌∙◌, subst}
+use mathlib.Core.Path.{sym, subst}
 use Prim.Native.Nat.{ℕ}
 use native.Mathlib.Omega.{arith}
 use Rattle.rows.specs.Rows.{in_row}
 use Rattle.makers.specs.Steps.{row_fits, Fitting}
 use Rattle.makers.proofs.Rows.{first_is}
 use Rattle.makers.proofs.Short.{fitting, through}
-use borrow.Author.Rules.{rules}
 use Rattle.makers_search.proofs.first_wrong.Goals as goal
 
 pub first_short-requires : goal.first_short-requires
@@ -14,14 +13,14 @@ first_short-requires c =
     let A = c.args in
     let P = c.requires in
     let e = c.first_unfit-bad.ensures in
-    let w = (first_is (row_fits (in_row A.segments.now) A.segment_count_lem A.row_starts.now A.entries.now A.entry_count_lem) 0 A.height).within in (
-      P.0,
-      (
-        omega (arith, e, w, P.1.0),
-        subst (λ (bad : ℕ). Fitting (in_row A.segments.now) A.segment_count_lem A.row_starts.now A.entries.now A.entry_count_lem bad) (sym e)
-            (fitting (in_row A.segments.now) A.segment_count_lem A.row_starts.now A.entries.now A.entry_count_lem A.height P.1.1 P.1.0.0),
-      ),
-    )
+    let w = (first_is (row_fits (in_row A.segments.now) A.segment_count A.row_starts.now A.entries.now A.entry_count) 0 A.height).within in
+    record {
+      segment_count_in_bounds = P.segment_count_in_bounds;
+      bad_bound = (omega (arith, e, w, P.entry_count_in_bounds), omega (arith, e, w, P.entry_count_in_bounds));
+      fitting =
+          subst (λ (bad : ℕ). Fitting (in_row A.segments.now) A.segment_count A.row_starts.now A.entries.now A.entry_count bad) (sym e)
+          (fitting (in_row A.segments.now) A.segment_count A.row_starts.now A.entries.now A.entry_count A.height P.row_starts_value P.entry_count_in_bounds.0);
+    }
 
 pub returns : goal.returns
 returns c = through _ _ _ _ _ _ _ _ c.first_unfit-bad.ensures c.first_short.ensures

@@ -1,11 +1,10 @@
 -- `rows_below`: the end is the lesser of the segment's and n.
 use mathlib.Core.Path.{◌≡◌, ap, ◌∙◌}
-use mathlib.Core.Logic.{⊎_elim}
 use native.Mathlib.Omega.{arith}
 use Rattle.segments.specs.Segment.{segment_at}
 use Rattle.segments.specs.Ranges.{rows_of}
 use Rattle.makers_search.proofs.Sums.{first_of_lem, past_of_lem}
-use borrow.Author.Rules.{rules}
+use Rattle.makers_search.proofs.rows_below.Goals.{then-past-n, else-past-n}
 use Rattle.makers_search.proofs.rows_below.Goals as goal
 
 pub returns-then-first-end : goal.returns-then-first-end
@@ -14,7 +13,7 @@ returns-then-first-end c =
     let e : c.rows-range.result ≡ rows_of (segment_at A.segments.now A.i) = c.rows-range.ensures ∙ ap rows_of c.at-segment.ensures in
     let a = first_of_lem A.segments.now A.i e in
     let b = past_of_lem A.segments.now A.n A.i e in
-    ⊎_elim (λ w. omega (arith, a, b)) (λ w. omega (arith, a, b)) c.if-past-n.branch
+    elim c.if-past-n.branch [ then-past-n w ↦ omega (arith, a, b) | else-past-n w ↦ omega (arith, a, b) ]
 
 pub returns-else-first-end : goal.returns-else-first-end
 returns-else-first-end c =
@@ -22,4 +21,4 @@ returns-else-first-end c =
     let e : c.rows-range.result ≡ rows_of (segment_at A.segments.now A.i) = c.rows-range.ensures ∙ ap rows_of c.at-segment.ensures in
     let a = first_of_lem A.segments.now A.i e in
     let b = past_of_lem A.segments.now A.n A.i e in
-    ⊎_elim (λ w. omega (arith, a, b)) (λ w. omega (arith, a, b)) c.if-past-n.branch
+    elim c.if-past-n.branch [ then-past-n w ↦ omega (arith, a, b) | else-past-n w ↦ omega (arith, a, b) ]

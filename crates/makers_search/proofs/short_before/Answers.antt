@@ -1,6 +1,5 @@
 -- `short_before`: what is listed against what is due.
 use native.Mathlib.Omega.{arith}
-use borrow.Author.Rules.{rules}
 use Rattle.makers_search.proofs.short_before.Goals as goal
 
 pub overflow_cast-listed : goal.overflow_cast-listed
