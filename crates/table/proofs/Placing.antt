@@ -1,20 +1,17 @@
 -- From the drawn segments to the table: the segments stand on the front of their buffer, and what stands behind them does not matter.
 use mathlib.Core.Path.{◌≡◌, ap, ◌∙◌}
 use mathlib.Core.List.{List, ◌++◌}
-use Prim.Native.Nat.{ℕ, ◌+◌, ◌*◌, ◌≤◌, ◌^◌}
+use Prim.Native.Nat.{ℕ, ◌*◌, ◌≤◌, ◌^◌}
 use native.Mathlib.Omega.{arith}
 use lib.ListN.{length, take, drop}
 use lib.Seq.{sets, take_at}
 use lib.Ieee.{Float}
 use Rattle.codes.specs.declared.Code.{Code}
-use Rattle.codes.specs.declared.Code.TheVariants as Code
 use Rattle.buffers.specs.Onto.{onto}
 use Rattle.buffers.proofs.Fronts.{sets_front}
 use Rattle.dequantize.specs.declared.Given.{Given}
 use Rattle.dequantize.specs.declared.judge.Judged.{Judged}
-use Rattle.dequantize.specs.declared.judge.Judged.TheVariants as Judged
 use Rattle.dequantize.specs.Judge.{Description}
-use Rattle.segments.specs.declared.Segment.{Segment}
 use Rattle.curve.specs.Curve.{path_room}
 use Rattle.walk.specs.Walk.{walk_room}
 use Rattle.points.specs.Points.{eights}
@@ -22,7 +19,6 @@ use Rattle.points.proofs.Adding.{length_eights}
 use Rattle.owners.specs.Owners.{owned_room}
 use Rattle.painting.specs.Painting.{Painted, All, NoRoomAt, drawn_of, DrawnOn, paint_of}
 use Rattle.painting.specs.declared.Segmented.{Segmented}
-use Rattle.painting.specs.declared.Segmented.TheVariants as Segmented
 use Rattle.rows.specs.Rows.{in_row, listed_rows}
 use Rattle.rows.proofs.Table.{rest_same}
 use Rattle.table.specs.Table.{BuildRooms, BuildOutcome, Setting, rooms_of, given_of, refused_with, after_rows, after_paint, build_of}

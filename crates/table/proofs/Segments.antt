@@ -1,8 +1,8 @@
 -- The segments of a description and the build: one list, a build whose needs are met is done, a build that is done made it, and more room changes nothing.
-use mathlib.Core.Path.{◌≡◌, refl, sym, ap, subst, ◌∙◌}
+use mathlib.Core.Path.{◌≡◌, refl, sym, ap, ◌∙◌}
 use mathlib.Core.List.{List, ◌++◌}
 use mathlib.Core.Logic.{◌⊎◌, inl, inr}
-use Prim.Native.Nat.{ℕ, suc, ◌+◌, ◌*◌, ◌≤◌, ◌<◌}
+use Prim.Native.Nat.{ℕ, suc, ◌*◌}
 use native.Mathlib.Omega.{arith}
 use lib.ListN.{length, take}
 use lib.Seq.{take_at}
@@ -17,7 +17,7 @@ use Rattle.rows.proofs.Users.{length_up_to}
 use Rattle.faint.specs.Faint.{faint_in}
 use Rattle.build_answer.specs.declared.BuildAnswer.TheVariants.{Done}
 use Rattle.table.specs.Table.{BuildRooms, Setting, BuildOutcome, given_of, refused_with, build_of}
-use Rattle.table.specs.Segments.{Makes, entry_total, NeedsMet, done_with, BuildMakes, NoLess, SameTable, MakesOne, OwnsOne, EnoughIsDone, DoneMakes, MoreRoomNeverRefuses}
+use Rattle.table.specs.Segments.{entry_total, NeedsMet, done_with, BuildMakes, NoLess, MakesOne, OwnsOne, EnoughIsDone, DoneMakes, MoreRoomNeverRefuses}
 use Rattle.table.proofs.InRooms.{painted}
 use Rattle.table.proofs.Users.{is_drawn, refused, met, Accepts, Refuses, either_way}
 

@@ -4,16 +4,14 @@ use mathlib.Core.Path.{◌≡◌, refl, sym, ap, ◌∙◌}
 use mathlib.Core.Bool.{Bool, true, false, ◌&&◌, and-false}
 use mathlib.Core.List.{List}
 use mathlib.Core.Logic.{◌⊎◌, inl, inr, ◌↔◌}
-use Prim.Native.Nat.{ℕ, suc, ◌*◌, ◌^◌, ◌≤◌, ◌<◌}
+use Prim.Native.Nat.{ℕ, suc, ◌^◌, ◌≤◌, ◌<◌}
 use native.Mathlib.Omega.{arith}
 use lib.Dec.{leb}
 use lib.ListN.{length}
 use borrow.Author.Tests.{leb-true, leb-false, le-leb, lt-leb}
 use Rattle.codes.specs.declared.Code.{Code}
-use Rattle.codes.specs.declared.Code.TheVariants as Code
 use Rattle.shape.proofs.Shape as Shape
 use Rattle.dequantize.specs.declared.judge.Judged.{Judged}
-use Rattle.dequantize.specs.declared.judge.Judged.TheVariants as Judged
 use Rattle.dequantize.specs.Judge.{Description, Shaped, total_of, judge_of}
 use Rattle.dequantize.specs.Refusals.{AllPass}
 use Rattle.dequantize.proofs.Refusals.{fine_all, all_fine, judged_exactly}
@@ -26,7 +24,7 @@ use Rattle.rows.specs.Rows.{in_row}
 use Rattle.rows.proofs.Users.{room_when, table_when, either}
 use Rattle.build_answer.specs.declared.BuildAnswer.TheVariants.{Refused}
 use Rattle.table.specs.Table.{BuildRooms, Setting, BuildOutcome, given_of, refused_with, after_rows, after_paint, after_judge, build_of}
-use Rattle.verdict.specs.Verdict.{sized, shaped, or_refused, verdict_of}
+use Rattle.verdict.specs.Verdict.{sized, shaped, verdict_of}
 use Rattle.table.specs.Segments.{entry_total, Fits, NeedsMet, done_with}
 use Rattle.table.specs.Refusals.{BuildRefusal, size, shape, starts, judged, drawing, entries}
 use Rattle.table.proofs.InRooms.{painted}

@@ -2,7 +2,6 @@
 -- Codes 5 and 10 to 13 are `SplineRefusal` of the crate dequantize, drawing's ROOM is `SplineLacks` of painting. That a build refuses exactly so is `refused_exactly` of proofs/Users.antt.
 use Rattle.std.specs.Prelude.{◌⊎◌, List, ℕ, ◌^◌, ◌≤◌, ◌<◌, length}
 use Rattle.codes.specs.declared.Code.{Code}
-use Rattle.codes.specs.declared.Code.TheVariants as Code
 use Rattle.dequantize.specs.Judge.{Description, Shaped}
 use Rattle.dequantize.specs.Refusals.{AllPass, FirstRefused}
 use Rattle.segments.specs.declared.Segment.{Segment}

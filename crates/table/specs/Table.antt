@@ -3,7 +3,6 @@ use Rattle.std.specs.Prelude.{Bool, ℕ, ◌*◌, ℤ, length, Float}
 use Rattle.codes.specs.declared.Code.TheVariants as Code
 use Rattle.dequantize.specs.declared.Given.{Given}
 use Rattle.dequantize.specs.declared.judge.Judged.{Judged}
-use Rattle.dequantize.specs.declared.judge.Judged.TheVariants as Judged
 use Rattle.dequantize.specs.Limits.{spline_area_limit}
 use Rattle.dequantize.specs.Judge.{Description}
 use Rattle.verdict.specs.Verdict.{verdict_of}

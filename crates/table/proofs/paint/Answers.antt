@@ -6,25 +6,24 @@ use Rattle.dequantize.specs.Judge.{description_of}
 use Rattle.curve.specs.Curve.{path_room}
 use Rattle.walk.specs.Walk.{walk_room}
 use Rattle.owners.specs.Owners.{owned_room}
-use Rattle.painting.specs.Painting.{Painted, paint_of}
+use Rattle.painting.specs.Painting.{paint_of}
 use Rattle.table.proofs.Placing.{painted_fits, refused_none, listed_all}
-use borrow.Author.Rules.{rules}
 use Rattle.table.proofs.paint.Goals as goal
 
 pub list_segments-requires : goal.list_segments-requires
 list_segments-requires c =
     let d = c.draw_all in
-    let f = painted_fits c.args.segments.now _ c.args.owners.now _ ((paint_of (description_of c.args.counts.now c.args.starts.now c.args.deltas.now c.args.coefficients.now) c.args.given c.args.high_precision (path_room (length c.args.path.now)) (walk_room (length c.args.walk.now)) (owned_room (length c.args.segments.now) (length c.args.owners.now)))) d.ensures.1 c.in-Count.count (sym d.ensures.0 ∙ c.in-Count.is) in
-    (omega (arith, f.0, d.auto.1.1.1.1.1.1.1.1.0), omega (arith, f.1, d.auto.1.1.1.1.1.1.1.1.1.0), f.2, c.requires.2, c.requires.3)
+    let f = painted_fits c.args.segments.now _ c.args.owners.now _ (paint_of (description_of c.args.counts.now c.args.starts.now c.args.deltas.now c.args.coefficients.now) c.args.given c.args.high_precision (path_room (length c.args.path.now)) (walk_room (length c.args.walk.now)) (owned_room (length c.args.segments.now) (length c.args.owners.now))) d.ensures.1 c.in-Count.count (sym d.ensures.0 ∙ c.in-Count.is) in
+    (omega (arith, f.0, d.auto.out), omega (arith, f.1, d.auto.owners), f.2, c.requires.2, c.requires.3)
 
 pub returns-in-Room : goal.returns-in-Room
 returns-in-Room c =
     let d = c.draw_all in
-    refused_none c.args.path.now c.args.walk.now c.args.segments.now c.args.owners.now c.args.row_starts.now c.args.entries.now d.new.1.1.1.1.1.1.0 d.new.1.1.1.1.1.1.1.0 d.new.1.1.1.1.1.1.1.1.0 d.new.1.1.1.1.1.1.1.1.1.0 d.auto.1.1.1.1.1.1.0 d.auto.1.1.1.1.1.1.1.0 d.auto.1.1.1.1.1.1.1.1.0 d.auto.1.1.1.1.1.1.1.1.1.0
-    c.args.height c.args.estimate ((paint_of (description_of c.args.counts.now c.args.starts.now c.args.deltas.now c.args.coefficients.now) c.args.given c.args.high_precision (path_room (length c.args.path.now)) (walk_room (length c.args.walk.now)) (owned_room (length c.args.segments.now) (length c.args.owners.now)))) c.in-Room.k c.refuse.ensures (sym d.ensures.0 ∙ c.in-Room.is)
+    refused_none c.args.path.now c.args.walk.now c.args.segments.now c.args.owners.now c.args.row_starts.now c.args.entries.now d.new.path d.new.walk d.new.out d.new.owners d.auto.path d.auto.walk d.auto.out d.auto.owners
+    c.args.height c.args.estimate (paint_of (description_of c.args.counts.now c.args.starts.now c.args.deltas.now c.args.coefficients.now) c.args.given c.args.high_precision (path_room (length c.args.path.now)) (walk_room (length c.args.walk.now)) (owned_room (length c.args.segments.now) (length c.args.owners.now))) c.in-Room.k c.refuse.ensures (sym d.ensures.0 ∙ c.in-Room.is)
 
 pub returns-in-Count : goal.returns-in-Count
 returns-in-Count c =
     let d = c.draw_all in
-    listed_all c.args.path.now c.args.walk.now c.args.segments.now c.args.owners.now c.args.row_starts.now c.args.entries.now d.new.1.1.1.1.1.1.0 d.new.1.1.1.1.1.1.1.0 d.new.1.1.1.1.1.1.1.1.0 d.new.1.1.1.1.1.1.1.1.1.0 d.auto.1.1.1.1.1.1.0 d.auto.1.1.1.1.1.1.1.0 d.auto.1.1.1.1.1.1.1.1.0 d.auto.1.1.1.1.1.1.1.1.1.0
-    c.args.height c.args.estimate ((paint_of (description_of c.args.counts.now c.args.starts.now c.args.deltas.now c.args.coefficients.now) c.args.given c.args.high_precision (path_room (length c.args.path.now)) (walk_room (length c.args.walk.now)) (owned_room (length c.args.segments.now) (length c.args.owners.now)))) c.in-Count.count c.list_segments.ensures d.ensures.1 (sym d.ensures.0 ∙ c.in-Count.is)
+    listed_all c.args.path.now c.args.walk.now c.args.segments.now c.args.owners.now c.args.row_starts.now c.args.entries.now d.new.path d.new.walk d.new.out d.new.owners d.auto.path d.auto.walk d.auto.out d.auto.owners
+    c.args.height c.args.estimate (paint_of (description_of c.args.counts.now c.args.starts.now c.args.deltas.now c.args.coefficients.now) c.args.given c.args.high_precision (path_room (length c.args.path.now)) (walk_room (length c.args.walk.now)) (owned_room (length c.args.segments.now) (length c.args.owners.now))) c.in-Count.count c.list_segments.ensures d.ensures.1 (sym d.ensures.0 ∙ c.in-Count.is)
