@@ -1,8 +1,5 @@
 -- `banding::say_bands` ends: it goes through the bands in order.
-use Prim.Native.Nat.{◌+◌, ◌-◌, ◌*◌, ◌≤◌, ◌<◌}
-use mathlib.Core.Path.{◌≡◌}
-use lib.ListN.{length}
-use borrow.Author.Rules.{rules}
+use Prim.Native.Nat.{◌-◌, ◌≤◌}
 use Rattle.banding.proofs.say_bands.Given as goal
 
 abbrev pub invariant-loop-b : goal.invariant-loop-b

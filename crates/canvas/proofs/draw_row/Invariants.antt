@@ -1,6 +1,5 @@
 -- `canvas::draw_row` ends: each strip has a pixel, and none goes past the width.
 use Prim.Native.Nat.{◌-◌, ◌≤◌}
-use borrow.Author.Rules.{rules}
 use Rattle.canvas.proofs.draw_row.Given as goal
 
 abbrev pub invariant-loop-x0 : goal.invariant-loop-x0

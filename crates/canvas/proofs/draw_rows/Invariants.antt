@@ -1,6 +1,5 @@
 -- `canvas::draw_rows` ends: it goes through the rows in order.
 use Prim.Native.Nat.{◌-◌, ◌≤◌}
-use borrow.Author.Rules.{rules}
 use Rattle.canvas.proofs.draw_rows.Given as goal
 
 abbrev pub invariant-loop-k : goal.invariant-loop-k

@@ -1,6 +1,5 @@
 -- `canvas::rows_held` ends: it goes through the rows in order, and counts no more than it saw.
 use Prim.Native.Nat.{◌-◌, ◌≤◌}
-use borrow.Author.Rules.{rules}
 use Rattle.canvas.proofs.rows_held.Given as goal
 
 abbrev pub invariant-loop-y : goal.invariant-loop-y

@@ -1,8 +1,6 @@
 -- `canvas::shown_in` ends, and counts no more than it saw.
-use Prim.Native.Nat.{◌+◌, ◌-◌, ◌*◌, ◌≤◌, ◌<◌}
-use mathlib.Core.Path.{◌≡◌}
+use Prim.Native.Nat.{◌-◌, ◌≤◌}
 use lib.ListN.{length}
-use borrow.Author.Rules.{rules}
 use Rattle.canvas.proofs.shown_in.Given as goal
 
 abbrev pub invariant-loop-k : goal.invariant-loop-k

@@ -1,6 +1,6 @@
 -- `drawing::mean_sigma` meets its contract: the operations are the definition's.
 use Rattle.drawing.specs.Thickness.{mean_sigma}
-use Rattle.std.proofs.Common.{to_z-of_z, w32, rules}
+use Rattle.std.proofs.Common.{to_z-of_z, w32}
 use Rattle.drawing.proofs.mean_sigma.Goals as goal
 
 pub returns : goal.returns

@@ -1,6 +1,5 @@
 -- `drawing::thickness` meets its contract: the operations are the definition's.
 use Rattle.drawing.specs.Thickness.{hundredths_of}
-use Rattle.std.proofs.Common.{rules}
 use Rattle.drawing.proofs.thickness.Goals as goal
 
 pub returns : goal.returns

@@ -1,5 +1,5 @@
 -- `drawing::traces` ends: it goes through the splines in order.
-use Rattle.std.proofs.Common.{◌≡◌, ◌-◌, ◌≤◌, length, rules}
+use Rattle.std.proofs.Common.{◌≡◌, ◌-◌, ◌≤◌, length}
 use Rattle.drawing.proofs.traces.Given as goal
 
 abbrev pub invariant-loop-k : goal.invariant-loop-k

@@ -1,8 +1,6 @@
 -- `fineness::first_other` ends: it goes through the numbers in order.
-use Prim.Native.Nat.{◌+◌, ◌-◌, ◌*◌, ◌≤◌, ◌<◌}
-use mathlib.Core.Path.{◌≡◌}
+use Prim.Native.Nat.{◌-◌, ◌≤◌}
 use lib.ListN.{length}
-use borrow.Author.Rules.{rules}
 use Rattle.fineness.proofs.first_other.Given as goal
 
 abbrev pub invariant-loop-i : goal.invariant-loop-i
