@@ -1,19 +1,17 @@
 -- A file that does not say version 2 is read as `trace_read` reads it, with edition 1; one that does has a header of nine numbers. Writing version 1 with edition 1 is `trace_write`.
-use mathlib.Core.Path.{◌≡◌, refl, sym, ap, subst, ◌∙◌}
-use mathlib.Core.Bool.{Bool, true, false, not, ◌||◌, ◌&&◌}
+use mathlib.Core.Path.{◌≡◌, refl, sym, ap, ◌∙◌}
+use mathlib.Core.Bool.{Bool, true, false, not}
 use mathlib.Core.List.{List, [], ◌∷◌, ◌++◌, map}
 use Prim.Native.Nat.{ℕ, ◌*◌, ◌≤◌, ◌<◌}
-use native.Mathlib.Omega.{arith}
-use lib.Dec.{T, eqb, ltb}
+use lib.Dec.{eqb, ltb}
 use lib.ListN.{length, get_or}
 use lib.IntN.{ℤ}
 use lib.Ieee.{Float}
-use borrow.Author.Tests.{lt-ltb, le-ltb, ltb-true, ltb-false, eq-eqb, ne_eqb, eqb-true, eqb-false}
+use borrow.Author.Tests.{lt-ltb, le-ltb, eq-eqb, ne_eqb, eqb-true, eqb-false}
 use Rattle.codes.specs.declared.Code.{Code}
 use Rattle.codes.specs.declared.Code.TheVariants.{Short, Room, Shape, Header, Edition}
 use Rattle.shape.specs.Shape.{points_of}
-use Rattle.list.specs.List.{ListRooms, Got, got, stop, Described, described}
-use Rattle.reader.specs.Read.{ReadOutcome, outcome}
+use Rattle.list.specs.List.{ListRooms, described}
 use Rattle.writer.specs.Write.{Check, check, first_fault, misshapen, whole_of, WriteOutcome}
 use Rattle.writer.specs.Write as writing
 use Rattle.write_judge.specs.declared.Verdict.{Verdict}
@@ -21,7 +19,7 @@ use Rattle.write_judge.specs.declared.Verdict.TheVariants.{Fine, Fault}
 use Rattle.write_judge.proofs.Checks.{fails, passes, faults_before, fine_before}
 use Rattle.little.specs.Little.{numbers_in}
 use Rattle.trace.specs.Trace.{version1, numbers_of, file_of}
-use Rattle.trace.specs.Read.{splines_in, points_in, version_checks, offset_checks, body_checks, read_checks, tight, whole_checks, described_in, judged, read_trace, read_trace_of}
+use Rattle.trace.specs.Read.{splines_in, points_in, version_checks, offset_checks, body_checks, read_checks, tight, whole_checks, read_trace, read_trace_of}
 use Rattle.trace.specs.Write.{header_checks, value_checks, write_checks, write_trace_of}
 use Rattle.trace2.specs.Editions.{unknown, header_long, edition_in}
 use Rattle.trace2.specs.Read.{laid_checks, file_checks, whole_checks2, read_file, with_edition, read_file_of}

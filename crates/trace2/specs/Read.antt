@@ -1,5 +1,5 @@
 -- Reading a trace file of either version: the checks in their order, what an accepted file says, and what a call of `trace_read2` leaves.
-use Rattle.std.specs.Prelude.{Bool, List, [], ◌∷◌, ◌++◌, ℕ, ◌*◌, ltb, length, get_or, ℤ, Float}
+use Rattle.std.specs.Prelude.{List, [], ◌∷◌, ◌++◌, ℕ, ◌*◌, ltb, length, get_or, ℤ, Float}
 use Rattle.codes.specs.declared.Code.TheVariants.{Short, Room, Header, Edition}
 use Rattle.list.specs.List.{ListRooms, Got, Described}
 use Rattle.reader.specs.Read.{ReadOutcome, outcome}
