@@ -6,7 +6,7 @@ use Rattle.dequantize.specs.Judge.{Description}
 use Rattle.table.specs.Table.{BuildRooms, Setting, BuildOutcome, build_of}
 use Rattle.profile.specs.declared.ProfileAnswer.{ProfileAnswer}
 use Rattle.profile_told.specs.declared.ProfileBuildAnswer.TheVariants.{Broken, Refused}
-use Rattle.profile_build.specs.Building.{ProfileBuildOutcome, check_profile_of, stopped_with, as_built, after_check, build_profile_of}
+use Rattle.profile_build.specs.Building.{check_profile_of, stopped_with, as_built, after_check, build_profile_of}
 
 module _ (d : Description) (i : Setting) (e : ℕ) (r : BuildRooms) where
   abbrev Checked : ProfileAnswer → Type 0

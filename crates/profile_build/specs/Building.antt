@@ -1,7 +1,6 @@
 -- Building by profile: SIZE, SHAPE, EDITION, PROFILE, then as building. Definitions only.
 use Rattle.std.specs.Prelude.{cond, List, ℕ, ℤ, replicate, Float}
 use Rattle.codes.specs.declared.Code.{Code}
-use Rattle.codes.specs.declared.Code.TheVariants as Code
 use Rattle.dequantize.specs.Judge.{Description}
 use Rattle.build_answer.specs.declared.BuildAnswer.{BuildAnswer}
 use Rattle.table.specs.Table.{BuildRooms, Setting, BuildOutcome, zeros, build_of}

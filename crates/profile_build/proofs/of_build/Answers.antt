@@ -1,5 +1,4 @@
 -- `of_build`: an answer, case by case.
-use borrow.Author.Rules.{rules}
 use Rattle.profile_build.proofs.of_build.Goals as goal
 
 pub returns-in-Done : goal.returns-in-Done
