@@ -1,5 +1,4 @@
 -- `first_of` meets its contract: a match.
-use borrow.Author.Rules.{rules}
 use Rattle.trace2_judge.proofs.first_of.Goals as goal
 
 pub returns-in-Fault : goal.returns-in-Fault

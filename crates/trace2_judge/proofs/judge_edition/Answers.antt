@@ -2,7 +2,6 @@
 use mathlib.Core.Path.{sym, ap, ◌∙◌}
 use Rattle.trace2.specs.Editions.{unknown}
 use Rattle.trace2_judge.proofs.Laid.{edition_fault, edition_fine}
-use borrow.Author.Rules.{rules}
 use Rattle.trace2_judge.proofs.judge_edition.Goals as goal
 
 pub returns-then-unknown : goal.returns-then-unknown

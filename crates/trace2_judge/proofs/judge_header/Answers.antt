@@ -7,7 +7,6 @@ use Rattle.little.specs.Little.{numbers_in}
 use Rattle.trace.specs.Read.{offset_checks}
 use Rattle.trace2.specs.Editions.{unknown}
 use Rattle.trace2_judge.proofs.Laid.{first_then}
-use borrow.Author.Rules.{rules}
 use Rattle.trace2_judge.proofs.judge_header.Goals as goal
 
 pub returns : goal.returns
