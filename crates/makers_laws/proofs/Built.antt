@@ -4,7 +4,7 @@ use mathlib.Core.List.{List}
 use Prim.Native.Nat.{ℕ, suc, ◌+◌, ◌*◌, ◌<◌}
 use native.Mathlib.Numerals.{add-one}
 use native.Mathlib.Omega.{arith}
-use lib.ListN.{length, get_or, take}
+use lib.ListN.{length, get_or}
 use lib.Seq.{take-take, length-take-le}
 use Rattle.rows.specs.Rows.{start_of, in_row}
 use Rattle.table.specs.Table.{Setting, BuildRooms, BuildOutcome}

@@ -9,7 +9,7 @@ use Rattle.segments.specs.Segment.{segment_at}
 use Rattle.rows.proofs.Counts.{split}
 use Rattle.desks.specs.Desks.{Sight}
 use Rattle.checks.specs.Tables.{Table, table_of}
-use Rattle.checks.specs.Refusals.{CountsFit, CountsFitFor, OverrunFor, owners_short}
+use Rattle.checks.specs.Refusals.{CountsFit, CountsFitFor, owners_short}
 use Rattle.checks.specs.Alike.{AlikeFor, Kept}
 use Rattle.checks.proofs.Alike.{kept_segment}
 use Rattle.draw.specs.Draw.{Channels, draw_of}

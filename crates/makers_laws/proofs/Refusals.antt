@@ -1,7 +1,7 @@
 -- The check accepts exactly the table that is right, and refuses with a code at a place exactly when the request says.
 use mathlib.Core.Path.{◌≡◌, refl, sym, ap, ◌∙◌, subst}
 use mathlib.Core.Logic.{◌↔◌, ◌⊎◌, inl, inr, ⊎_elim}
-use mathlib.Core.Bool.{Bool, true, false}
+use mathlib.Core.Bool.{true, false}
 use mathlib.Core.List.{List}
 use Prim.Native.Nat.{ℕ, zero, suc, ◌*◌, ◌^◌, ◌≤◌, ◌<◌}
 use native.Mathlib.Omega.{arith}
@@ -15,8 +15,8 @@ use Rattle.rows.proofs.Counts.{split}
 use Rattle.makers.specs.declared.CheckAnswer.{CheckAnswer}
 use Rattle.makers.specs.declared.CheckAnswer.TheVariants.{Done, Refused}
 use Rattle.makers.specs.Check.{row_right, RowRight, wrong_from, offered_counts_good, check_of}
-use Rattle.makers.specs.Refusals.{OfferedCountsFit, OfferedOverrun, many_segments, segments_short, many_entries, entries_short, Fits, RowGood, TableRight, FirstWrong, wrong_row, first_start, left_over, CheckAccepted, CheckRefusal, size, shape, counts, row}
-use Rattle.makers.proofs.Rows.{First, first_is, first_one, is_false, true_or_false, false_not_true, right_facts, right_made}
+use Rattle.makers.specs.Refusals.{OfferedCountsFit, OfferedOverrun, many_segments, segments_short, many_entries, entries_short, Fits, RowGood, FirstWrong, wrong_row, first_start, left_over, CheckAccepted, CheckRefusal, size, shape, counts, row}
+use Rattle.makers.proofs.Rows.{first_is, first_one, is_false, true_or_false, false_not_true, right_facts, right_made}
 use Rattle.makers_search.proofs.Answers.{counts_facts, at_size, at-shape, at-counts, at_first, at_row, at-end, at_done}
 
 same_or_not : (a b : ℕ) → (a ≡ b) ⊎ (a ≡ b → ⊥)

@@ -11,7 +11,7 @@ use Rattle.buffers.specs.Padded.{padded}
 use Rattle.segments.specs.declared.Segment.{Segment}
 use Rattle.segments.specs.Segment.{segment_at}
 use Rattle.segments.specs.Ranges.{has_row}
-use Rattle.rows.specs.Rows.{listed, rows, start_of, up_to, in_row}
+use Rattle.rows.specs.Rows.{rows, start_of, up_to, in_row}
 use Rattle.rows.proofs.Counts.{split, start_suc}
 use Rattle.rows.proofs.Users.{length_up_to, checked}
 use Rattle.checks.specs.Tables.{Table}
