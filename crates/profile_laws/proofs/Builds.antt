@@ -1,15 +1,14 @@
 -- What a build by profile answers, exactly when, and that it is a build where it gets as far.
-use mathlib.Core.Path.{◌≡◌, refl, sym, ap, subst, ◌∙◌}
+use mathlib.Core.Path.{◌≡◌, refl, sym, ap, ◌∙◌}
 use mathlib.Core.Bool.{Bool, true, false, ◌&&◌, and-false}
 use mathlib.Core.List.{List}
 use mathlib.Core.Logic.{◌⊎◌, inl, inr, ◌↔◌}
-use Prim.Native.Nat.{ℕ, ◌^◌, ◌≤◌, ◌<◌}
+use Prim.Native.Nat.{ℕ, ◌^◌, ◌<◌}
 use native.Mathlib.Omega.{arith}
 use lib.Dec.{leb}
 use lib.IntN.{ℤ}
 use borrow.Author.Tests.{leb-true, leb-false, le-leb, lt-leb}
 use Rattle.codes.specs.declared.Code.{Code}
-use Rattle.codes.specs.declared.Code.TheVariants as Code
 use Rattle.dequantize.specs.Judge.{Description}
 use Rattle.control_points.specs.Refusals as tracing
 use Rattle.dequantize.specs.Refusals as judging
@@ -23,7 +22,6 @@ use Rattle.table.specs.Refusals as building
 use Rattle.table.proofs.Users.{refused, refused_exactly}
 use Rattle.verdict.proofs.Checks.{both}
 use Rattle.profile.specs.declared.ProfileAnswer.{ProfileAnswer}
-use Rattle.profile.specs.Profile.{answer_of}
 use Rattle.profile_told.specs.declared.ProfileBuildAnswer.{ProfileBuildAnswer}
 use Rattle.profile_told.specs.declared.ProfileBuildAnswer.TheVariants.{Done, Broken, Refused}
 use Rattle.profile_build.specs.Building.{ProfileBuildOutcome, of_build, stopped_with, as_built, check_profile_of, after_check, build_profile_of}

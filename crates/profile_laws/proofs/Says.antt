@@ -8,12 +8,10 @@ use lib.Dec.{eqb}
 use lib.IntN.{ℤ}
 use borrow.Author.Tests.{eqb-true, eqb-false, ne_eqb}
 use Rattle.codes.specs.declared.Code.{Code}
-use Rattle.codes.specs.declared.Code.TheVariants as Code
 use Rattle.shape.specs.Shape.{shaped}
 use Rattle.shape.proofs.Shape.{is_shaped, shaped_is, not_shaped}
 use Rattle.dequantize.specs.Judge.{Description, Shaped}
 use Rattle.editions.specs.declared.Limits.{Limits}
-use Rattle.editions.specs.declared.Edition.{Edition}
 use Rattle.editions.specs.declared.Edition.TheVariants.{Known, Unknown}
 use Rattle.profile_rules.specs.declared.Finding.{Finding}
 use Rattle.profile.specs.declared.ProfileAnswer.{ProfileAnswer}

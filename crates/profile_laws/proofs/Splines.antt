@@ -3,7 +3,7 @@ use mathlib.Core.Path.{◌≡◌, refl, sym, ap, ◌∙◌}
 use mathlib.Core.Bool.{Bool, true, false, true≢false}
 use mathlib.Core.List.{List}
 use mathlib.Core.Logic.{◌⊎◌, inl, inr}
-use Prim.Native.Nat.{ℕ, zero, suc, ◌+◌, ◌-◌, ◌*◌, ◌≤◌, ◌<◌}
+use Prim.Native.Nat.{ℕ, zero, suc, ◌+◌, ◌*◌, ◌≤◌, ◌<◌}
 use native.Mathlib.Nat.{zero-add}
 use native.Mathlib.Omega.{arith}
 use lib.Dec.{leb}
@@ -14,10 +14,9 @@ use borrow.Author.Tests.{leb-true, leb-false}
 use Rattle.dequantize.specs.Judge.{Description}
 use Rattle.editions.specs.declared.Limits.{Limits}
 use Rattle.profile_rules.specs.declared.Finding.{Finding}
-use Rattle.profile_rules.specs.declared.Finding.TheVariants as Finding
 use Rattle.profile.specs.Profile.{kept, first_finding, counted, within, zero_from, deltas_finding, sigma_finding, colour_finding, spline_finding, splines_finding, rules_finding}
-use Rattle.profile_laws.specs.Rules.{Rule1, Rule3, Rule6, SplineMeets, MeetsRules, SplineBreaks, second, fourth, fifth, sixth, FirstBroken, first, third, spline}
-use Rattle.profile_laws.proofs.Tests.{Settles, failed, fails, rule1, rule2, rule3, rule4, rule5, colours_hold, x_zero, b_zero}
+use Rattle.profile_laws.specs.Rules.{Rule1, Rule3, SplineMeets, MeetsRules, SplineBreaks, second, fourth, fifth, sixth, FirstBroken, first, third, spline}
+use Rattle.profile_laws.proofs.Tests.{failed, fails, rule1, rule2, rule3, rule4, rule5, colours_hold, x_zero, b_zero}
 
 same_or_later : (k j : ℕ) → k ≤ j → (j ≡ k) ⊎ (suc k ≤ j)
 same_or_later k j h = go (leb (suc k) j) refl

@@ -1,6 +1,6 @@
 -- Each test of the profile against its rule: it passes exactly where the rule holds.
 use mathlib.Core.Path.{◌≡◌, refl, sym, ap, subst, ◌∙◌}
-use mathlib.Core.Bool.{Bool, true, false, cond, true≢false}
+use mathlib.Core.Bool.{Bool, true, false, true≢false}
 use mathlib.Core.List.{List}
 use Prim.Native.Nat.{ℕ, zero, suc, ◌+◌, ◌-◌, ◌*◌, ◌≤◌, ◌<◌}
 use native.Mathlib.Omega.{arith}
@@ -13,7 +13,7 @@ use Rattle.codes.proofs.Decides.{both}
 use Rattle.dequantize.specs.Judge.{Description}
 use Rattle.editions.specs.declared.Limits.{Limits}
 use Rattle.profile.specs.Profile.{counted, within, zero_from}
-use Rattle.profile_laws.specs.Rules.{FromTo, FromToℤ, x_at, b_at, sigma_at, Rule1, Rule2, Rule3, Rule4, Rule5, Rule6}
+use Rattle.profile_laws.specs.Rules.{FromTo, FromToℤ, Rule1, Rule2, Rule3, Rule4, Rule5, Rule6}
 
 -- the test passes exactly where the statement holds
 pub record Settles (b : Bool) (R : Type 0) : Type 0 where

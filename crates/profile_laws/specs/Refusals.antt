@@ -2,7 +2,6 @@
 -- That a build by profile refuses exactly so is `build_refused_exactly` of proofs/Builds.antt.
 use Rattle.std.specs.Prelude.{◌≡◌, ◌⊎◌, ℕ, ◌^◌, ◌≤◌, ◌<◌}
 use Rattle.codes.specs.declared.Code.{Code}
-use Rattle.codes.specs.declared.Code.TheVariants as Code
 use Rattle.dequantize.specs.Judge.{Description, Shaped}
 use Rattle.table.specs.Table.{Setting, BuildRooms, build_of}
 use Rattle.build_answer.specs.declared.BuildAnswer.{BuildAnswer}

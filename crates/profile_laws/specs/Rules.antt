@@ -2,7 +2,6 @@
 -- That a check says so exactly is `says_exactly` of proofs/Says.antt.
 use Rattle.std.specs.Prelude.{◌≡◌, ℕ, ◌+◌, ◌*◌, ◌≤◌, ◌<◌, ℤ, pos, ◌≤ℤ◌, length, get_or}
 use Rattle.codes.specs.declared.Code.{Code}
-use Rattle.codes.specs.declared.Code.TheVariants as Code
 use Rattle.dequantize.specs.Judge.{Description, Shaped}
 use Rattle.editions.specs.declared.Limits.{Limits}
 use Rattle.profile.specs.declared.ProfileAnswer.{ProfileAnswer}
