@@ -8,10 +8,8 @@ use lib.ListN.{length, length-append}
 use Rattle.numbers.specs.Arith.{0·0}
 use Rattle.buffers.specs.Padded.{padded}
 use Rattle.codes.specs.declared.Code.{Code}
-use Rattle.codes.specs.declared.Code.TheVariants as Code
 use Rattle.dequantize.specs.declared.Given.{Given}
 use Rattle.dequantize.specs.declared.judge.Judged.{Judged}
-use Rattle.dequantize.specs.declared.judge.Judged.TheVariants as Judged
 use Rattle.dequantize.specs.Judge.{Description, judge_of}
 use Rattle.segments.specs.declared.Segment.{Segment}
 use Rattle.curve.specs.Curve.{path_room}
@@ -22,7 +20,6 @@ use Rattle.points.specs.Points.{eights}
 use Rattle.points.proofs.Adding.{count_got}
 use Rattle.strand.specs.Strand.{Strand, NoRoom, Segments, strand_filled, segments_of}
 use Rattle.rows.specs.declared.Listed.{Listed}
-use Rattle.rows.specs.declared.Listed.TheVariants as Listed
 use Rattle.rows.specs.Rows.{in_row, RowsOutcome, outcome, listed_rows}
 use Rattle.owners.specs.Owners.{owned_room, owners_of}
 use Rattle.painting.specs.Painting.{strand_of_spline, Painted, All, NoRoomAt, after_strand, paint_from, paint_of}

@@ -14,7 +14,7 @@ use borrow.Author.Tests.{eq-eqb, ne_eqb, leb-true, leb-false}
 use Rattle.dequantize.specs.declared.Given.{Given}
 use Rattle.dequantize.specs.Judge.{Description}
 use Rattle.segments.specs.declared.Segment.{Segment}
-use Rattle.segments.specs.Segment.{segment_at, eight_of}
+use Rattle.segments.specs.Segment.{eight_of}
 use Rattle.points.specs.Points.{eights}
 use Rattle.owners.specs.Owners.{owners_of}
 use Rattle.painting.specs.Segments.{SplineMakes, MakesUpTo, none_made, one_made}

@@ -2,10 +2,10 @@
 use mathlib.Core.Path.{◌≡◌, refl, sym, ap, subst, ◌∙◌}
 use mathlib.Core.Bool.{Bool, true, false, not}
 use mathlib.Core.List.{List, [], ◌∷◌}
-use Prim.Native.Nat.{ℕ, zero, suc, ◌+◌, ◌-◌, ◌*◌, ◌≤◌, ◌<◌}
+use Prim.Native.Nat.{ℕ, suc, ◌-◌, ◌*◌, ◌<◌}
 use native.Mathlib.Nat.{mul-pos}
 use native.Mathlib.Omega.{arith}
-use lib.Dec.{ltb, lit<}
+use lib.Dec.{lit<}
 use lib.IntN.{ℤ, pos, negsuc}
 use lib.Signed.{mag}
 use lib.ListN.{length, get_or}
@@ -21,7 +21,7 @@ use Rattle.dequantize.specs.declared.Given.{Given}
 use Rattle.control_points.specs.declared.Pair.{Pair}
 use Rattle.control_points.specs.declared.Start.TheVariants.{At}
 use Rattle.control_points.specs.ControlPoints.{stand_at, later_points, control_points}
-use Rattle.dequantize.specs.Judge.{Description, deltas_of, spline_of, total_of}
+use Rattle.dequantize.specs.Judge.{Description, deltas_of, total_of}
 use Rattle.dequantize.specs.Refusals.{AllPass}
 use Rattle.dequantize.proofs.Refusals.{all_fine}
 use Rattle.dequantize.proofs.Judgement.{fine_accepted}
@@ -30,7 +30,7 @@ use Rattle.segments.specs.declared.Segment.{Segment}
 use Rattle.curve.specs.declared.Point.{Point}
 use Rattle.curve.specs.Curve as Curve
 use Rattle.curve.specs.Curve.{point_of, path_of}
-use Rattle.walk.specs.Walk.{PointToDraw, Ended, to_draw, Walks, walk_in, walk_from, stretch_of, stretch_in, point_at, distance_of, walk_length, last_multiplier}
+use Rattle.walk.specs.Walk.{Ended, to_draw, Walks, walk_in, walk_from, stretch_of, stretch_in, point_at, distance_of, walk_length, last_multiplier}
 use Rattle.walk.proofs.Fuel.{walk_one}
 use Rattle.strand.specs.Strand.{walk_segments}
 use Rattle.painting.specs.Segments.{SplineMakes}

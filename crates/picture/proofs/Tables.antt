@@ -20,7 +20,6 @@ use Rattle.segments.specs.Ranges.{has_row}
 use Rattle.points.specs.Points.{eights}
 use Rattle.points.proofs.Adding.{length_eights}
 use Rattle.rows.specs.declared.Listed.{Listed}
-use Rattle.rows.specs.declared.Listed.TheVariants as Listed
 use Rattle.rows.specs.Rows as rows
 use Rattle.rows.specs.Rows.{in_row, listed, up_to, start_of, RowsOutcome}
 use Rattle.rows.proofs.Counts.{listed_in, by_row}

@@ -10,7 +10,6 @@ use Rattle.segments.specs.declared.Segment.{Segment}
 use Rattle.segments.specs.Ranges.{has_row, has_column}
 use Rattle.shade.specs.Shade.{shaded}
 use Rattle.rows.specs.Rows.{listed, rows, start_of, up_to, in_row}
-use Rattle.rows.specs.Rows as listing
 use Rattle.table.specs.Table.{BuildRooms, Setting, given_of, zeros, build_of}
 use Rattle.table.specs.Table as build
 use Rattle.build_answer.specs.declared.BuildAnswer.{BuildAnswer}
