@@ -1,6 +1,6 @@
 -- Laws of writing a file of version 2: the checks one after the other, and the answers.
-use mathlib.Core.Path.{◌≡◌, refl, sym, ap, subst, ◌∙◌}
-use mathlib.Core.Bool.{Bool, true, false, not, ◌||◌, ◌&&◌}
+use mathlib.Core.Path.{◌≡◌, refl, sym, subst, ◌∙◌}
+use mathlib.Core.Bool.{Bool, true, false, ◌&&◌}
 use mathlib.Core.Logic.{◌⊎◌, inl, inr}
 use mathlib.Core.List.{List, [], ◌∷◌, ◌++◌, map}
 use Prim.Native.Nat.{ℕ, ◌+◌, ◌*◌, ◌/◌, ◌≤◌, ◌<◌}
@@ -15,7 +15,7 @@ use Rattle.codes.specs.declared.Code.{Code}
 use Rattle.codes.specs.declared.Code.TheVariants.{Room, Shape, Header, Edition}
 use Rattle.shape.specs.Shape.{points_of, shaped}
 use Rattle.list.specs.List.{described}
-use Rattle.writer.specs.Write.{Check, check, first_fault, misshapen, whole_of, leaves}
+use Rattle.writer.specs.Write.{Check, first_fault, misshapen, whole_of, leaves}
 use Rattle.write_judge.specs.declared.Verdict.TheVariants.{Fine, Fault}
 use Rattle.writer.specs.declared.WriteAnswer.TheVariants.{Done, Refused}
 use Rattle.write_judge.proofs.Checks.{fails, passes, passed}
@@ -24,7 +24,7 @@ use Rattle.trace.specs.Write.{header_checks, value_checks, write_checks, write_t
 use Rattle.trace_write.proofs.Puts.{Judged, judged, size_is, file_size_lem, left_fault, left_room, left_done}
 use Rattle.trace2.specs.Editions.{unknown, version2, header_long}
 use Rattle.trace2.specs.Write.{barred, write_checks2, write_file_of}
-use Rattle.trace2.proofs.Editions.{known_is, free_first, nine, eight}
+use Rattle.trace2.proofs.Editions.{known_is, free_first, nine}
 use Rattle.trace2.proofs.Versions.{write_as_before}
 use Rattle.trace2_write.specs.Steps.{plain}
 

@@ -1,7 +1,6 @@
 -- `barred` meets its contract: the edition by itself, then edition 2 in version 1.
 use mathlib.Core.Path.{sym, ◌∙◌}
 use Rattle.trace2.proofs.Editions.{barred_unknown, barred_first, barred_other}
-use borrow.Author.Rules.{rules}
 use Rattle.trace2_write.proofs.barred.Goals as goal
 
 pub returns-then-unknown : goal.returns-then-unknown

@@ -1,6 +1,5 @@
 -- `put_parts` meets its contract: each part stands behind the one before it.
 use Rattle.trace_put.proofs.Puts.{parts_put}
-use borrow.Author.Rules.{rules}
 use Rattle.trace2_write.proofs.put_parts.Goals as goal
 
 pub returns : goal.returns

@@ -4,7 +4,6 @@ use mir.Syntax.{w32}
 use mir.Facts.{to_z-of_z}
 use lib.ListN.{length}
 use Rattle.trace2_write.proofs.Seconds.{plain_written}
-use borrow.Author.Rules.{rules}
 use Rattle.trace2_write.proofs.trace_write2.Goals as goal
 
 pub write_second-requires : goal.write_second-requires
