@@ -10,15 +10,13 @@ use lib.Ieee.{Float}
 use borrow.Author.Tests.{le-leb, leb-true}
 use Rattle.codes.specs.declared.Code.{Code}
 use Rattle.segments.specs.declared.Segment.{Segment}
-use Rattle.segments.specs.declared.Range.{Range}
 use Rattle.segments.specs.Segment.{segment_at}
 use Rattle.segments.specs.Ranges.{has_column}
 use Rattle.desks.specs.Desks.{Sight, desk_good, bytes_good, all_owned}
 use Rattle.desks.specs.Agree.{Agree}
 use Rattle.desks.proofs.Shown.{shown_listed, agree_owned}
-use Rattle.checks.specs.Tables.{Table, row_of, shown_of}
+use Rattle.checks.specs.Tables.{Table, row_of}
 use Rattle.checks.specs.Checks.{counts_good_for, row_good, row_good_for, or_fault}
-use Rattle.checks.specs.Alike.{AlikeFor}
 use Rattle.checks.specs.declared.Verdict.{Verdict}
 use Rattle.checks.specs.declared.Verdict.TheVariants.{Fine, Fault}
 use Rattle.checks.proofs.Checks.{counts_facts_for, row_facts, row_facts_for}
@@ -29,7 +27,7 @@ use Rattle.hull.proofs.Hulls.{hull_cong}
 use Rattle.band_sums.specs.declared.BandNumbers.{BandNumbers}
 use Rattle.bands.specs.declared.BandsAnswer.TheVariants.{Done}
 use Rattle.bands.specs.Bands.{bands_in, row_of_band, rows_in, shown_from, shown_in, rows_good_from, band_good, numbers_over, band_numbers, put_band, put_bands}
-use Rattle.bands.specs.Calls.{before_rows, judge_bands, judge_band, BandsOutcome, leaves, by_verdict, fresh_cells, bands_of, band_of}
+use Rattle.bands.specs.Calls.{before_rows, judge_bands, judge_band, leaves, by_verdict, fresh_cells, bands_of, band_of}
 use Rattle.bands_laws.specs.Summaries.{AlikeWhole}
 use Rattle.bands_laws.proofs.Cells.{puts_same}
 use Rattle.bands_laws.proofs.Rows.{rows_each, band_row, band_good_lem, shown_of_lem, shown_same}

@@ -1,9 +1,9 @@
 -- What a making and a refresh that are done leave: a band's own cells, the others, and those behind the last band.
-use mathlib.Core.Path.{◌≡◌, refl, sym, ap, subst, ◌∙◌}
+use mathlib.Core.Path.{◌≡◌, sym, ap, subst, ◌∙◌}
 use mathlib.Core.Bool.{true}
 use mathlib.Core.Logic.{⊎_elim}
 use mathlib.Core.List.{List, []}
-use Prim.Native.Nat.{ℕ, suc, ◌+◌, ◌*◌, ◌≤◌, ◌<◌}
+use Prim.Native.Nat.{ℕ, ◌+◌, ◌*◌, ◌≤◌, ◌<◌}
 use native.Mathlib.Omega.{arith}
 use lib.ListN.{length, get_or, replicate, length-replicate, get_or-replicate, get_or-eq_default}
 use Rattle.shade.proofs.Edits.{lt_or_ge}
@@ -11,10 +11,9 @@ use Rattle.desks.specs.Desks.{Sight}
 use Rattle.checks.specs.Tables.{Table, shown_of}
 use Rattle.hull.specs.Reach.{reach_of}
 use Rattle.hull.specs.declared.ReachAnswer.TheVariants as Reaching
-use Rattle.bands.specs.declared.BandsAnswer.TheVariants.{Done, Refused}
+use Rattle.bands.specs.declared.BandsAnswer.TheVariants.{Done}
 use Rattle.bands.specs.Bands.{bands_in, row_of_band, rows_in, shown_in, rows_good_from, band_good, numbers_over, band_numbers, band_cells, put_band}
 use Rattle.bands.specs.Calls.{BandsOutcome, fresh_cells, bands_of, band_of}
-use Rattle.bands.specs.Refusals.{RowsBadFor, SummaryFits}
 use Rattle.bands_laws.specs.Done.{BandsDone, BandDone}
 use Rattle.bands_laws.specs.Summaries.{InBand, OtherCell, Bounds, SegmentNumbers, HullOf}
 use Rattle.bands_laws.proofs.Cells.{put_length, put_other, put_own, puts_length, puts_behind, puts_own}

@@ -13,18 +13,17 @@ use Rattle.shade.proofs.Edits.{lt_or_ge}
 use Rattle.desks.specs.Desks.{Sight, sight_of, owner_in, hidden_in, shown}
 use Rattle.desks.specs.Hide.{hide_of}
 use Rattle.desks.proofs.Hiding.{hide_length, hide_keeps}
-use Rattle.checks.specs.Tables.{Table, row_of, shown_of}
+use Rattle.checks.specs.Tables.{Table, row_of}
 use Rattle.checks.specs.Refusals.{RowBadFor}
 use Rattle.checks.specs.Refusals as codes
 use Rattle.picture.specs.Picture.{Found}
 use Rattle.bands.specs.declared.BandsAnswer.TheVariants.{Done}
-use Rattle.bands.specs.Bands.{bands_in, row_of_band, rows_in, shown_in, numbers_over, band_numbers, band_cells}
+use Rattle.bands.specs.Bands.{bands_in, row_of_band, rows_in, numbers_over, band_numbers, band_cells}
 use Rattle.bands.specs.Calls.{BandsOutcome, leaves, fresh_cells, bands_of, band_of}
-use Rattle.bands.specs.Refusals.{RowsBadFor}
 use Rattle.bands_laws.specs.Done.{BandsDone, BandDone}
 use Rattle.bands_laws.specs.Summaries.{InBand, OtherCell, ListsSpline, Refreshes}
 use Rattle.bands_laws.specs.Summaries as runs
-use Rattle.bands_laws.proofs.Cells.{CellIn, cell_in}
+use Rattle.bands_laws.proofs.Cells.{cell_in}
 use Rattle.bands_laws.proofs.Rows.{band_row, shown_same}
 use Rattle.bands_laws.proofs.Refusals.{bands_done}
 use Rattle.bands_laws.proofs.Fresh.{made, made_length, made_own, made_behind, fresh_own, fresh_behind, fresh_length, refreshed, refreshed_own, refreshed_length, other_bands_stay}

@@ -1,9 +1,9 @@
 -- The five numbers of a band in words: none of none, the least and the greatest of the shown segment numbers, and the hull of the rows' reaches.
-use mathlib.Core.Path.{◌≡◌, refl, sym, ap, subst, ◌∙◌}
-use mathlib.Core.Bool.{Bool, true}
+use mathlib.Core.Path.{◌≡◌, refl, sym, ap, ◌∙◌}
+use mathlib.Core.Bool.{true}
 use mathlib.Core.Logic.{◌⊎◌, inl, inr, ⊎_elim}
 use mathlib.Core.List.{List, [], ◌∷◌, foldl}
-use Prim.Native.Nat.{ℕ, zero, suc, ◌+◌, ◌^◌, ◌≤◌, ◌<◌, min, max}
+use Prim.Native.Nat.{ℕ, zero, suc, ◌^◌, ◌≤◌, ◌<◌, min, max}
 use native.Mathlib.Omega.{arith}
 use lib.ListN.{length, get_or}
 use lib.Ieee.{Float}
@@ -14,7 +14,6 @@ use Rattle.segments.specs.Ranges.{has_column}
 use Rattle.segments.specs.declared.Range.{Range}
 use Rattle.desks.specs.Desks.{Sight}
 use Rattle.checks.specs.Tables.{Table, shown_of}
-use Rattle.checks.specs.Checks.{row_good_for}
 use Rattle.checks.specs.Refusals.{Lent}
 use Rattle.checks.specs.declared.Verdict.TheVariants.{Fine}
 use Rattle.checks.proofs.Refusals.{counts_fit_for}
@@ -23,9 +22,9 @@ use Rattle.hull.specs.declared.ReachAnswer.TheVariants as Reaching
 use Rattle.hull.proofs.Hulls.{Least, one_less, one_least, least_none, Passing, least_hull, touched_by, touched_if}
 use Rattle.hull.proofs.Reaches.{reach_done, reached}
 use Rattle.picture.specs.Picture.{Found}
-use Rattle.bands.specs.Bands.{row_of_band, rows_in, shown_from, shown_in, band_good, least_of, greatest_of, numbers_over, band_numbers, band_cells}
+use Rattle.bands.specs.Bands.{row_of_band, rows_in, shown_in, band_good, least_of, greatest_of, numbers_over, band_numbers, band_cells}
 use Rattle.bands_laws.specs.Summaries.{InBand, ShownInBand, Bounds, RowReach, HullOf}
-use Rattle.bands_laws.proofs.Rows.{rows_each, band_row, ShownOfRow, shown_of_lem, shown_in_lem}
+use Rattle.bands_laws.proofs.Rows.{rows_each, band_row, shown_of_lem, shown_in_lem}
 
 -- ---- of nothing
 

@@ -1,3 +1,2 @@
 // Laws on the summary of every 64 rows, and no code.
 #![tactic(auto)]
-
