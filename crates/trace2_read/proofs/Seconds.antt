@@ -1,8 +1,8 @@
 -- Laws of reading a file of version 2: the numbers of its header, and the whole.
-use mathlib.Core.Path.{◌≡◌, refl, sym, ap, subst, ◌∙◌}
-use mathlib.Core.Bool.{Bool, true, false, not, ◌||◌, ◌&&◌}
-use mathlib.Core.List.{List, [], ◌∷◌, ◌++◌}
-use Prim.Native.Nat.{ℕ, ◌+◌, ◌*◌, ◌/◌, ◌≤◌, ◌<◌}
+use mathlib.Core.Path.{◌≡◌, refl, sym, subst, ◌∙◌}
+use mathlib.Core.Bool.{Bool, true, false, not, ◌&&◌}
+use mathlib.Core.List.{List, [], ◌∷◌}
+use Prim.Native.Nat.{ℕ, ◌≤◌, ◌<◌}
 use native.Mathlib.Omega.{arith}
 use lib.Dec.{T, eqb, ltb}
 use lib.ListN.{length, get_or, get_or-eq_default}
@@ -11,7 +11,7 @@ use lib.Ieee.{Float}
 use borrow.Author.Tests.{lt-ltb, le-ltb, ltb-true, ltb-false, eqb-true, eqb-false}
 use Rattle.codes.specs.declared.Code.{Code}
 use Rattle.codes.specs.declared.Code.TheVariants.{Room}
-use Rattle.list.specs.List.{ListRooms, Got, got, stop, Described}
+use Rattle.list.specs.List.{ListRooms, got, stop}
 use Rattle.reader.specs.Read.{ReadOutcome, leaves, rooms_of, outcome}
 use Rattle.reader.specs.Rest.{ListLeft, Wiped}
 use Rattle.read_list.specs.declared.ReadAnswer.{ReadAnswer}
@@ -23,7 +23,6 @@ use Rattle.little.proofs.Little.{numbers_length}
 use Rattle.trace.specs.Read.{splines_in, points_in, tight, described_in, read_trace_of}
 use Rattle.trace_load.specs.Steps.{Loadable}
 use Rattle.trace_read.proofs.Loads.{Sound, sound_body, sound_loadable, same_rooms, wiped_refused, wiped_done}
-use Rattle.trace2.specs.Editions.{edition_in}
 use Rattle.trace2.specs.Read.{laid_checks, file_checks, whole_checks2, read_file, answer_of, edition_of, file_leaves, edition_told, with_edition, read_file_of}
 use Rattle.trace2.specs.declared.FileAnswer.{FileAnswer}
 use Rattle.trace2.proofs.Versions.{second_alike, nine_so, ninth_so, other_as_before, short_as_before}

@@ -2,7 +2,6 @@
 use mathlib.Core.Path.{sym, ◌∙◌}
 use Rattle.trace_read.specs.Steps.{rooms_from}
 use Rattle.trace2_read.proofs.Seconds.{whole_room, whole_fault, whole_fine}
-use borrow.Author.Rules.{rules}
 use Rattle.trace2_read.proofs.judge_whole.Goals as goal
 
 pub returns-then-lacks_room : goal.returns-then-lacks_room

@@ -5,7 +5,6 @@ use mir.Facts.{to_z-of_z}
 use Rattle.reader.specs.Read.{rooms_of}
 use Rattle.little.specs.Little.{signed_in}
 use Rattle.trace_load.proofs.Loads.{all_loaded}
-use borrow.Author.Rules.{rules}
 use Rattle.trace2_read.proofs.load.Goals as goal
 
 pub load_parts-requires : goal.load_parts-requires

@@ -1,6 +1,5 @@
 -- `ninth` meets its contract: fewer than 36 bytes have no ninth number.
 use Rattle.trace2_read.proofs.Seconds.{no_ninth}
-use borrow.Author.Rules.{rules}
 use Rattle.trace2_read.proofs.ninth.Goals as goal
 
 pub returns : goal.returns

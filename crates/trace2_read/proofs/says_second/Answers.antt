@@ -1,9 +1,8 @@
 -- `says_second` meets its contract: the length, then the version.
-use mathlib.Core.Path.{sym, ap, ◌∙◌}
+use mathlib.Core.Path.{ap, ◌∙◌}
 use Prim.Native.Nat.{ℕ}
 use lib.Dec.{eqb}
 use Rattle.trace2_read.proofs.Seconds.{none_said, two_said}
-use borrow.Author.Rules.{rules}
 use Rattle.trace2_read.proofs.says_second.Goals as goal
 
 pub returns-then-bytes-lt32 : goal.returns-then-bytes-lt32

@@ -2,7 +2,6 @@
 use mathlib.Core.Path.{sym, ◌∙◌}
 use native.Mathlib.Omega.{arith}
 use Rattle.trace2_read.proofs.Seconds.{second_is, second_told, other_told}
-use borrow.Author.Rules.{rules}
 use Rattle.trace2_read.proofs.trace_read2.Goals as goal
 
 pub read_second-answer-requires : goal.read_second-answer-requires
