@@ -1,36 +1,33 @@
 -- Writing and reading undo each other: the file of a description gives it back, and what is read is written as the same bytes.
 use mathlib.Core.Path.{◌≡◌, refl, sym, ap, ◌∙◌}
-use mathlib.Core.Bool.{Bool, true, false, ◌||◌}
+use mathlib.Core.Bool.{true, false}
 use mathlib.Core.List.{List, [], ◌∷◌, ◌++◌, map}
-use Prim.Native.Nat.{ℕ, zero, suc, ◌+◌, ◌-◌, ◌*◌, ◌/◌, ◌^◌, ◌≤◌, ◌<◌}
+use Prim.Native.Nat.{ℕ, suc, ◌+◌, ◌*◌, ◌/◌, ◌^◌, ◌≤◌, ◌<◌}
 use native.Mathlib.Omega.{arith}
-use lib.Dec.{T, ltb, leb}
-use lib.ListN.{length, take, drop, get_or, replicate, length-map, length-drop, take-append-drop}
+use lib.ListN.{length, take, drop, get_or, length-map, length-drop, take-append-drop}
 use lib.Seq.{take_at, drop_at, drop-drop, drop-cons, take_all}
 use lib.IntN.{ℤ, pos, negsuc, nat_abs}
 use lib.Signed.{mag}
-use lib.Ieee.{Float, binary32, fits}
+use lib.Ieee.{Float}
 use borrow.Author.Tests.{le-ltb, lt-leb, leb-false, eq-eqb}
-use Rattle.codes.specs.declared.Code.TheVariants.{Coord, Delta, Room, Shape}
+use Rattle.codes.specs.declared.Code.TheVariants.{Coord, Delta, Shape}
 use Rattle.shape.specs.Shape.{points_of, shaped}
 use Rattle.shape.proofs.Shape.{is_shaped}
-use Rattle.list.specs.List.{ListRooms, Got, got, stop, Described, described, lacking, pos_limit, delta_limit}
-use Rattle.list.specs.Steps.{f32_of, zero_f32}
+use Rattle.list.specs.List.{ListRooms, got, Described, described}
+use Rattle.list.specs.Steps.{f32_of}
 use Rattle.reader.specs.Read.{ReadOutcome}
 use Rattle.reader.specs.Read as reading
 use Rattle.read_list.specs.declared.ReadAnswer.{ReadAnswer}
-use Rattle.writer.specs.Write.{Check, check, first_fault, whole_of, WriteOutcome, leaves, outcome}
-use Rattle.write_judge.specs.declared.Verdict.{Verdict}
-use Rattle.write_judge.specs.declared.Verdict.TheVariants.{Fine, Fault}
-use Rattle.writer.specs.declared.WriteAnswer.{WriteAnswer}
-use Rattle.write_judge.proofs.Checks.{passes, passed, fine_before, both_fine, agree}
+use Rattle.writer.specs.Write.{first_fault, whole_of}
+use Rattle.write_judge.specs.declared.Verdict.TheVariants.{Fine}
+use Rattle.write_judge.proofs.Checks.{passed, both_fine}
 use Rattle.write_laws.specs.Floats.{Floats}
 use Rattle.roundtrip.specs.Enough.{Enough}
 use Rattle.little.specs.Little.{bytes_of, numbers_in, unsigned_of, signed_in, Bytes, Numbers, Signeds}
-use Rattle.little.proofs.Little.{numbers_back, bytes_back, bytes_length, numbers_length, number_small, signed_unsigned, unsigned_signed, unsigned_small, signed_small}
-use Rattle.trace.specs.Trace.{Layout, version1, starts_from, deltas_from, coefficients_from, numbers_of, header_of, file_numbers, file_of, part, outside, wild, number_checks}
-use Rattle.trace.specs.Read.{splines_in, points_in, misplaced, too_wild, offset_checks, body_checks, read_checks, tight, whole_checks, described_in, read_trace, read_trace_of}
-use Rattle.trace.specs.Write.{misfit, header_checks, value_checks, write_checks, write_trace_of}
+use Rattle.little.proofs.Little.{numbers_back, bytes_back, numbers_length, number_small, signed_unsigned, unsigned_signed, unsigned_small}
+use Rattle.trace.specs.Trace.{Layout, version1, starts_from, deltas_from, coefficients_from, numbers_of, header_of, file_numbers, file_of, part, wild, number_checks}
+use Rattle.trace.specs.Read.{splines_in, points_in, misplaced, too_wild, offset_checks, body_checks, read_checks, tight, whole_checks, described_in, read_trace}
+use Rattle.trace.specs.Write.{misfit, header_checks, value_checks, write_checks}
 use Rattle.trace.proofs.Checks.{part_at}
 use Rattle.trace.proofs.Starts.{fit_small, fit_back, whole_fit, whole_back}
 use Rattle.trace_judge.proofs.Faults.{held_length, offsets_fine, length_fine, parts_rest, body_rest, judge_body}

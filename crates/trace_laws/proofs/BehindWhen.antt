@@ -1,26 +1,20 @@
 -- The offsets of a file and what follows its header are refused with a code at a place exactly when the tables of Behind.antt give it, whatever the header's length is.
 use mathlib.Core.Path.{◌≡◌, refl, sym, ap, subst, ◌∙◌}
-use mathlib.Core.Bool.{Bool, true, false, not, ◌||◌}
-use mathlib.Core.List.{List, [], ◌∷◌, ◌++◌}
-use Prim.Native.Nat.{ℕ, ◌+◌, ◌*◌, ◌^◌, ◌≤◌, ◌<◌}
+use mathlib.Core.List.{List, [], ◌++◌}
+use Prim.Native.Nat.{ℕ, ◌+◌, ◌*◌, ◌^◌, ◌<◌}
 use native.Mathlib.Omega.{arith}
-use lib.Dec.{eqb, ltb, leb}
-use lib.ListN.{length, get_or}
-use lib.IntN.{nat_abs}
-use lib.Signed.{mag}
-use borrow.Author.Tests.{lt-ltb, le-ltb, le-leb, ltb-true, ltb-false, leb-true, eq-eqb, ne_eqb}
+use lib.Dec.{ltb}
+use lib.ListN.{length}
+use borrow.Author.Tests.{le-leb, ltb-true, leb-true, eq-eqb, ne_eqb}
 use Rattle.codes.specs.declared.Code.{Code}
-use Rattle.codes.specs.declared.Code.TheVariants.{Short, Coord, Delta, Trail, Room, Shape, Header}
-use Rattle.shape.specs.Shape.{points_of}
-use Rattle.writer.specs.Write.{Check, check, first_fault}
-use Rattle.write_judge.specs.declared.Verdict.{Verdict}
-use Rattle.write_judge.specs.declared.Verdict.TheVariants.{Fine, Fault}
-use Rattle.write_laws.specs.Refusals.{NoneOf}
-use Rattle.little.specs.Little.{numbers_in, signed_in}
-use Rattle.trace.specs.Trace.{version1, starts_from, deltas_from, coefficients_from, numbers_of, part, number_checks}
-use Rattle.trace.specs.Read.{splines_in, points_in, version_checks, offset_checks, length_checks, misplaced, too_wild, part_checks, body_checks, read_checks, tight, whole_checks, described_in, read_trace, read_trace_of}
+use Rattle.codes.specs.declared.Code.TheVariants.{Short, Coord, Delta, Trail, Shape, Header}
+use Rattle.writer.specs.Write.{Check, first_fault}
+use Rattle.write_judge.specs.declared.Verdict.TheVariants.{Fault}
+use Rattle.little.specs.Little.{numbers_in}
+use Rattle.trace.specs.Trace.{starts_from, deltas_from, coefficients_from, numbers_of, part, number_checks}
+use Rattle.trace.specs.Read.{offset_checks, length_checks, misplaced, too_wild, part_checks, body_checks}
 use Rattle.trace_judge.proofs.Faults.{offset_16, offset_20, offset_24, offset_28, length_short, length_trail, length_due, parts_shape, parts_start, parts_rest, body_length}
-use Rattle.trace_laws.specs.Behind.{number, S, P, file_long, OutsideAt, WildAt, LaidBy, SummedBy, PlacedBy, TamedBy, OffsetRefusal, counts, starts, deltas, coefficients, BodyRefusal, short, trail, shape, coord, delta}
+use Rattle.trace_laws.specs.Behind.{S, P, file_long, SummedBy, PlacedBy, OffsetRefusal, counts, starts, deltas, coefficients, BodyRefusal, short, trail, shape, coord, delta}
 use Rattle.trace_laws.proofs.Clean.{right, wrong, is_right, is_wrong, start_is, delta_is, starts_length, deltas_length, inside_of, tame_of, starts_fine, fine_starts, due_is, summed_rest, none_outside, none_wild}
 use Rattle.trace_laws.proofs.Firsts.{head_or, append_or, none_or, numbers_or, numbers_at}
 

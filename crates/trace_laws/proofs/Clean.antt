@@ -1,31 +1,25 @@
 -- No fault of a file, and none of a description: the checks find nothing exactly when the facts of the tables hold.
-use mathlib.Core.Path.{◌≡◌, refl, sym, ap, ◌∙◌}
-use mathlib.Core.Bool.{Bool, true, false, not, cond, ◌||◌, ◌&&◌}
-use mathlib.Core.List.{List, [], ◌∷◌, ◌++◌}
-use Prim.Native.Nat.{ℕ, zero, suc, ◌+◌, ◌-◌, ◌*◌, ◌%◌, ◌^◌, ◌≤◌, ◌<◌}
+use mathlib.Core.Path.{◌≡◌, refl, sym, ◌∙◌}
+use mathlib.Core.Bool.{Bool, true, false, not}
+use mathlib.Core.List.{List, []}
+use Prim.Native.Nat.{ℕ, ◌+◌, ◌*◌, ◌^◌, ◌<◌}
 use native.Mathlib.Omega.{arith}
 use lib.Dec.{eqb, ltb, leb}
 use lib.ListN.{length, get_or}
-use lib.IntN.{ℤ, pos, nat_abs}
+use lib.IntN.{nat_abs}
 use lib.Signed.{mag}
-use lib.Ieee.{Float, nan, inf, fin, up, down}
-use borrow.Author.Tests.{lt-ltb, le-ltb, lt-leb, le-leb, ltb-true, ltb-false, leb-true, leb-false, eq-eqb, ne_eqb, eqb-true, eqb-false, not-true, not-false}
-use Rattle.codes.specs.declared.Code.TheVariants.{Short, Coord, Delta, Room, Shape, Header}
-use Rattle.shape.specs.Shape.{points_of, Shaped}
-use Rattle.shape.proofs.Shape.{is_shaped, shaped_is, not_shaped}
-use Rattle.list.specs.List.{ListRooms, lacking, pos_limit, delta_limit}
-use Rattle.writer.specs.Write.{Check, check, first_fault, misshapen}
-use Rattle.write_judge.specs.declared.Verdict.TheVariants.{Fine, Fault}
-use Rattle.write_judge.proofs.Checks.{neither, passes, passed, fine_before, both_fine, agreed}
+use borrow.Author.Tests.{ltb-false, leb-true, leb-false, eq-eqb, ne_eqb, eqb-true, eqb-false, not-true, not-false}
+use Rattle.codes.specs.declared.Code.TheVariants.{Short, Coord, Delta, Shape, Header}
+use Rattle.writer.specs.Write.{first_fault}
+use Rattle.write_judge.specs.declared.Verdict.TheVariants.{Fine}
+use Rattle.write_judge.proofs.Checks.{passed, both_fine}
 use Rattle.write_laws.specs.Refusals.{NoneOf}
 use Rattle.little.specs.Little.{numbers_in, signed_in}
-use Rattle.trace.specs.Trace.{version1, starts_from, deltas_from, coefficients_from, numbers_of, part, wild, number_checks}
-use Rattle.trace.specs.Read.{splines_in, points_in, version_checks, offset_checks, length_checks, misplaced, too_wild, part_checks, body_checks, read_checks, tight}
-use Rattle.trace.specs.Write.{misfit, header_checks, value_checks, write_checks}
+use Rattle.trace.specs.Trace.{version1, starts_from, deltas_from, numbers_of, part, number_checks}
+use Rattle.trace.specs.Read.{splines_in, points_in, version_checks, offset_checks, length_checks, misplaced, too_wild, part_checks, body_checks, read_checks}
 use Rattle.trace.proofs.Checks.{fine_each, each_fine, part_at}
 use Rattle.trace_judge.proofs.Faults.{held_length, offsets_fine, length_fine, length_due, parts_rest, body_rest, judge_body}
-use Rattle.trace_fit.proofs.Fits.{header_fine, judge_rest}
-use Rattle.trace_laws.specs.Behind.{number, S, P, file_long, OutsideAt, WildAt, LaidBy, SummedBy, PlacedBy, TamedBy}
+use Rattle.trace_laws.specs.Behind.{number, S, P, file_long, OutsideAt, WildAt, LaidBy, TamedBy}
 use Rattle.trace_laws.specs.Refusals.{Opened, Laid, Tamed}
 
 -- ---- tests and facts

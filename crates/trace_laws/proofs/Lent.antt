@@ -1,7 +1,7 @@
 -- Signed numbers of a slice, taken one by one.
-use mathlib.Core.Path.{◌≡◌, sym, subst}
+use mathlib.Core.Path.{subst}
 use mathlib.Core.List.{List, [], ◌∷◌, ◌++◌}
-use Prim.Native.Nat.{ℕ, zero, suc, ◌+◌, ◌^◌, ◌≤◌, ◌<◌}
+use Prim.Native.Nat.{ℕ, ◌+◌, ◌^◌, ◌≤◌, ◌<◌}
 use native.Mathlib.Numerals.{add-one}
 use lib.ListN.{length, take, get_or}
 use lib.Seq.{take-suc, take_all}

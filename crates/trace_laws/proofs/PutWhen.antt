@@ -1,24 +1,23 @@
 -- The counts and offsets of a header, the starts and the double deltas of a description are refused with a code at a place exactly when the table of Behind.antt gives it, whatever the header's length is.
 use mathlib.Core.Path.{◌≡◌, refl, sym, ap, subst, ◌∙◌}
 use mathlib.Core.Bool.{Bool, true, false, not, cond, ◌||◌, ◌&&◌}
-use mathlib.Core.List.{List, [], ◌∷◌, ◌++◌, map}
-use Prim.Native.Nat.{ℕ, zero, suc, ◌+◌, ◌-◌, ◌*◌, ◌/◌, ◌%◌, ◌^◌, ◌≤◌, ◌<◌}
+use mathlib.Core.List.{List, [], ◌++◌}
+use Prim.Native.Nat.{ℕ, zero, suc, ◌+◌, ◌*◌, ◌%◌, ◌^◌, ◌≤◌, ◌<◌}
 use native.Mathlib.Omega.{arith}
 use lib.Dec.{T, eqb, ltb, leb}
-use lib.ListN.{length, get_or, replicate}
+use lib.ListN.{length, get_or}
 use lib.IntN.{ℤ, pos, nat_abs}
 use lib.Ieee.{Float, nan, inf, fin, up, down}
-use borrow.Author.Tests.{lt-ltb, le-ltb, lt-leb, le-leb, ltb-true, ltb-false, leb-true, leb-false, eq-eqb, ne_eqb, eqb-true, eqb-false, not-true, not-false}
+use borrow.Author.Tests.{lt-ltb, le-leb, ltb-true, leb-true, leb-false, ne_eqb, eqb-true, eqb-false}
 use Rattle.codes.specs.declared.Code.{Code}
-use Rattle.codes.specs.declared.Code.TheVariants.{Coord, Delta, Room, Shape, Header}
-use Rattle.shape.specs.Shape.{points_of, Shaped, shaped}
-use Rattle.writer.specs.Write.{Check, check, first_fault, misshapen, whole_of, WriteOutcome, outcome}
-use Rattle.write_judge.specs.declared.Verdict.{Verdict}
+use Rattle.codes.specs.declared.Code.TheVariants.{Coord, Delta, Header}
+use Rattle.shape.specs.Shape.{points_of}
+use Rattle.writer.specs.Write.{Check, first_fault}
 use Rattle.write_judge.specs.declared.Verdict.TheVariants.{Fine, Fault}
-use Rattle.write_judge.proofs.Checks.{neither, fails, passes, passed, faults_before, fine_before, both_fine}
-use Rattle.write_laws.specs.Refusals.{NoneOf, WriteRefused}
-use Rattle.trace.specs.Trace.{version1, starts_from, deltas_from, coefficients_from, numbers_of, file_of, wild, number_checks}
-use Rattle.trace.specs.Write.{misfit, unheld, header_checks, value_checks, write_checks, write_trace_of}
+use Rattle.write_judge.proofs.Checks.{passed, faults_before, fine_before, both_fine}
+use Rattle.write_laws.specs.Refusals.{NoneOf}
+use Rattle.trace.specs.Trace.{starts_from, deltas_from, coefficients_from, wild, number_checks}
+use Rattle.trace.specs.Write.{misfit, header_checks, value_checks}
 use Rattle.trace.proofs.Checks.{fine_each, each_fine}
 use Rattle.trace_fit.proofs.Fits.{many_splines, many_points, far_starts, far_deltas, far_coefficients, header_fine, values_start, values_rest}
 use Rattle.trace_laws.specs.Behind.{Misfit, no_number, infinite, below, above, not_whole, minus_zero, MisfitAt, WildIn, HeadedBy, HeadableBy, FittingBy, WritableBy, PutRefusal}

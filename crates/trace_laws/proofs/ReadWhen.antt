@@ -1,29 +1,25 @@
 -- `trace_read` refuses with a code at a place exactly when the table of reading gives it.
-use mathlib.Core.Path.{◌≡◌, refl, sym, ap, subst, ◌∙◌}
-use mathlib.Core.Bool.{Bool, true, false, not, ◌||◌}
-use mathlib.Core.List.{List, [], ◌∷◌, ◌++◌}
+use mathlib.Core.Path.{◌≡◌, refl, sym, ap, ◌∙◌}
+use mathlib.Core.Bool.{Bool, true, false, ◌||◌}
+use mathlib.Core.List.{List, [], ◌∷◌}
 use mathlib.Core.Logic.{◌↔◌}
-use Prim.Native.Nat.{ℕ, ◌+◌, ◌*◌, ◌^◌, ◌≤◌, ◌<◌}
+use Prim.Native.Nat.{ℕ, ◌*◌}
 use native.Mathlib.Omega.{arith}
-use lib.Dec.{eqb, ltb, leb}
-use lib.ListN.{length, get_or}
-use lib.IntN.{nat_abs}
-use lib.Signed.{mag}
-use borrow.Author.Tests.{lt-ltb, le-ltb, le-leb, ltb-true, ltb-false, leb-true, eq-eqb, ne_eqb}
+use lib.Dec.{ltb}
+use lib.ListN.{length}
+use borrow.Author.Tests.{lt-ltb, ltb-true, ltb-false}
 use Rattle.codes.specs.declared.Code.{Code}
-use Rattle.codes.specs.declared.Code.TheVariants.{Short, Coord, Delta, Trail, Room, Shape, Header}
-use Rattle.shape.specs.Shape.{points_of}
+use Rattle.codes.specs.declared.Code.TheVariants.{Short, Room, Header}
 use Rattle.list.specs.List.{ListRooms, Got, Described, described, lacking}
 use Rattle.reader.specs.Read.{ReadOutcome, outcome}
 use Rattle.reader.specs.Refusals.{ReadRefused}
 use Rattle.read_list.specs.declared.ReadAnswer.{ReadAnswer}
-use Rattle.writer.specs.Write.{Check, check, first_fault}
+use Rattle.writer.specs.Write.{check, first_fault}
 use Rattle.write_judge.specs.declared.Verdict.{Verdict}
 use Rattle.write_judge.specs.declared.Verdict.TheVariants.{Fine, Fault}
-use Rattle.write_laws.specs.Refusals.{NoneOf}
-use Rattle.little.specs.Little.{numbers_in, signed_in}
-use Rattle.trace.specs.Trace.{version1, starts_from, deltas_from, coefficients_from, numbers_of, part, number_checks}
-use Rattle.trace.specs.Read.{splines_in, points_in, version_checks, offset_checks, length_checks, misplaced, too_wild, part_checks, body_checks, read_checks, tight, whole_checks, described_in, read_trace, read_trace_of}
+use Rattle.little.specs.Little.{numbers_in}
+use Rattle.trace.specs.Trace.{version1}
+use Rattle.trace.specs.Read.{version_checks, offset_checks, body_checks, read_checks, tight, whole_checks, described_in, read_trace_of}
 use Rattle.trace_judge.proofs.Faults.{judge_short, judge_version, judge_offset, judge_body}
 use Rattle.trace_read.proofs.Loads.{whole_fault, whole_room, judged_fine, judged_fault}
 use Rattle.trace_laws.specs.Behind.{number, S, P, OffsetRefusal, BodyRefusal}

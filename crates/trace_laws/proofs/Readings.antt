@@ -1,12 +1,11 @@
 -- Readings of a small file, computed: a negative first start, -8388608, and no splines at all.
 use mathlib.Core.Path.{◌≡◌, refl}
-use mathlib.Core.Bool.{true, false}
-use mathlib.Core.List.{List, [], ◌∷◌, map}
-use Prim.Native.Nat.{ℕ}
+use mathlib.Core.Bool.{true}
+use mathlib.Core.List.{[], ◌∷◌}
 use lib.ListN.{replicate}
-use lib.IntN.{ℤ, pos, negsuc}
-use lib.Ieee.{Float, fin, binary32, of_int, round}
-use Rattle.list.specs.List.{Got, got, Described, described}
+use lib.IntN.{pos, negsuc}
+use lib.Ieee.{fin, of_int, round}
+use Rattle.list.specs.List.{got, Described, described}
 use Rattle.list.specs.Steps.{f32_of}
 use Rattle.reader.specs.Read.{leaves}
 use Rattle.read_list.specs.declared.ReadAnswer.{ReadAnswer}
@@ -14,7 +13,7 @@ use Rattle.writer.specs.Write.{first_fault}
 use Rattle.little.specs.Little.{bytes_of, numbers_in}
 use Rattle.trace.specs.Trace.{version1, file_of, number_checks}
 use Rattle.trace.specs.Read.{version_checks, offset_checks, length_checks, misplaced, too_wild, part_checks, body_checks, read_checks, tight, whole_checks, described_in, read_trace, read_trace_of}
-use Rattle.trace_laws.specs.Small.{small_header, small_file, small_rooms}
+use Rattle.trace_laws.specs.Small.{small_file, small_rooms}
 
 abbrev small_whole : Described
 small_whole = described (negsuc 7) (negsuc 2 ∷ negsuc 8388607 ∷ []) (0 ∷ []) [] (replicate 128 (pos 0))

@@ -5,7 +5,7 @@ use mathlib.Core.List.{List, [], ◌∷◌, ◌++◌, map}
 use Prim.Native.Nat.{ℕ, ◌+◌, ◌-◌, ◌*◌, ◌^◌, ◌≤◌, ◌<◌}
 use native.Mathlib.Omega.{arith}
 use lib.Dec.{ltb}
-use lib.ListN.{length, take, get_or, replicate}
+use lib.ListN.{length, take, replicate}
 use lib.Seq.{take_at}
 use lib.IntN.{ℤ, pos}
 use lib.Signed.{mag}
@@ -14,7 +14,7 @@ use borrow.Author.Tests.{le-ltb}
 use Rattle.buffers.specs.Padded.{padded}
 use Rattle.codes.specs.declared.Code.TheVariants.{Room}
 use Rattle.shape.specs.Shape.{points_of}
-use Rattle.list.specs.List.{ListRooms, Got, got, stop, Described, described}
+use Rattle.list.specs.List.{ListRooms, got, stop, described}
 use Rattle.list.specs.Steps.{f32_of, zero_f32}
 use Rattle.reader.specs.Read.{ReadOutcome}
 use Rattle.reader.specs.Read as reading
@@ -26,9 +26,9 @@ use Rattle.writer.specs.declared.WriteAnswer.{WriteAnswer}
 use Rattle.write_judge.proofs.Checks.{passes, fine_before, both_fine}
 use Rattle.write_laws.specs.Floats.{Floats}
 use Rattle.roundtrip.specs.Enough.{Enough}
-use Rattle.little.specs.Little.{numbers_in, signed_in, Bytes, Numbers, Signeds}
+use Rattle.little.specs.Little.{numbers_in, Bytes, Numbers, Signeds}
 use Rattle.trace.specs.Trace.{version1, numbers_of, file_of}
-use Rattle.trace.specs.Read.{whole_checks, described_in, read_trace, read_trace_of}
+use Rattle.trace.specs.Read.{whole_checks, described_in, read_trace_of}
 use Rattle.trace.specs.Write.{write_checks, write_trace_of}
 use Rattle.trace_read.proofs.Loads.{judged_fine, judged_fault}
 use Rattle.trace_write.proofs.Puts.{judged, file_size_lem}

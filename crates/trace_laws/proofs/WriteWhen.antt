@@ -1,29 +1,28 @@
 -- `trace_write` refuses with a code at a place exactly when the table of writing gives it, and writes exactly when it gives none.
 use mathlib.Core.Path.{◌≡◌, refl, sym, ap, subst, ◌∙◌}
-use mathlib.Core.Bool.{Bool, true, false, not, cond, ◌||◌, ◌&&◌}
+use mathlib.Core.Bool.{true, false, not}
 use mathlib.Core.List.{List, [], ◌∷◌, ◌++◌, map}
 use mathlib.Core.Logic.{◌↔◌}
-use Prim.Native.Nat.{ℕ, zero, suc, ◌+◌, ◌-◌, ◌*◌, ◌/◌, ◌%◌, ◌^◌, ◌≤◌, ◌<◌}
+use Prim.Native.Nat.{ℕ, ◌*◌, ◌<◌}
 use native.Mathlib.Omega.{arith}
-use lib.Dec.{T, eqb, ltb, leb}
-use lib.ListN.{length, get_or, replicate}
-use lib.IntN.{ℤ, pos, nat_abs}
-use lib.Ieee.{Float, nan, inf, fin, up, down}
-use borrow.Author.Tests.{lt-ltb, le-ltb, lt-leb, le-leb, ltb-true, ltb-false, leb-true, leb-false, eq-eqb, ne_eqb, eqb-true, eqb-false, not-true, not-false}
+use lib.Dec.{T, ltb}
+use lib.ListN.{length}
+use lib.IntN.{ℤ}
+use lib.Ieee.{Float}
+use borrow.Author.Tests.{lt-ltb, le-ltb, ltb-true, ltb-false, not-true, not-false}
 use Rattle.codes.specs.declared.Code.{Code}
-use Rattle.codes.specs.declared.Code.TheVariants.{Coord, Delta, Room, Shape, Header}
-use Rattle.shape.specs.Shape.{points_of, Shaped, shaped}
+use Rattle.codes.specs.declared.Code.TheVariants.{Room, Shape}
+use Rattle.shape.specs.Shape.{points_of, Shaped}
 use Rattle.shape.proofs.Shape.{is_shaped, shaped_is, not_shaped}
 use Rattle.list.specs.List.{described}
 use Rattle.writer.specs.Write.{Check, check, first_fault, misshapen, whole_of, WriteOutcome, outcome}
 use Rattle.write_judge.specs.declared.Verdict.{Verdict}
 use Rattle.write_judge.specs.declared.Verdict.TheVariants.{Fine, Fault}
 use Rattle.writer.specs.declared.WriteAnswer.{WriteAnswer}
-use Rattle.write_judge.proofs.Checks.{neither, fails, passes, passed, faults_before, fine_before, both_fine}
-use Rattle.write_laws.specs.Refusals.{NoneOf, WriteRefused}
-use Rattle.trace.specs.Trace.{version1, starts_from, deltas_from, coefficients_from, numbers_of, file_of, wild, number_checks}
-use Rattle.trace.specs.Write.{misfit, unheld, header_checks, value_checks, write_checks, write_trace_of}
-use Rattle.trace.proofs.Checks.{fine_each, each_fine}
+use Rattle.write_judge.proofs.Checks.{fails, passes, passed, faults_before, fine_before, both_fine}
+use Rattle.write_laws.specs.Refusals.{WriteRefused}
+use Rattle.trace.specs.Trace.{version1, numbers_of, file_of}
+use Rattle.trace.specs.Write.{write_checks, write_trace_of}
 use Rattle.trace_write.proofs.Puts.{file_size_lem}
 use Rattle.trace_laws.specs.Behind.{PutRefusal}
 use Rattle.trace_laws.specs.Behind as behind

@@ -1,15 +1,12 @@
 -- The codes of reading and of writing a trace file, and when each is given: the table of codes, in the order of the checks. Definitions only.
 -- That a call refuses exactly so is `read_exactly` and `write_exactly` of proofs/When.antt.
-use Rattle.std.specs.Prelude.{◌≡◌, Bool, true, false, List, ℕ, suc, ◌+◌, ◌*◌, ◌%◌, ◌^◌, ◌≤◌, ◌<◌, length, get_or, ℤ, pos, nat_abs, Float}
-use Rattle.std.specs.Int.Signed.{mag}
-use Rattle.std.specs.Float.{nan, inf, fin}
-use Rattle.std.specs.Float.Ieee.{up, down}
+use Rattle.std.specs.Prelude.{◌≡◌, List, ℕ, ◌+◌, ◌*◌, ◌^◌, ◌≤◌, ◌<◌, length, ℤ, Float}
 use Rattle.codes.specs.declared.Code.{Code}
 use Rattle.codes.specs.declared.Code.TheVariants.{Short, Coord, Delta, Trail, Room, Shape, Header}
 use Rattle.shape.specs.Shape.{points_of, Shaped}
 use Rattle.list.specs.List.{ListRooms}
 use Rattle.write_laws.specs.Refusals.{NoneOf}
-use Rattle.little.specs.Little.{numbers_in, signed_in}
+use Rattle.little.specs.Little.{numbers_in}
 use Rattle.trace.specs.Trace.{part}
 use Rattle.trace_laws.specs.Behind.{number, S, P, OutsideAt, WildAt, LaidBy, SummedBy, PlacedBy, TamedBy, MisfitAt, WildIn, HeadedBy, HeadableBy, FittingBy, WritableBy}
 

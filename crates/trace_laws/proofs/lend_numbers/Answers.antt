@@ -3,7 +3,6 @@ use mathlib.Core.List.{List, [], ◌∷◌}
 use Prim.Native.Nat.{ℕ, suc, ◌^◌, ◌<◌}
 use lib.ListN.{get_or}
 use Rattle.little.specs.Little.{Numbers}
-use borrow.Author.Rules.{rules}
 use Rattle.trace_laws.proofs.lend_numbers.Goals as goal
 
 each : (xs : List ℕ) → ((i : ℕ) → get_or xs i 0 < 2 ^ 32) → Numbers xs

@@ -1,8 +1,4 @@
-use borrow.Author.Rules.{rules}
-use Prim.Native.Nat.{◌-◌, ◌≤◌}
 use native.Mathlib.Omega.{arith}
-use lib.ListN.{length, take}
-use Rattle.little.specs.Little.{Signeds}
 use Rattle.trace_laws.proofs.Lent.{signed_more, signed_all}
 use Rattle.trace_laws.proofs.lend_signed.Goals as goal
 

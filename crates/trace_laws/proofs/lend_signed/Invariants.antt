@@ -1,9 +1,6 @@
-use borrow.Author.Rules.{rules}
 use Prim.Native.Nat.{◌-◌, ◌≤◌}
-use native.Mathlib.Omega.{arith}
 use lib.ListN.{length, take}
 use Rattle.little.specs.Little.{Signeds}
-use Rattle.trace_laws.proofs.Lent.{signed_more, signed_all}
 use Rattle.trace_laws.proofs.lend_signed.Given as goal
 
 abbrev pub invariant-loop-i : goal.invariant-loop-i
