@@ -1,16 +1,16 @@
 -- `trace_read2` refuses with a code at a place exactly when the table of reading gives it.
-use mathlib.Core.Path.{◌≡◌, refl, sym, ap, subst, ◌∙◌}
-use mathlib.Core.Bool.{Bool, true, false}
-use mathlib.Core.Logic.{◌↔◌, ◌⊎◌, inl, inr}
+use mathlib.Core.Path.{◌≡◌, refl, sym, ap, ◌∙◌}
+use mathlib.Core.Bool.{true, false}
+use mathlib.Core.Logic.{◌↔◌, inl, inr}
 use mathlib.Core.List.{List, [], ◌∷◌, ◌++◌}
-use Prim.Native.Nat.{ℕ, ◌+◌, ◌*◌, ◌≤◌, ◌<◌}
+use Prim.Native.Nat.{ℕ, ◌*◌, ◌≤◌, ◌<◌}
 use native.Mathlib.Omega.{arith}
-use lib.Dec.{T, eqb, ltb}
+use lib.Dec.{ltb}
 use lib.ListN.{length, get_or}
-use borrow.Author.Tests.{lt-ltb, le-ltb, ltb-true, ltb-false, eq-eqb}
+use borrow.Author.Tests.{lt-ltb, le-ltb, ltb-true, ltb-false}
 use Rattle.codes.specs.declared.Code.{Code}
 use Rattle.codes.specs.declared.Code.TheVariants.{Short, Room, Header, Edition}
-use Rattle.list.specs.List.{ListRooms, Got, got, stop, Described, described}
+use Rattle.list.specs.List.{ListRooms, got, stop, Described, described}
 use Rattle.reader.specs.Read.{ReadOutcome, outcome}
 use Rattle.reader.specs.Refusals.{ReadRefused}
 use Rattle.read_list.specs.declared.ReadAnswer.{ReadAnswer}
@@ -19,7 +19,7 @@ use Rattle.write_judge.specs.declared.Verdict.{Verdict}
 use Rattle.write_judge.specs.declared.Verdict.TheVariants.{Fine, Fault}
 use Rattle.write_judge.proofs.Checks.{fails, passes, passed, faults_before, fine_before, both_fine}
 use Rattle.little.specs.Little.{numbers_in}
-use Rattle.trace.specs.Read.{splines_in, points_in, offset_checks, body_checks, tight, described_in}
+use Rattle.trace.specs.Read.{offset_checks, body_checks, tight, described_in}
 use Rattle.trace_laws.specs.Behind.{number, S, P, LaidBy, TamedBy, OffsetRefusal, BodyRefusal}
 use Rattle.trace_laws.specs.Behind as behind
 use Rattle.trace_laws.specs.Refusals.{ListLacks}
@@ -28,7 +28,7 @@ use Rattle.trace_laws.proofs.Firsts.{head_or, append_or, none_or}
 use Rattle.trace_laws.proofs.BehindWhen.{body_to, offsets_to, told_offset, told_body}
 use Rattle.trace_laws.proofs.ReadWhen.{lacks_tight, tight_lacks}
 use Rattle.trace2.specs.Editions.{unknown, header_long, edition_in}
-use Rattle.trace2.specs.Read.{laid_checks, file_checks, whole_checks2, read_file, FileOutcome, with_edition, read_file_of}
+use Rattle.trace2.specs.Read.{laid_checks, file_checks, whole_checks2, read_file, FileOutcome, read_file_of}
 use Rattle.trace2.proofs.Editions.{one_known, two_known, neither_known, known_is, unknown_not}
 use Rattle.trace2.proofs.Versions.{short_alike, second_alike}
 use Rattle.trace2_laws.specs.Refusals.{Known, Unknown, Says, first, second, Editioned, FileReadRefusal, cut, version, cut_second, offset, edition, body, room}

@@ -1,12 +1,11 @@
 -- One file a version: what is written is read, what is read is written as the same bytes; and a reader of version 1 says HEADER to version 2.
 -- A contract is an equation, so each theorem takes its outcomes by their equations.
 use mathlib.Core.Path.{◌≡◌, refl, sym, ap, subst, ◌∙◌}
-use mathlib.Core.Bool.{Bool, true, false}
-use mathlib.Core.Logic.{◌⊎◌, inl, inr}
+use mathlib.Core.Bool.{false}
+use mathlib.Core.Logic.{inl, inr}
 use mathlib.Core.List.{List, [], ◌∷◌, ◌++◌, map}
 use Prim.Native.Nat.{ℕ, ◌+◌, ◌-◌, ◌*◌, ◌^◌, ◌≤◌, ◌<◌}
 use native.Mathlib.Omega.{arith}
-use lib.Dec.{T, eqb, ltb}
 use lib.ListN.{length, take, drop, get_or, replicate}
 use lib.Seq.{take_at, drop-cons}
 use lib.IntN.{ℤ, pos}
@@ -16,38 +15,38 @@ use borrow.Author.Tests.{le-ltb}
 use Rattle.buffers.specs.Padded.{padded}
 use Rattle.codes.specs.declared.Code.TheVariants.{Short, Room, Shape, Header, Edition}
 use Rattle.shape.specs.Shape.{points_of}
-use Rattle.list.specs.List.{ListRooms, Got, got, stop, Described, described}
+use Rattle.list.specs.List.{ListRooms, got, stop, Described, described}
 use Rattle.list.specs.Steps.{f32_of, zero_f32}
 use Rattle.reader.specs.Read.{ReadOutcome}
 use Rattle.reader.specs.Read as reading
 use Rattle.read_list.specs.declared.ReadAnswer.{ReadAnswer}
-use Rattle.writer.specs.Write.{Check, check, first_fault, whole_of, WriteOutcome, leaves, outcome}
-use Rattle.write_judge.specs.declared.Verdict.TheVariants.{Fine, Fault}
+use Rattle.writer.specs.Write.{check, first_fault, whole_of, WriteOutcome, leaves}
+use Rattle.write_judge.specs.declared.Verdict.TheVariants.{Fine}
 use Rattle.writer.specs.declared.WriteAnswer.{WriteAnswer}
 use Rattle.write_judge.proofs.Checks.{passes, passed, fine_before, both_fine}
 use Rattle.write_laws.specs.Floats.{Floats}
 use Rattle.roundtrip.specs.Enough.{Enough}
 use Rattle.little.specs.Little.{bytes_of, numbers_in, Bytes, Numbers, Signeds}
 use Rattle.little.proofs.Little.{numbers_length}
-use Rattle.trace.specs.Trace.{version1, numbers_of, file_numbers, file_of}
-use Rattle.trace.specs.Read.{splines_in, points_in, offset_checks, body_checks, tight, described_in, read_trace_of}
+use Rattle.trace.specs.Trace.{numbers_of, file_numbers, file_of}
+use Rattle.trace.specs.Read.{offset_checks, tight, described_in, read_trace_of}
 use Rattle.trace.specs.Write.{write_checks, write_trace_of}
 use Rattle.trace_read.proofs.Loads as loads
 use Rattle.trace_write.proofs.Puts.{judged, file_size_lem}
 use Rattle.trace_laws.specs.Behind.{number, TamedBy}
 use Rattle.trace_laws.specs.Refusals as first-version
 use Rattle.trace_laws.proofs.ReadWhen as first_read
-use Rattle.trace_laws.proofs.Back.{starts_back, numbers_are, size_is, offsets_so, body_so, described_so, roomy, ns_in, zs_in, ds_in, cs_in, FileFound, again_fine, taken, found_first}
+use Rattle.trace_laws.proofs.Back.{starts_back, numbers_are, offsets_so, body_so, described_so, roomy, ns_in, zs_in, ds_in, cs_in, FileFound, again_fine, taken, found_first}
 use Rattle.trace_laws.proofs.Trips.{Left, done_left, accepted_left, file_then_read, done_read, read_then_file, same_front}
 use Rattle.trace2.specs.Editions.{unknown, version2, header_long, edition_in}
 use Rattle.trace2.specs.Read.{laid_checks, file_checks, whole_checks2, read_file, FileOutcome, with_edition, read_file_of}
-use Rattle.trace2.specs.Write.{barred, write_checks2, write_file_of}
+use Rattle.trace2.specs.Write.{write_checks2, write_file_of}
 use Rattle.trace2.proofs.Editions.{two_known, known_is, barred_other, free_known}
 use Rattle.trace2.proofs.Versions.{other_as_before, nine_so, ninth_so, write_as_before}
 use Rattle.trace2_write.proofs.Seconds.{found_none}
 use Rattle.trace2_laws.specs.Refusals.{Known, Says, Editioned, Holds, FileAccepted}
 use Rattle.trace2_laws.specs.Refusals as told
-use Rattle.trace2_laws.proofs.ReadWhen.{known_told, Clean, file_clean, judged_fine, done_fine}
+use Rattle.trace2_laws.proofs.ReadWhen.{known_told, file_clean, judged_fine, done_fine}
 use Rattle.trace2_laws.proofs.WriteWhen.{write_done}
 
 -- ---- a reader of version 1

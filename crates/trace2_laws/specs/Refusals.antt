@@ -1,6 +1,6 @@
 -- The codes of reading and of writing a trace file of either version, and when each is given: the table of codes, in the order of the checks. Definitions only.
 -- That a call refuses exactly so is `read_exactly` of proofs/ReadWhen.antt and `write_exactly` of proofs/WriteWhen.antt. What the versions share is in Behind.antt of `trace_laws`, over how many numbers the header has.
-use Rattle.std.specs.Prelude.{◌≡◌, ◌⊎◌, List, ℕ, ◌+◌, ◌*◌, ◌≤◌, ◌<◌, length, ℤ, Float}
+use Rattle.std.specs.Prelude.{◌≡◌, ◌⊎◌, List, ℕ, ◌≤◌, ◌<◌, length, ℤ, Float}
 use Rattle.codes.specs.declared.Code.{Code}
 use Rattle.codes.specs.declared.Code.TheVariants.{Short, Room, Shape, Header, Edition}
 use Rattle.shape.specs.Shape.{points_of, Shaped}
