@@ -1,10 +1,9 @@
 -- Two right tables over the same segments give every desk the same summary and the same refreshes.
 use mathlib.Core.Path.{◌≡◌, refl}
 use mathlib.Core.List.{List}
-use Prim.Native.Nat.{ℕ, ◌*◌, ◌<◌}
+use Prim.Native.Nat.{ℕ, ◌*◌}
 use native.Mathlib.Omega.{arith}
 use lib.ListN.{take}
-use Rattle.segments.specs.Segment.{segment_at}
 use Rattle.desks.specs.Desks.{Sight}
 use Rattle.checks.specs.Tables.{Table, table_of}
 use Rattle.checks.specs.Refusals.{CountsFit}

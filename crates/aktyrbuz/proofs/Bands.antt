@@ -1,11 +1,10 @@
 -- Request (xi): each statement on outcomes of making and refreshing a summary, by the laws of `bands_laws` through the equations of the contracts.
 use mathlib.Core.Path.{◌≡◌, refl, sym, ap, subst, ◌∙◌}
-use mathlib.Core.Bool.{Bool}
 use mathlib.Core.Logic.{◌↔◌}
 use mathlib.Core.List.{List}
-use Prim.Native.Nat.{ℕ, ◌+◌, ◌*◌, ◌<◌, ◌≤◌}
+use Prim.Native.Nat.{ℕ, ◌<◌}
 use native.Mathlib.Omega.{arith}
-use lib.ListN.{length, get_or}
+use lib.ListN.{length}
 use Rattle.desks.specs.Desks.{Sight}
 use Rattle.desks.specs.Agree.{Agree}
 use Rattle.desks.specs.Hide.{HideOutcome, hide_of}
@@ -16,7 +15,7 @@ use Rattle.bands.specs.declared.BandsAnswer.{BandsAnswer}
 use Rattle.bands.specs.Bands.{bands_in}
 use Rattle.bands.specs.Calls.{BandsOutcome, bands_of, band_of}
 use Rattle.bands_laws.specs.Done.{BandsDone}
-use Rattle.bands_laws.specs.Summaries.{InBand, RowReach, HullOf, Refreshes}
+use Rattle.bands_laws.specs.Summaries.{RowReach, HullOf, Refreshes}
 use Rattle.bands_laws.proofs.Rows.{band_rows}
 use Rattle.bands_laws.proofs.Refusals.{bands_place, bands_refused, bands_refused_exactly, bands_done, bands_done_exactly, bands_else_done, band_place, band_refused, band_refused_exactly, band_done, band_done_exactly, band_else_done}
 use Rattle.bands_laws.proofs.Fresh as laws
@@ -24,9 +23,9 @@ use Rattle.bands_laws.proofs.Alike as alike
 use Rattle.aktyrbuz.proofs.AcceptedBands.{bands_same, band_same}
 use Rattle.bands_laws.proofs.Hiding as after
 use Rattle.makers_laws.proofs.Built.{fits_drawing, kept_fit, kept_is_right}
-use Rattle.aktyrbuz.specs.Calls.{ReachCall, HideCall, with_bits}
-use Rattle.aktyrbuz.specs.BandsCalls.{BandsCall, BandCall, BandCalls}
-use Rattle.aktyrbuz.specs.Requests.{Reaches, BandsCodes, BandCodes, BandsOneOutcome, RowsInBands, BandSegments, MustReach, ReachHull, BandIsHull, RefreshedIsFresh, OtherBandsStay, NoEntryZeros, RefreshesDone, SummaryAfterHide, BandsOfDesksApart, BandsOfAccepted}
+use Rattle.aktyrbuz.specs.Calls.{with_bits}
+use Rattle.aktyrbuz.specs.BandsCalls.{BandsCall, BandCall}
+use Rattle.aktyrbuz.specs.Requests.{Reaches, BandsCodes, BandCodes, BandsOneOutcome, RowsInBands, BandSegments, MustReach, BandIsHull, RefreshedIsFresh, OtherBandsStay, NoEntryZeros, RefreshesDone, SummaryAfterHide, BandsOfDesksApart, BandsOfAccepted}
 use Rattle.aktyrbuz.proofs.Calls.{reach_equation, hide_equation, built_by}
 use Rattle.aktyrbuz.proofs.BandsNumbers.{bands_equation, band_equation, refreshes_by}
 use Rattle.aktyrbuz.proofs.Requests.{hides_agree, accepted_is}

@@ -1,6 +1,5 @@
 -- The codes of reading and writing hold of every outcome: what the tables say of the definitions, carried over the contract's equation.
 use mathlib.Core.Path.{◌≡◌, refl, sym, ap, ◌∙◌}
-use mathlib.Core.List.{List}
 use Prim.Native.Nat.{ℕ}
 use Rattle.codes.specs.declared.Code.{Code}
 use Rattle.reader.specs.Read.{ReadOutcome}

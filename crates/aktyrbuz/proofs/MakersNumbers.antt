@@ -1,7 +1,6 @@
 -- The contract of the check is an equation, and its answer is what the export leaves.
 use mathlib.Core.Path.{◌≡◌}
 use mathlib.Core.List.{List}
-use Prim.Native.Nat.{ℕ}
 use lib.IntN.{ℤ}
 use Rattle.checks.specs.Tables.{Table}
 use Rattle.makers.specs.declared.CheckAnswer.{CheckAnswer}

@@ -1,8 +1,8 @@
 -- Request (iv): what is accepted, each code exactly when, and both ways round, for every outcome that the contracts of the two calls allow.
 use mathlib.Core.Path.{◌≡◌, refl, sym, ap, subst, ◌∙◌}
-use mathlib.Core.List.{List, [], ◌∷◌, ◌++◌}
+use mathlib.Core.List.{List, [], ◌∷◌}
 use mathlib.Core.Logic.{◌↔◌, ◌⊎◌}
-use Prim.Native.Nat.{ℕ, ◌*◌, ◌≤◌, ◌<◌}
+use Prim.Native.Nat.{ℕ, ◌*◌}
 use native.Mathlib.Omega.{arith}
 use lib.IntN.{ℤ}
 use lib.ListN.{length, get_or, take}
@@ -11,12 +11,12 @@ use Rattle.codes.specs.declared.Code.{Code}
 use Rattle.writer.specs.Write.{WriteOutcome}
 use Rattle.writer.specs.declared.WriteAnswer.{WriteAnswer}
 use Rattle.writer.specs.declared.WriteAnswer.TheVariants.{Done, Refused}
-use Rattle.dequantize.specs.Judge.{description_of, start_x, start_y, deltas_of}
-use Rattle.dequantize.specs.Refusals.{SplinePasses, SplineRefusal}
+use Rattle.dequantize.specs.Judge.{description_of}
+use Rattle.dequantize.specs.Refusals.{SplineRefusal}
 use Rattle.dequantize.specs.declared.Given.{Given}
 use Rattle.polyline.specs.Read.{PointsOutcome, read_points_of}
 use Rattle.polyline.specs.Write.{write_points_of}
-use Rattle.polyline_laws.specs.Refusals.{PointsReadRefusal, PointsAccepted, There, PointsWriteRefusal, PointsWritten}
+use Rattle.polyline_laws.specs.Refusals.{PointsReadRefusal, PointsAccepted, PointsWriteRefusal, PointsWritten}
 use Rattle.polyline_laws.proofs.Says.{form_says, one_saying}
 use Rattle.polyline_laws.proofs.ReadWhen.{read_exactly}
 use Rattle.polyline_laws.proofs.Accepted.{accepted_exactly, accepted_leaves}
@@ -24,7 +24,7 @@ use Rattle.polyline_laws.proofs.WriteWhen.{write_exactly, written_exactly}
 use Rattle.polyline_laws.proofs.Trips.{written_back, alone_back, origin, origin_is, read_back}
 use Rattle.polyline_laws.proofs.AsBuilt.{built_code, passed_code}
 use Rattle.aktyrbuz.specs.PolylineCalls.{PointsReadCall, PointsWriteCall}
-use Rattle.aktyrbuz.specs.Requests.{PointsRefused, TextAcceptedExactly, PointsDone, PointsReadCodes, PointsWriteCodes, HasRead, PointsAsBuilt, TextWrittenBack, ReadBack, TextReadBack}
+use Rattle.aktyrbuz.specs.Requests.{TextAcceptedExactly, PointsDone, PointsReadCodes, PointsWriteCodes, PointsAsBuilt, TextWrittenBack, TextReadBack}
 use Rattle.aktyrbuz.proofs.Requests.{points_as_defined, points_refusals_zero}
 
 -- an outcome of reading is the defined one, so what is said of that is said of it

@@ -5,7 +5,7 @@ use mathlib.Core.List.{List, []}
 use Prim.Native.Nat.{ℕ, ◌≤◌, ◌<◌, ◌+◌, suc, ◌-◌, ◌^◌, ◌*◌}
 use native.Mathlib.Nat.{zero-add, not-le_of_lt}
 use native.Mathlib.Omega.{arith}
-use lib.ListN.{length, get_or, take, replicate, get_or-append}
+use lib.ListN.{length, get_or, take, get_or-append}
 use Rattle.buffers.specs.Padded.{padded}
 use Rattle.dequantize.specs.Judge.{Description}
 use Rattle.segments.specs.declared.Segment.{Segment}
@@ -25,7 +25,7 @@ use Rattle.checks.specs.Tables.{Table, row_of, shown_of}
 use Rattle.checks.specs.declared.Verdict.{Verdict}
 use Rattle.checks.specs.declared.Verdict.TheVariants.{Fine, Fault}
 use Rattle.checks.proofs.Entries.{and_left, and_right}
-use Rattle.checks.proofs.Refusals.{counts_fit_for, row_fine_for, counts_fit, row_fine}
+use Rattle.checks.proofs.Refusals.{counts_fit_for, row_fine_for}
 use Rattle.draw.specs.Draw.{Channels, DrawOutcome, updates, judge_draw, outcome, draw_of}
 use Rattle.draw.proofs.Alike.{whole_row}
 use Rattle.draw.specs.Keeps.{Updates}
@@ -39,9 +39,9 @@ use Rattle.hull.proofs.Reaches.{PassedReach, reached}
 use Rattle.picture.specs.Picture.{Lists, Found, RowPicture, row_pairs, image_pairs, built}
 use Rattle.picture.specs.Sights.{hides, KeptSight}
 use Rattle.picture.proofs.Sights.{none_hidden}
-use Rattle.picture.proofs.Keeping.{kept_count, kept_is, kept_owner, owned_for, shown_lists, kept_lists}
-use Rattle.aktyrbuz.specs.Calls.{KeptTable, RowRun, BuildDone, DrawCall, ReachCall, HideCall, HideCalls, with_bits}
-use Rattle.aktyrbuz.specs.Requests.{Reaches, InReach, NoReach, HasSegment, OutsideReachUntouched, BothEnds, ReachEndsUpdated, ReachEmptyExactly, LeftEdgeReached, SegmentsNear, TablesNear, BeyondByOne, RowIs, ColumnIs, Clear, DrawingsNear, OwnersOf, OwnersLeft, OwnersAscend, SplineOwns, OwnerIsSpline, NoOwner, SkippedHasNone, NumbersByKind, FaintCounted, FaintEnds, FaintByKind, FileReadBack, FileWrittenBack, OneFile, TraceReadCodes, TraceWriteCodes, TraceOneOutcome, NegativeFirstStart, DesksApart, OtherDeskUnseen, OwnBitsAlone, HideChangesOneBit, HideCodes, HideOneOutcome, BuiltIsLent, AsWithoutDesks, MeetsExactly, FirstBrokenRule, ProfileCodes, ProfileBuildIsBuild, ProfileBuildCodes, ProfileOneOutcome, Edition1In2, EditionExactly, OlderReaderSaysHeader, OneFilePerVersion, VersionOneAsBefore, FileReadCodes, FileWriteCodes, FileOneOutcome, TableAcceptedExactly, AcceptedTable, TableRefusal, FirstWrongRow, CheckCodes, CheckOneOutcome, BuiltIsAccepted, AcceptedDrawsTheSame, PointsAsDefined, FirstBadByteTold, PointsRefusalsZero, PointsOneOutcome}
+use Rattle.picture.proofs.Keeping.{kept_count, kept_is, kept_owner, owned_for, shown_lists}
+use Rattle.aktyrbuz.specs.Calls.{KeptTable, RowRun, BuildDone, DrawCall, ReachCall, HideCalls, with_bits}
+use Rattle.aktyrbuz.specs.Requests.{Reaches, InReach, NoReach, HasSegment, OutsideReachUntouched, BothEnds, ReachEndsUpdated, ReachEmptyExactly, LeftEdgeReached, SegmentsNear, TablesNear, BeyondByOne, RowIs, ColumnIs, Clear, DrawingsNear, OwnersOf, OwnersLeft, OwnersAscend, OwnerIsSpline, NoOwner, SkippedHasNone, NumbersByKind, FaintCounted, FaintByKind, FileReadBack, FileWrittenBack, OneFile, TraceReadCodes, TraceWriteCodes, TraceOneOutcome, NegativeFirstStart, DesksApart, OtherDeskUnseen, OwnBitsAlone, HideChangesOneBit, HideCodes, HideOneOutcome, BuiltIsLent, AsWithoutDesks, MeetsExactly, FirstBrokenRule, ProfileCodes, ProfileBuildIsBuild, ProfileBuildCodes, ProfileOneOutcome, Edition1In2, EditionExactly, OlderReaderSaysHeader, OneFilePerVersion, VersionOneAsBefore, FileReadCodes, FileWriteCodes, FileOneOutcome, TableAcceptedExactly, AcceptedTable, TableRefusal, FirstWrongRow, CheckCodes, CheckOneOutcome, BuiltIsAccepted, AcceptedDrawsTheSame, PointsAsDefined, FirstBadByteTold, PointsRefusalsZero, PointsOneOutcome}
 use Rattle.aktyrbuz.proofs.Readings.{starred_readings}
 use Rattle.aktyrbuz.proofs.Calls.{draw_equation, reach_equation, hide_equation, hide_told_by, built_by, kept_are, own_alike, row_by, hides_by, build_equation}
 use mathlib.Core.Bool.{Bool, true, false, true≢false, not, ◌&&◌}
@@ -55,7 +55,7 @@ use Rattle.painting.proofs.Segments.{spline_one, makes_owned}
 use Rattle.points.specs.Points.{eights}
 use Rattle.table.specs.Segments.{BuildMakes, done_with}
 use Rattle.table.proofs.Segments.{one_owned}
-use Rattle.picture.specs.Owners.{segments_in, owned_by, Ascending, Skipped}
+use Rattle.picture.specs.Owners.{segments_in, Ascending, Skipped}
 use Rattle.picture.proofs.Owners.{Owned, makes_ascend, ascending_front, makes_owned_by, none_owned, segments_found}
 use Rattle.picture.proofs.Skips.{skipped_makes_none, no_deltas_skipped}
 use Rattle.numbers.specs.Arith.{0·0, ◌⊕◌, ◌⊖◌}
@@ -88,7 +88,7 @@ use Rattle.aktyrbuz.specs.ListCodes.{ReadDone}
 use Rattle.aktyrbuz.specs.TraceCalls.{TraceReadCall, reads, TraceWriteCall, writes}
 use Rattle.profile.specs.Profile.{ProfileOutcome, tells, profile_of}
 use Rattle.profile.specs.declared.ProfileAnswer.{ProfileAnswer}
-use Rattle.profile_build.specs.Building.{ProfileBuildOutcome, stopped_with, as_built, build_profile_of}
+use Rattle.profile_build.specs.Building.{ProfileBuildOutcome, stopped_with, as_built}
 use Rattle.profile_told.specs.declared.ProfileBuildAnswer.{ProfileBuildAnswer}
 use Rattle.profile_laws.proofs.Says.{meets_iff, broken_iff, refused_iff, edition_iff}
 use Rattle.profile_laws.proofs.Editions.{answer_1_in_2}
@@ -119,7 +119,6 @@ use Rattle.makers_laws.proofs.Refusals as makers-when
 use Rattle.desks.specs.Hide as hide-table
 use Rattle.desks.proofs.Hiding as hiding
 use Rattle.draw.proofs.Parts as parts
-use Rattle.rows.specs.Rows as listing
 use Rattle.kinds.specs.declared.KindI64.TheVariants as I64
 use Rattle.kinds.specs.declared.KindU64.TheVariants as U64
 use Rattle.table.specs.Table as building

@@ -3,6 +3,7 @@
 use Rattle.std.specs.Prelude.{◌≡◌, Bool, ℕ, ◌+◌, ◌^◌, ◌≤◌, ◌<◌, length, ℤ, Float}
 use mathlib.Core.List.{List, [], ◌∷◌, Permᴰ}
 use contract.Lifetimes.{Lfts}
+use denote.Bor.{Bor}
 use Rattle.approximations.proofs.ln.Reads as ln
 use Rattle.list.specs.List.{ListRooms}
 use Rattle.reader.specs.Read as reading
@@ -45,7 +46,7 @@ pub data ReadCall : List ℕ → ℕ → ℕ → ListRooms → reading.ReadOutco
 
 -- of a description, under two limits, with so many cells lent; the starts are f32, as every slice of f32 is that can be lent (the contract of `write_laws::lend`)
 pub data WriteCall : List ℕ → List Float → List ℤ → List ℤ → ℤ → ℕ → ℕ → ℕ → writing.WriteOutcome → Type 0 where
-  writes : (κs : Lfts 5) (counts : _) (starts : _) (deltas : _) (coefficients : _) (adjustment : _) (configured : _) (pixels : _) (list : _) (r : _)
+  writes : (κs : Lfts 5) (counts : _) (starts : Bor (List Float)) (deltas : _) (coefficients : _) (adjustment : _) (configured : _) (pixels : _) (list : _) (r : _)
       (counts' : _) (starts' : _) (deltas' : _) (coefficients' : _) (adjustment' : _) (configured' : _) (pixels' : _) (list' : _)
       → Floats starts.now → write.Post κs (counts, (starts, (deltas, (coefficients, (adjustment, (configured, (pixels, (list, tt)))))))) r
       (counts', (starts', (deltas', (coefficients', (adjustment', (configured', (pixels', (list', tt))))))))

@@ -88,7 +88,6 @@ use Rattle.polyline_laws.specs.Says.{FormSays, OneSaying}
 use Rattle.polyline_laws.specs.Refusals.{PointsReadRefusal, PointsAccepted, There, PointsWriteRefusal, PointsWritten}
 use Rattle.aktyrbuz.specs.PolylineCalls.{PointsReadCall, PointsWriteCall}
 use Rattle.draw.specs.Image as drawing
-use Rattle.rows.specs.Rows as listing
 use Rattle.kinds.specs.declared.KindI64.TheVariants as I64
 use Rattle.kinds.specs.declared.KindU64.TheVariants as U64
 use Rattle.table.specs.Table as building

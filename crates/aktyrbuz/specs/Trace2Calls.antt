@@ -3,6 +3,7 @@
 use Rattle.std.specs.Prelude.{List, ℕ, ◌^◌, ◌<◌, length, ℤ, Float}
 use Rattle.std.specs.Int.Signed.{mag}
 use contract.Lifetimes.{Lfts}
+use denote.Bor.{Bor}
 use Rattle.list.specs.List.{ListRooms}
 use Rattle.reader.specs.Read as reading
 use Rattle.writer.specs.Write as writing
@@ -14,7 +15,7 @@ use Rattle.trace2_write.proofs.trace_write2.Reads as trace-write2
 
 -- of a file, with so many cells lent; the file is bytes, as every slice of u8 is that can be lent (the contract of `trace_laws::lend_bytes`)
 pub data FileReadCall : List ℕ → ListRooms → FileOutcome → Type 0 where
-  reads : (κs : Lfts 5) (bytes : _) (counts : _) (starts : _) (deltas : _) (coefficients : _) (r : _)
+  reads : (κs : Lfts 5) (bytes : Bor (List ℕ)) (counts : _) (starts : _) (deltas : _) (coefficients : _) (r : _)
       (bytes' : _) (counts' : _) (starts' : _) (deltas' : _) (coefficients' : _)
       → Bytes bytes.now → trace-read2.Post κs (bytes, (counts, (starts, (deltas, (coefficients, tt))))) r
       (bytes', (counts', (starts', (deltas', (coefficients', tt)))))
@@ -24,7 +25,7 @@ pub data FileReadCall : List ℕ → ListRooms → FileOutcome → Type 0 where
 -- of a description, a version and an edition, with so many bytes lent; its numbers are of their types, as all are that can be lent
 -- (the contracts of `lend_numbers`, `lend_signed` and `take_signed` of `trace_laws`, and of `write_laws::lend`)
 pub data FileWriteCall : List ℕ → List Float → List ℤ → List ℤ → ℤ → ℕ → ℕ → ℕ → writing.WriteOutcome → Type 0 where
-  writes : (κs : Lfts 5) (counts : _) (starts : _) (deltas : _) (coefficients : _) (adjustment : _) (version : _) (edition : _) (bytes : _) (r : _)
+  writes : (κs : Lfts 5) (counts : Bor (List ℕ)) (starts : Bor (List Float)) (deltas : _) (coefficients : Bor (List ℤ)) (adjustment : _) (version : _) (edition : _) (bytes : _) (r : _)
       (counts' : _) (starts' : _) (deltas' : _) (coefficients' : _) (adjustment' : _) (version' : _) (edition' : _) (bytes' : _)
       → Numbers counts.now → Floats starts.now → Signeds coefficients.now → mag adjustment < 2 ^ 31
       → trace-write2.Post κs (counts, (starts, (deltas, (coefficients, (adjustment, (version, (edition, (bytes, tt)))))))) r

@@ -1,6 +1,5 @@
 -- `aktyrbuz_draw` meets its contract: what `draw` leaves, and its answer told in five numbers.
 use Rattle.aktyrbuz.proofs.Numbers.{draw_exported}
-use borrow.Author.Rules.{rules}
 use Rattle.aktyrbuz.proofs.aktyrbuz_draw.Goals as goal
 
 pub returns : goal.returns

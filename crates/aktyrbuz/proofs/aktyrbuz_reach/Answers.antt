@@ -1,6 +1,5 @@
 -- `aktyrbuz_reach` meets its contract: the answer of `reach`, told in five numbers.
 use Rattle.aktyrbuz.proofs.Numbers.{reach_exported}
-use borrow.Author.Rules.{rules}
 use Rattle.aktyrbuz.proofs.aktyrbuz_reach.Goals as goal
 
 pub returns : goal.returns

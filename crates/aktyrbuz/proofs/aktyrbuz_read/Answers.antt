@@ -1,6 +1,5 @@
 -- `aktyrbuz_read` meets its contract: what `read` leaves, and its answer told in five numbers.
 use Rattle.aktyrbuz.proofs.Numbers.{read_exported}
-use borrow.Author.Rules.{rules}
 use Rattle.aktyrbuz.proofs.aktyrbuz_read.Goals as goal
 
 pub returns : goal.returns

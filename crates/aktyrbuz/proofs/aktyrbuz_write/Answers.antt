@@ -3,7 +3,6 @@ use native.Mathlib.Omega.{arith}
 use mir.Syntax.{w32}
 use mir.Facts.{to_z-of_z}
 use Rattle.aktyrbuz.proofs.Numbers.{write_exported}
-use borrow.Author.Rules.{rules}
 use Rattle.aktyrbuz.proofs.aktyrbuz_write.Goals as goal
 
 pub returns : goal.returns

@@ -1,6 +1,5 @@
 -- `aktyrbuz_band` meets its contract: what `refresh` leaves, and its answer told in five numbers.
 use Rattle.aktyrbuz.proofs.BandsNumbers.{bands_exported}
-use borrow.Author.Rules.{rules}
 use Rattle.aktyrbuz.proofs.bands_summary.aktyrbuz_band.Goals as goal
 
 pub returns : goal.returns

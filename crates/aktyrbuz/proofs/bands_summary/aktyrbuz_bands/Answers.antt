@@ -1,6 +1,5 @@
 -- `aktyrbuz_bands` meets its contract: what `make` leaves, and its answer told in five numbers.
 use Rattle.aktyrbuz.proofs.BandsNumbers.{bands_exported}
-use borrow.Author.Rules.{rules}
 use Rattle.aktyrbuz.proofs.bands_summary.aktyrbuz_bands.Goals as goal
 
 pub returns : goal.returns

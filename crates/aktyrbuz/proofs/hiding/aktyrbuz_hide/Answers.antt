@@ -1,6 +1,5 @@
 -- `aktyrbuz_hide` meets its contract: what `hide` leaves, and its answer told in five numbers.
 use Rattle.aktyrbuz.proofs.Numbers.{hide_exported}
-use borrow.Author.Rules.{rules}
 use Rattle.aktyrbuz.proofs.hiding.aktyrbuz_hide.Goals as goal
 
 pub returns : goal.returns

@@ -1,6 +1,5 @@
 -- `aktyrbuz_check` meets its contract: the answer of `check`, told in five numbers.
 use Rattle.aktyrbuz.proofs.MakersNumbers.{check_exported}
-use borrow.Author.Rules.{rules}
 use Rattle.aktyrbuz.proofs.makers_tables.aktyrbuz_check.Goals as goal
 
 pub returns : goal.returns

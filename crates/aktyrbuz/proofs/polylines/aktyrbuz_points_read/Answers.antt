@@ -8,7 +8,6 @@ use Rattle.polyline.specs.Read.{PointsOutcome, leaves}
 use Rattle.told.specs.Told.{told_write, told_in}
 use Rattle.told.specs.declared.Told.{Told}
 use Rattle.aktyrbuz.specs.Polylines.{points_leaves, points_export}
-use borrow.Author.Rules.{rules}
 use Rattle.aktyrbuz.proofs.polylines.aktyrbuz_points_read.Goals as goal
 
 points-exported : {o : PointsOutcome} (r : WriteAnswer) (t : Told) (five : List ℤ) (s : List Float) (d : List ℤ)

@@ -1,6 +1,5 @@
 -- `aktyrbuz_points_write` meets its contract: what `points_write` leaves, and its answer told in five numbers.
 use Rattle.aktyrbuz.proofs.Numbers.{write_exported}
-use borrow.Author.Rules.{rules}
 use Rattle.aktyrbuz.proofs.polylines.aktyrbuz_points_write.Goals as goal
 
 pub returns : goal.returns

@@ -2,7 +2,6 @@
 use mir.Syntax.{w32}
 use mir.Facts.{to_z-of_z}
 use Rattle.aktyrbuz.proofs.ProfileNumbers.{profile_build_exported}
-use borrow.Author.Rules.{rules}
 use Rattle.aktyrbuz.proofs.profiles.aktyrbuz_build_profile.Goals as goal
 
 pub returns : goal.returns

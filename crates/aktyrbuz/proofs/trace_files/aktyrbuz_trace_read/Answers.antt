@@ -1,6 +1,5 @@
 -- `aktyrbuz_trace_read` meets its contract: what `trace_read` leaves, and its answer told in five numbers.
 use Rattle.aktyrbuz.proofs.Numbers.{read_exported}
-use borrow.Author.Rules.{rules}
 use Rattle.aktyrbuz.proofs.trace_files.aktyrbuz_trace_read.Goals as goal
 
 pub returns : goal.returns

@@ -1,6 +1,5 @@
 -- `aktyrbuz_trace_read2` meets its contract: what `trace_read2` leaves, and its answer told in five numbers.
 use Rattle.aktyrbuz.proofs.Trace2Numbers.{file_exported}
-use borrow.Author.Rules.{rules}
 use Rattle.aktyrbuz.proofs.trace_files2.aktyrbuz_trace_read2.Goals as goal
 
 pub returns : goal.returns

@@ -2,7 +2,6 @@
 use mir.Syntax.{w32}
 use mir.Facts.{to_z-of_z}
 use Rattle.aktyrbuz.proofs.Numbers.{write_exported}
-use borrow.Author.Rules.{rules}
 use Rattle.aktyrbuz.proofs.trace_files2.aktyrbuz_trace_write2.Goals as goal
 
 pub returns : goal.returns
