@@ -4,4 +4,4 @@ use borrow.Author.Rules.{rules}
 use Rattle.replay.proofs.report_words.Goals as goal
 
 pub report_kinds-requires : goal.report_kinds-requires
-report_kinds-requires c = sym c.judge.ensures ∙ c.enum_told.given.1
+report_kinds-requires c = sym c.judge-verdict.ensures ∙ c.in-Whole.is
