@@ -5,7 +5,6 @@ use native.Mathlib.Omega.{arith}
 use lib.IntN.{pos}
 use mir.Syntax.{w64}
 use mir.Facts.{to_z_pos}
-use borrow.Author.Rules.{rules}
 use Rattle.told.proofs.signed.Goals as goal
 
 kept : (n : ℕ) → n < 9223372036854775808 → min n 9223372036854775807 ≡ n

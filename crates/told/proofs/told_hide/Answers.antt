@@ -1,5 +1,4 @@
 -- `told_hide` meets its contract: in each arm the answer is known.
-use borrow.Author.Rules.{rules}
 use Rattle.told.proofs.told_hide.Goals as goal
 
 pub returns-in-Done : goal.returns-in-Done

@@ -4,7 +4,6 @@ use native.Mathlib.Omega.{arith}
 use mir.Syntax.{w64}
 use mir.Facts.{to_z_pos}
 use Rattle.told.proofs.Numbers.{signed_back}
-use borrow.Author.Rules.{rules}
 use Rattle.told.proofs.told_profile_build.Goals as goal
 
 pub returns : goal.returns

@@ -1,6 +1,5 @@
 -- `told_refusal` meets its contract: its two calls' results, put in.
 use Rattle.told.proofs.Numbers.{signed_back}
-use borrow.Author.Rules.{rules}
 use Rattle.told.proofs.told_refusal.Goals as goal
 
 pub returns : goal.returns

@@ -4,7 +4,6 @@ use native.Mathlib.Omega.{arith}
 use mir.Syntax.{w64}
 use mir.Facts.{to_z_pos}
 use Rattle.told.proofs.Numbers.{counted}
-use borrow.Author.Rules.{rules}
 use Rattle.told_tables.proofs.told_check.Goals as goal
 
 pub returns-in-Done : goal.returns-in-Done

@@ -4,7 +4,6 @@ use mir.Syntax.{w64}
 use mir.Val.{to_z, of_z}
 use Rattle.told.specs.Told.{signed_of}
 use Rattle.told.proofs.Numbers.{counted, signed_back}
-use borrow.Author.Rules.{rules}
 use Rattle.told_tables.proofs.told_draw.Goals as goal
 
 pub returns-in-Done : goal.returns-in-Done
