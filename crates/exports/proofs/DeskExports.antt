@@ -11,7 +11,6 @@ use Rattle.desks.specs.Hide as hiding
 use Rattle.desks.specs.declared.HideAnswer.TheVariants as Hiding
 use Rattle.aktyrbuz.specs.Exported.{HideExport, hide_export}
 use Rattle.aktyrbuz.specs.Calls as calls
-use Rattle.exports.specs.Exports.{Tells}
 use Rattle.exports.specs.DeskExports.{HideExportCall, hides, HideExportTellsTheCall, HideOneOutcomeExported}
 
 abbrev HideWhole : HideOutcome → Type 0

@@ -17,7 +17,7 @@ use Rattle.write_judge.specs.declared.Verdict.{Verdict}
 use Rattle.write_judge.specs.declared.Verdict.TheVariants.{Fine, Fault}
 use Rattle.dequantize.specs.declared.judge.Judged.{Judged}
 use Rattle.dequantize.specs.declared.judge.Judged.TheVariants as judged
-use Rattle.dequantize.specs.Judge.{Description, description_of}
+use Rattle.dequantize.specs.Judge.{Description}
 use Rattle.points.specs.Points.{eights}
 use Rattle.painting.specs.Painting.{Painted, All, NoRoomAt}
 use Rattle.rows.specs.declared.Listed.{Listed}

@@ -4,7 +4,6 @@ use Rattle.checks.specs.Tables.{Table}
 use Rattle.makers.specs.Check.{check_of}
 use Rattle.aktyrbuz.specs.MakersExported.{CheckExport, check_export}
 use Rattle.aktyrbuz.specs.MakersCalls as calls
-use Rattle.exports.specs.Exports.{Tells}
 use Rattle.exports.specs.MakersExports.{CheckExportCall, checks, CheckExportTellsTheCall, CheckOneOutcomeExported}
 
 pub check_export_tells_the_call : CheckExportTellsTheCall

@@ -9,7 +9,7 @@ use lib.Ieee.{Float}
 use Rattle.codes.specs.declared.Code.TheVariants.{Room}
 use Rattle.shape.specs.Shape.{points_of}
 use Rattle.list.specs.List.{ListRooms, Got, got, stop, described}
-use Rattle.reader.specs.Read.{ReadOutcome, outcome}
+use Rattle.reader.specs.Read.{outcome}
 use Rattle.writer.specs.Write.{check, first_fault, whole_of, WriteOutcome}
 use Rattle.writer.specs.Write as writing
 use Rattle.little.specs.Little.{numbers_in}
@@ -24,7 +24,7 @@ use Rattle.aktyrbuz.specs.Trace2Exported.{file_export}
 use Rattle.aktyrbuz.specs.Trace2Calls as calls
 use Rattle.exports.specs.Exports.{Tells}
 use Rattle.exports.specs.Trace2Exports.{FileReadExportCall, reads, FileWriteExportCall, writes, FileExportsTellTheCalls, FileOneOutcomeExported}
-use Rattle.exports.proofs.Exports.{ReadWhole, WriteWhole, read_whole, verdict_whole}
+use Rattle.exports.proofs.Exports.{WriteWhole, verdict_whole}
 
 -- the answer that an outcome was told from
 answered : ReadAnswer → ℕ → FileAnswer

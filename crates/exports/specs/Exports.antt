@@ -3,6 +3,7 @@
 -- So a demand on a call (crate `aktyrbuz`, specs/Demands.antt) holds of its export: whatever an export returns and leaves is `read_export` and so on of an outcome that the demand speaks of.
 use Rattle.std.specs.Prelude.{◌≡◌, List, ℕ, length, ℤ, Float}
 use contract.Lifetimes.{Lfts}
+use denote.Bor.{Bor}
 use Rattle.list.specs.List.{ListRooms}
 use Rattle.reader.specs.Read as reading
 use Rattle.write_laws.specs.Floats.{Floats}
@@ -33,7 +34,7 @@ pub data ReadExportCall : List ℕ → ℕ → ℕ → ListRooms → ReadExport 
 
 -- of a description, under two limits, with so many cells lent; the starts are f32, as every slice of f32 is that can be lent (the contract of `write_laws::lend`)
 pub data WriteExportCall : List ℕ → List Float → List ℤ → List ℤ → ℤ → ℕ → ℕ → ℕ → WriteExport → Type 0 where
-  writes : (κs : Lfts 6) (counts : _) (starts : _) (deltas : _) (coefficients : _) (adjustment : _) (configured : _) (pixels : _) (list : _) (answer : _) (r : _)
+  writes : (κs : Lfts 6) (counts : _) (starts : Bor (List Float)) (deltas : _) (coefficients : _) (adjustment : _) (configured : _) (pixels : _) (list : _) (answer : _) (r : _)
       (counts' : _) (starts' : _) (deltas' : _) (coefficients' : _) (adjustment' : _) (configured' : _) (pixels' : _) (list' : _) (answer' : _)
       → Floats starts.now → write-contract.Post κs (counts, (starts, (deltas, (coefficients, (adjustment, (configured, (pixels, (list, (answer, tt))))))))) r
       (counts', (starts', (deltas', (coefficients', (adjustment', (configured', (pixels', (list', (answer', tt)))))))))

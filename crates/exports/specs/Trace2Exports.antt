@@ -2,6 +2,7 @@
 use Rattle.std.specs.Prelude.{◌≡◌, List, ℕ, ◌^◌, ◌<◌, length, ℤ, Float}
 use Rattle.std.specs.Int.Signed.{mag}
 use contract.Lifetimes.{Lfts}
+use denote.Bor.{Bor}
 use Rattle.list.specs.List.{ListRooms}
 use Rattle.reader.specs.Read as reading
 use Rattle.write_laws.specs.Floats.{Floats}
@@ -15,7 +16,7 @@ use Rattle.exports.specs.Exports.{Tells}
 
 -- of a file, with so many cells lent
 pub data FileReadExportCall : List ℕ → ListRooms → ReadExport → Type 0 where
-  reads : (κs : Lfts 6) (bytes : _) (counts : _) (starts : _) (deltas : _) (coefficients : _) (answer : _) (r : _)
+  reads : (κs : Lfts 6) (bytes : Bor (List ℕ)) (counts : _) (starts : _) (deltas : _) (coefficients : _) (answer : _) (r : _)
       (bytes' : _) (counts' : _) (starts' : _) (deltas' : _) (coefficients' : _) (answer' : _)
       → Bytes bytes.now → read-contract.Post κs (bytes, (counts, (starts, (deltas, (coefficients, (answer, tt)))))) r
       (bytes', (counts', (starts', (deltas', (coefficients', (answer', tt))))))
@@ -24,7 +25,7 @@ pub data FileReadExportCall : List ℕ → ListRooms → ReadExport → Type 0 w
 
 -- of a description, a version and an edition, with so many bytes lent
 pub data FileWriteExportCall : List ℕ → List Float → List ℤ → List ℤ → ℤ → ℕ → ℕ → ℕ → WriteExport → Type 0 where
-  writes : (κs : Lfts 6) (counts : _) (starts : _) (deltas : _) (coefficients : _) (adjustment : _) (version : _) (edition : _) (bytes : _) (answer : _) (r : _)
+  writes : (κs : Lfts 6) (counts : Bor (List ℕ)) (starts : Bor (List Float)) (deltas : _) (coefficients : Bor (List ℤ)) (adjustment : _) (version : _) (edition : _) (bytes : _) (answer : _) (r : _)
       (counts' : _) (starts' : _) (deltas' : _) (coefficients' : _) (adjustment' : _) (version' : _) (edition' : _) (bytes' : _) (answer' : _)
       → Numbers counts.now → Floats starts.now → Signeds coefficients.now → mag adjustment < 2 ^ 31
       → write-contract.Post κs (counts, (starts, (deltas, (coefficients, (adjustment, (version, (edition, (bytes, (answer, tt))))))))) r
