@@ -92,7 +92,9 @@ pub fn say_long(name: &[u8], room: usize) -> u8
 }
 
 // The file of this name, open. A name that is no text in UTF-8 names none.
-pub fn open<R: Files<File = File>>(rt: &R, name: &[u8]) -> std::io::Result<File> {
+pub fn open<R: Files<File = File>>(rt: &R, name: &[u8]) -> std::io::Result<File>
+    ensures { Unit {0} }
+{
     match std::str::from_utf8(name) {
         Ok(path) => std::fs::open(rt, path),
         Err(_) => Err(Error::from(ErrorKind::InvalidFilename)),
@@ -100,7 +102,9 @@ pub fn open<R: Files<File = File>>(rt: &R, name: &[u8]) -> std::io::Result<File>
 }
 
 // The same, to be written: made where there is none, and emptied.
-pub fn make<R: Files<File = File>>(rt: &R, name: &[u8]) -> std::io::Result<File> {
+pub fn make<R: Files<File = File>>(rt: &R, name: &[u8]) -> std::io::Result<File>
+    ensures { Unit {0} }
+{
     match std::str::from_utf8(name) {
         Ok(path) => std::fs::create(rt, path),
         Err(_) => Err(Error::from(ErrorKind::InvalidFilename)),

@@ -74,7 +74,9 @@ fn splines(file: &File, values: &[u32], counts: &[u32]) -> Result<()> {
 }
 
 // The list of a description with these points.
-pub fn write(file: &File, list: &[u32], counts: &[u32]) -> Result<()> {
+pub fn write(file: &File, list: &[u32], counts: &[u32]) -> Result<()>
+    ensures { Unit {0} }
+{
     if list.len() < 2 {
         return Err(short());
     }

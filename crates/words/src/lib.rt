@@ -107,7 +107,9 @@ fn told(text: &[u8], numbers: &[u64]) {
 }
 
 // A sentence into a file, or why the whole of it was not written.
-pub fn tell(mut file: &File, text: &[u8], numbers: &[u64]) -> std::io::Result<()> {
+pub fn tell(mut file: &File, text: &[u8], numbers: &[u64]) -> std::io::Result<()>
+    ensures { Unit {0} }
+{
     let mut line = [0u8; LINE];
     let n = write(text, numbers, &mut line);
     file.write_all(&line[..n])
@@ -143,7 +145,9 @@ fn first(text: &[u8], n: usize) -> &[u8] {
 }
 
 // A line that says what failed and why, to standard error.
-pub fn fail(what: &[u8], why: Error) {
+pub fn fail(what: &[u8], why: Error)
+    ensures { Unit {0} }
+{
     let mut said = Cursor::new([0u8; LINE]);
     let _ = write!(said, "{why}");
     let n = said.position() as usize;
