@@ -18,31 +18,30 @@ const BYTES: usize = 24576;
 // The bytes of the longest head, and more.
 const HEAD: usize = 64;
 
-// What is asked of a description: what it holds, its rows, its bands, its picture, the traces that have the pixel in this column and row, why the segment of this number sits where it does, its row table, whether that in this file is it, whether it meets this edition of the profile, its trace file, its list, or its line drawing.
+// What is asked of a description: what it holds, its rows, its bands, its picture, the traces that have the pixel in this column and row, why the segment of this number sits where it does, its row table, whether that in this file is it, whether it meets this edition of the profile, its trace file, its list, or its line drawing; what is made goes to the file that it names.
 #[derive(Clone, Copy)]
 pub enum Asked<'a> {
     Contents,
     Rows,
     Bands,
-    Picture,
+    Picture(&'a File),
     Touch(u32, u32),
     Why(u32),
     Table,
     Check(Named<'a>),
     Profile(u32),
-    Trace,
-    List,
-    Drawing,
+    Trace(&'a File),
+    List(&'a File),
+    Drawing(&'a File),
 }
 
-// What is asked, of an image of this size (no rows and columns where there is none), where words go, and a picture of either kind or a file, and the text that names the traces that are hidden for the desk (empty: none), by which edition of the profile it is to be built (0: by none), and which edition a trace file is to hold (0: a file of version 1).
+// What is asked, of an image of this size (no rows and columns where there is none), where words go, and whether a picture is of floats, and the text that names the traces that are hidden for the desk (empty: none), by which edition of the profile it is to be built (0: by none), and which edition a trace file is to hold (0: a file of version 1).
 #[derive(Clone, Copy)]
 pub struct Task<'a> {
     pub width: u32,
     pub height: u32,
     pub asked: Asked<'a>,
     pub to: Stdout,
-    pub file: Option<&'a File>,
     pub floats: bool,
     pub progress: bool,
     pub high: bool,
@@ -95,38 +94,42 @@ fn strip_of(left: u32) -> u32
     if left < STRIP { left } else { STRIP }
 }
 
-// Why a picture is not written that has no file, or that cannot be drawn.
+// Why a picture is not written that cannot be drawn.
 fn no_reason() -> Error {
     Error::from(ErrorKind::InvalidInput)
 }
 
 // Writes these bytes of the picture.
-fn put(task: Task<'_>, bytes: &[u8]) -> std::io::Result<()> {
-    match task.file {
-        None => Err(no_reason()),
-        Some(mut file) => file.write_all(bytes),
-    }
+fn put(mut file: &File, bytes: &[u8]) -> std::io::Result<()> {
+    file.write_all(bytes)
 }
 
 // The first n bytes.
-fn write_front(task: Task<'_>, bytes: &[u8], n: usize) -> std::io::Result<()> {
+fn write_front(file: &File, bytes: &[u8], n: usize) -> std::io::Result<()> {
     if bytes.len() < n {
         return Err(no_reason());
     }
-    put(task, &bytes[..n])
+    put(file, &bytes[..n])
 }
 
 // Writes n pixels.
-fn write_part(task: Task<'_>, n: usize, x: &[f32], y: &[f32], b: &[f32]) -> std::io::Result<()>
+fn write_part(
+    file: &File,
+    task: Task<'_>,
+    n: usize,
+    x: &[f32],
+    y: &[f32],
+    b: &[f32],
+) -> std::io::Result<()>
     requires { (n ≤ 2048) × (n ≤ length x.now) × (n ≤ length y.now) × (n ≤ length b.now) }
 {
     let mut bytes = [0u8; BYTES];
     if task.floats {
         pixels::floats(n, x, y, b, &mut bytes);
-        return write_front(task, &bytes, 12 * n);
+        return write_front(file, &bytes, 12 * n);
     }
     pixels::tones(n, x, y, b, &mut bytes);
-    write_front(task, &bytes, 3 * n)
+    write_front(file, &bytes, 3 * n)
 }
 
 // Draws n pixels of row y from x0 on, on black, and writes them.
@@ -138,6 +141,7 @@ fn draw_part(
     entry_count: u32,
     row_starts: &[u32],
     bits: &[u8],
+    file: &File,
     task: Task<'_>,
     y: u32,
     x0: u32,
@@ -170,7 +174,7 @@ fn draw_part(
         &mut r2,
     ) {
         DrawAnswer::Refused(_, _) => Took::Failed(no_reason()),
-        DrawAnswer::Done(updates) => match write_part(task, n as usize, &r0, &r1, &r2) {
+        DrawAnswer::Done(updates) => match write_part(file, task, n as usize, &r0, &r1, &r2) {
             Ok(()) => Took::Updates(updates),
             Err(why) => Took::Failed(why),
         },
@@ -186,6 +190,7 @@ fn draw_row(
     entry_count: u32,
     row_starts: &[u32],
     bits: &[u8],
+    file: &File,
     task: Task<'_>,
     y: u32,
 ) -> Took {
@@ -202,6 +207,7 @@ fn draw_row(
             entry_count,
             row_starts,
             bits,
+            file,
             task,
             y,
             x0,
@@ -245,6 +251,7 @@ fn draw_rows(
     entry_count: u32,
     row_starts: &[u32],
     bits: &[u8],
+    file: &File,
     task: Task<'_>,
 ) -> Took {
     let height = task.height;
@@ -261,6 +268,7 @@ fn draw_rows(
             entry_count,
             row_starts,
             bits,
+            file,
             task,
             y,
         );
@@ -274,17 +282,17 @@ fn draw_rows(
 }
 
 // The head of a picture: its kind, its size, and the greatest tone or the order of bytes.
-fn write_head(task: Task<'_>) -> std::io::Result<()> {
+fn write_head(file: &File, task: Task<'_>) -> std::io::Result<()> {
     let width = task.width;
     let height = task.height;
     let size = [width as u64, height as u64];
     let mut head = [0u8; HEAD];
     if task.floats {
         let n = words::write(b"PF\n# #\n-1.0\n", &size, &mut head);
-        return put(task, &head[..n]);
+        return put(file, &head[..n]);
     }
     let n = words::write(b"P6\n# #\n255\n", &size, &mut head);
-    put(task, &head[..n])
+    put(file, &head[..n])
 }
 
 fn index(n: u32) -> usize {
@@ -404,6 +412,7 @@ pub fn draw(
     entry_count: u32,
     row_starts: &[u32],
     bits: &[u8],
+    file: &File,
     task: Task<'_>,
 ) -> u8
     ensures { result ≤ 3 }
@@ -411,7 +420,7 @@ pub fn draw(
     let height = task.height;
     let desk = task.desk;
     let to = task.to;
-    if let Err(why) = write_head(task) {
+    if let Err(why) = write_head(file, task) {
         return no_picture(why);
     }
     match draw_rows(
@@ -422,6 +431,7 @@ pub fn draw(
         entry_count,
         row_starts,
         bits,
+        file,
         task,
     ) {
         Took::Failed(why) => no_picture(why),

@@ -48,6 +48,13 @@ const WORDS: usize = 64;
 // The status of what is left to `gauge`.
 const LEFT: u8 = 4;
 
+// A picture's task, and the file that it goes to.
+#[derive(Clone, Copy)]
+struct Drawn<'a> {
+    task: Task<'a>,
+    file: &'a File,
+}
+
 // The counts of a table and its picture, with a byte for each spline: nothing is hidden.
 fn show(
     segments: &[f32],
@@ -59,9 +66,9 @@ fn show(
     bits: &[u8],
     estimate: u64,
     faint: u32,
-    task: Task<'_>,
+    drawn: Drawn<'_>,
 ) -> u8 {
-    let to = task.to;
+    let to = drawn.task.to;
     let status = canvas::say_built(to, segment_count, faint, entry_count, estimate);
     if status != 0 {
         return status;
@@ -74,7 +81,8 @@ fn show(
         entry_count,
         row_starts,
         bits,
-        task,
+        drawn.file,
+        drawn.task,
     )
 }
 
@@ -85,7 +93,7 @@ fn build_in(
     deltas: &[i32],
     coefficients: &[i32],
     adjustment: i32,
-    task: Task<'_>,
+    drawn: Drawn<'_>,
     path: &mut [f32; PATH],
     walk: &mut [f32; WALK],
     segments: &mut [f32; SEGMENTS],
@@ -94,9 +102,9 @@ fn build_in(
     entries: &mut [u32; ENTRIES],
 ) -> u8 {
     let bits = [0u8; SPLINES];
-    let width = task.width;
-    let height = task.height;
-    let high = task.high;
+    let width = drawn.task.width;
+    let height = drawn.task.height;
+    let high = drawn.task.high;
     if SPLINES < counts.len() {
         return LEFT;
     }
@@ -131,7 +139,7 @@ fn build_in(
         &bits[0..counts.len()],
         estimate,
         faint,
-        task,
+        drawn,
     )
 }
 
@@ -141,7 +149,7 @@ fn build(
     deltas: &[i32],
     coefficients: &[i32],
     adjustment: i32,
-    task: Task<'_>,
+    drawn: Drawn<'_>,
 ) -> u8 {
     let mut path = [0.0f32; PATH];
     let mut walk = [0.0f32; WALK];
@@ -155,7 +163,7 @@ fn build(
         deltas,
         coefficients,
         adjustment,
-        task,
+        drawn,
         &mut path,
         &mut walk,
         &mut segments,
@@ -174,7 +182,7 @@ fn build_first(
     splines: u32,
     points: u32,
     adjustment: i32,
-    task: Task<'_>,
+    drawn: Drawn<'_>,
 ) -> u8 {
     let s = splines as usize;
     let n = points as usize;
@@ -196,20 +204,20 @@ fn build_first(
         &deltas[0..2 * n],
         &coefficients[0..128 * s],
         adjustment,
-        task,
+        drawn,
     )
 }
 
 // A list that is read in lent rooms, under the usual configured limit.
 fn read_in(
     list: &[u32],
-    task: Task<'_>,
+    drawn: Drawn<'_>,
     counts: &mut [u32; SPLINES],
     starts: &mut [f32; STARTS],
     deltas: &mut [i32; DELTAS],
     coefficients: &mut [i32; COEFFICIENTS],
 ) -> u8 {
-    let pixels = canvas::pixels_of(task);
+    let pixels = canvas::pixels_of(drawn.task);
     match reader::read(list, 1048576, pixels, counts, starts, deltas, coefficients) {
         ReadAnswer::Refused(_, _) => LEFT,
         ReadAnswer::Done(splines, points, adjustment) => build_first(
@@ -220,13 +228,13 @@ fn read_in(
             splines,
             points,
             adjustment,
-            task,
+            drawn,
         ),
     }
 }
 
 // A list, the first n of the values.
-fn read_first(values: &[u32], n: usize, task: Task) -> u8 {
+fn read_first(values: &[u32], n: usize, drawn: Drawn<'_>) -> u8 {
     if values.len() < n {
         return LEFT;
     }
@@ -236,7 +244,7 @@ fn read_first(values: &[u32], n: usize, task: Task) -> u8 {
     let mut coefficients = [0i32; COEFFICIENTS];
     read_in(
         &values[0..n],
-        task,
+        drawn,
         &mut counts,
         &mut starts,
         &mut deltas,
@@ -245,27 +253,27 @@ fn read_first(values: &[u32], n: usize, task: Task) -> u8 {
 }
 
 // The values of a text, the first n of the bytes, go to a room.
-fn parse_first(bytes: &[u8], n: usize, task: Task<'_>, values: &mut [u32; VALUES]) -> u8 {
+fn parse_first(bytes: &[u8], n: usize, drawn: Drawn<'_>, values: &mut [u32; VALUES]) -> u8 {
     if bytes.len() < n {
         return LEFT;
     }
     match text::values_of(&bytes[0..n], values) {
-        Parsed::Values(held) => read_first(values, held, task),
+        Parsed::Values(held) => read_first(values, held, drawn),
         _ => LEFT,
     }
 }
 
 // The text of an open file goes to a room; one that fills it may be longer.
-fn load_in(fd: i32, task: Task<'_>, bytes: &mut [u8; BYTES], values: &mut [u32; VALUES]) -> u8 {
+fn load_in(fd: i32, drawn: Drawn<'_>, bytes: &mut [u8; BYTES], values: &mut [u32; VALUES]) -> u8 {
     let n = io::read_full(fd, bytes);
     if BYTES <= n {
         return LEFT;
     }
-    parse_first(bytes, n, task, values)
+    parse_first(bytes, n, drawn, values)
 }
 
 // The picture of the list in the file that argument i names.
-fn draw_list<R: Env + Files<File = File>>(rt: &R, i: u8, task: Task<'_>) -> u8 {
+fn draw_list<R: Env + Files<File = File>>(rt: &R, i: u8, drawn: Drawn<'_>) -> u8 {
     let mut held = io::buffer();
     let n = arguments::fill(rt, i as usize, &mut held);
     let Ok(file) = files::open(rt, &held[..n]) else {
@@ -273,7 +281,7 @@ fn draw_list<R: Env + Files<File = File>>(rt: &R, i: u8, task: Task<'_>) -> u8 {
     };
     let mut bytes = [0u8; BYTES];
     let mut values = [0u32; VALUES];
-    load_in(file.as_raw_fd(), task, &mut bytes, &mut values)
+    load_in(file.as_raw_fd(), drawn, &mut bytes, &mut values)
 }
 
 // The same, into a file of this name.
@@ -294,22 +302,25 @@ fn draw_to<R: Env + Files<File = File>>(
     if file.as_raw_fd() < 2 {
         return LEFT;
     }
+    let task = Task {
+        width: width,
+        height: height,
+        asked: Asked::Picture(&file),
+        to: to,
+        floats: floats,
+        progress: terminal,
+        high: high,
+        hide: &[],
+        desk: 0,
+        profile: 0,
+        edition: 0,
+    };
     draw_list(
         rt,
         i,
-        Task {
-            width: width,
-            height: height,
-            asked: Asked::Picture,
-            to: to,
-            file: Some(&file),
-            floats: floats,
-            progress: terminal,
-            high: high,
-            hide: &[],
-            desk: 0,
-            profile: 0,
-            edition: 0,
+        Drawn {
+            task: task,
+            file: &file,
         },
     )
 }

@@ -212,7 +212,6 @@ fn task<'a>(with: With<'a>, width: u32, height: u32, asked: Asked<'a>) -> Task<'
         height: height,
         asked: asked,
         to: with.to,
-        file: None,
         floats: false,
         progress: false,
         high: options.high,
@@ -346,13 +345,62 @@ fn profile<R: Env + Files<File = File>>(rt: &R, i: u8, more: usize, with: With<'
     perform(rt, i as usize, task(with, 0, 0, Asked::Profile(edition)))
 }
 
+// What goes into a file.
+#[derive(Clone, Copy)]
+enum Made {
+    Picture,
+    Trace,
+    List,
+    Drawing,
+}
+
+fn asked_of(made: Made, file: &File) -> Asked<'_> {
+    match made {
+        Made::Picture => Asked::Picture(file),
+        Made::Trace => Asked::Trace(file),
+        Made::List => Asked::List(file),
+        Made::Drawing => Asked::Drawing(file),
+    }
+}
+
+// What is asked of the file that argument i names, into an open file.
+fn make_in<'x, R: Env + Files<File = File>>(
+    rt: &R,
+    i: u8,
+    width: u32,
+    height: u32,
+    made: Made,
+    file: &'x File,
+    floats: bool,
+    with: With<'x>,
+) -> u8 {
+    let options = with.options;
+    perform(
+        rt,
+        i as usize,
+        Task {
+            width: width,
+            height: height,
+            asked: asked_of(made, file),
+            to: with.to,
+            floats: floats,
+            progress: options.progress,
+            high: options.high,
+            hide: with.hide,
+            desk: options.desk,
+            profile: options.profile,
+            edition: options.edition,
+        },
+    )
+}
+
 // What is asked of the file that argument i names, into a file of this name.
 fn write_to<R: Env + Files<File = File>>(
     rt: &R,
     i: u8,
     width: u32,
     height: u32,
-    asked: Asked<'_>,
+    made: Made,
     path: &[u8],
     floats: bool,
     with: With<'_>,
@@ -366,25 +414,7 @@ fn write_to<R: Env + Files<File = File>>(
     if file.as_raw_fd() == 1 {
         return words::wrong(1, b"standard output is closed\n", &[]);
     }
-    let options = with.options;
-    perform(
-        rt,
-        i as usize,
-        Task {
-            width: width,
-            height: height,
-            asked: asked,
-            to: with.to,
-            file: Some(&file),
-            floats: floats,
-            progress: options.progress,
-            high: options.high,
-            hide: with.hide,
-            desk: options.desk,
-            profile: options.profile,
-            edition: options.edition,
-        },
-    )
+    make_in(rt, i, width, height, made, &file, floats, with)
 }
 
 fn draw_named<R: Env + Files<File = File>>(
@@ -396,8 +426,8 @@ fn draw_named<R: Env + Files<File = File>>(
     with: With<'_>,
 ) -> u8 {
     match kind_of(path) {
-        Kind::Tones => write_to(rt, i, width, height, Asked::Picture, path, false, with),
-        Kind::Floats => write_to(rt, i, width, height, Asked::Picture, path, true, with),
+        Kind::Tones => write_to(rt, i, width, height, Made::Picture, path, false, with),
+        Kind::Floats => write_to(rt, i, width, height, Made::Picture, path, true, with),
         _ => usage(),
     }
 }
@@ -422,7 +452,7 @@ fn trace_out<R: Env + Files<File = File>>(rt: &R, i: u8, with: With<'_>) -> u8
     let mut held = io::buffer();
     let n = arguments::fill(rt, i as usize + 1, &mut held);
     match kind_of(&held[..n]) {
-        Kind::Trace => write_to(rt, i, 0, 0, Asked::Trace, &held[..n], false, with),
+        Kind::Trace => write_to(rt, i, 0, 0, Made::Trace, &held[..n], false, with),
         _ => usage(),
     }
 }
@@ -437,7 +467,7 @@ fn trace_in<R: Env + Files<File = File>>(rt: &R, i: u8, with: With<'_>) -> u8
     let mut held = io::buffer();
     let n = arguments::fill(rt, i as usize + 1, &mut held);
     match kind_of(&held[..n]) {
-        Kind::Other => write_to(rt, i, 0, 0, Asked::List, &held[..n], false, with),
+        Kind::Other => write_to(rt, i, 0, 0, Made::List, &held[..n], false, with),
         _ => usage(),
     }
 }
@@ -465,16 +495,7 @@ fn svg_out<R: Env + Files<File = File>>(rt: &R, i: u8, with: With<'_>) -> u8
     let mut held = io::buffer();
     let n = arguments::fill(rt, i as usize + 3, &mut held);
     match kind_of(&held[..n]) {
-        Kind::Drawing => write_to(
-            rt,
-            i,
-            width,
-            height,
-            Asked::Drawing,
-            &held[..n],
-            false,
-            with,
-        ),
+        Kind::Drawing => write_to(rt, i, width, height, Made::Drawing, &held[..n], false, with),
         _ => usage(),
     }
 }

@@ -125,13 +125,6 @@ fn build_judged(
     build(counts, starts, deltas, coefficients, adjustment, task)
 }
 
-// The status where there is no file that what is asked for could go to.
-fn no_file() -> u8
-    ensures { result ≤ 3 }
-{
-    words::wrong(2, b"the name of a file is due\n", &[])
-}
-
 // What is asked of a description.
 fn answer(
     counts: &[u32],
@@ -148,10 +141,7 @@ fn answer(
     let to = task.to;
     match asked {
         Asked::Contents => contents::say(to, counts, starts, deltas.len() / 2, adjustment, source),
-        Asked::Trace => {
-            let Some(file) = task.file else {
-                return no_file();
-            };
+        Asked::Trace(file) => {
             let edition = task.edition;
             passing::as_trace(
                 counts,
@@ -164,16 +154,10 @@ fn answer(
                 file,
             )
         }
-        Asked::List => {
-            let Some(file) = task.file else {
-                return no_file();
-            };
+        Asked::List(file) => {
             passing::as_list(counts, starts, deltas, coefficients, adjustment, to, file)
         }
-        Asked::Drawing => {
-            let Some(file) = task.file else {
-                return no_file();
-            };
+        Asked::Drawing(file) => {
             let width = task.width;
             let height = task.height;
             drawing::write(

@@ -23,7 +23,7 @@ fn show(
 {
     let asked = task.asked;
     match asked {
-        Asked::Picture => canvas::draw(
+        Asked::Picture(file) => canvas::draw(
             segments,
             owners,
             segment_count,
@@ -31,6 +31,7 @@ fn show(
             entry_count,
             row_starts,
             bits,
+            file,
             task,
         ),
         Asked::Bands => {
