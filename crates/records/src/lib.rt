@@ -122,7 +122,7 @@ pub fn draw_record(
     draw_alone(known, whole, y, x0, n, r0, r1, r2)
 }
 
-// Draws the record i of 16 that a flat slice and owners fill: its parameters are plain, so its callers need no walk.
+// Draws the record i of 16 that a flat slice and owners fill.
 fn draw_in_16(
     flat: &[f32],
     owners: &[u64],
