@@ -1,2 +1,3 @@
 -- The definitions of the crate `codes`.
 pub mod Codes
+pub mod Refusal

@@ -4,61 +4,47 @@
 ghost use Rattle.std.specs.Prelude.{◌≡◌};
 ghost use Rattle.codes.specs.Codes.{number_of};
 
-#[derive(Clone, Copy)]
+#[derive(Clone, Copy, Debug, PartialEq, Eq)]
 pub enum Code {
-    Done,
-    Short,
-    Splines,
-    Coord,
-    Points,
-    Delta,
-    Trail,
-    Room,
-    Size,
-    Shape,
-    Position,
-    Distance,
-    Area,
-    Coincide,
-    Table,
-    Row,
-    Span,
-    Header,
-    Text,
-    Desk,
-    Trace,
-    Profile,
-    Edition,
-    Band,
+    Done = 0,
+    Short = 1,
+    Splines = 2,
+    Coord = 3,
+    Points = 4,
+    Delta = 5,
+    Trail = 6,
+    Room = 7,
+    Size = 8,
+    Shape = 9,
+    Position = 10,
+    Distance = 11,
+    Area = 12,
+    Coincide = 13,
+    Table = 14,
+    Row = 15,
+    Span = 16,
+    Header = 17,
+    Text = 18,
+    Desk = 19,
+    Trace = 20,
+    Profile = 21,
+    Edition = 22,
+    Band = 23,
+}
+
+// A refusal: a code, and the place that it names.
+pub type Refusal = (Code, usize);
+
+impl From<Code> for u32 {
+    ghost from_gives = { λ c n. n ≡ number_of c };
+
+    fn from(code: Code) -> u32 {
+        code as u32
+    }
 }
 
 pub fn number_of(code: Code) -> u32
     ensures { result ≡ number_of code }
 {
-    match code {
-        Code::Done => 0,
-        Code::Short => 1,
-        Code::Splines => 2,
-        Code::Coord => 3,
-        Code::Points => 4,
-        Code::Delta => 5,
-        Code::Trail => 6,
-        Code::Room => 7,
-        Code::Size => 8,
-        Code::Shape => 9,
-        Code::Position => 10,
-        Code::Distance => 11,
-        Code::Area => 12,
-        Code::Coincide => 13,
-        Code::Table => 14,
-        Code::Row => 15,
-        Code::Span => 16,
-        Code::Header => 17,
-        Code::Text => 18,
-        Code::Desk => 19,
-        Code::Trace => 20,
-        Code::Profile => 21,
-        Code::Edition => 22,
-        Code::Band => 23,
-    }
+    u32::from(code)
 }
