@@ -10,11 +10,12 @@ use lib.ListN.{length, get_or, set, length-set}
 use lib.Seq.{get_or-set_same, get_or-set_other}
 use borrow.Author.Tests.{lt-ltb, le-ltb, ltb-true, ltb-false, eqb-true, eqb-false}
 use Rattle.codes.specs.declared.Code.{Code}
+use Rattle.codes.specs.Refusal.{Refusal}
 use Rattle.desks.specs.Desks.{bit_of}
 use Rattle.desks.specs.Agree.{OwnBitsAlike}
 use Rattle.desks.specs.Hide.{with_bit, HideOutcome, leaves, hide_of, HideRefusal, Hides, none, more}
 use Rattle.desks.specs.Hide as codes
-use Rattle.desks.specs.declared.HideAnswer.TheVariants as Hiding
+use Rattle.desks.specs.HideAnswer as Hiding
 use Rattle.desks.proofs.Bits.{bit_set, bit_kept}
 
 either : (b : Bool) → (b ≡ true) ⊎ (b ≡ false)
@@ -54,8 +55,9 @@ module _ (bits : List ℕ) (desk spline : ℕ) (hidden : Bool) where
     hide_which : {k : Code} {q : ℕ} → HideRefusal bits desk spline k q → HideRefusal bits desk spline c p
     hide_which {k} {q} l =
         let g : Hiding.Refused k q ≡ Hiding.Refused c p = sym (ap (λ (o : HideOutcome). o.answer) (hide_refused l)) ∙ e in
-        let u : k ≡ c = cc in
-        let v : q ≡ p = cc in
+        let same : ◌≡◌ {A = Refusal} (k, q) (c, p) = cc in
+        let u : k ≡ c = ap (λ (r : Refusal). r.0) same in
+        let v : q ≡ p = ap (λ (r : Refusal). r.1) same in
         rw (← u, ← v) l
 
     hide_line : Way → HideRefusal bits desk spline c p

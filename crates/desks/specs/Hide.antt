@@ -2,8 +2,7 @@
 use Rattle.std.specs.Prelude.{◌≡◌, Bool, cond, List, ℕ, ◌+◌, ◌-◌, ◌*◌, ◌/◌, ◌%◌, ◌^◌, ◌≤◌, ◌<◌, ltb, length, get_or, set}
 use Rattle.codes.specs.Codes.{number_of}
 use Rattle.codes.specs.declared.Code.{Code}
-use Rattle.desks.specs.declared.HideAnswer.{HideAnswer}
-use Rattle.desks.specs.declared.HideAnswer.TheVariants.{Done, Refused}
+use Rattle.desks.specs.HideAnswer.{HideAnswer, Done, Refused}
 
 -- the byte with the desk's bit as asked
 unfoldable pub with_bit : ℕ → Bool → ℕ → ℕ

@@ -1,16 +1,19 @@
 // Two desks, one table: whether a segment is hidden for a desk, by the byte of its spline, and a desk's bit set or cleared.
 #![tactic(auto)]
 
-ghost use Rattle.std.specs.Prelude.{◌≡◌, ◌<◌, length, get_or};
-ghost use Rattle.desks.specs.Desks.{bit_of, sight_of, hidden_in};
+ghost use Rattle.std.specs.Prelude.{◌≡◌, ◌<◌};
+ghost use Rattle.desks.specs.Desks.{bit_of, sight_in, hidden_in, Seen};
 ghost use Rattle.desks.specs.Hide.{with_bit, leaves, hide_of};
 
-use codes::Code;
+use codes::{Code, Refusal};
 
+// What a call takes beside the table: the owners of its segments, how many splines the description had, the shared bytes, and the desk.
 #[derive(Clone, Copy)]
-pub enum HideAnswer {
-    Done,
-    Refused(Code, usize),
+pub struct Sight<'a> {
+    pub owners: &'a [u64],
+    pub splines: u64,
+    pub bits: &'a [u8],
+    pub desk: u32,
 }
 
 // Whether the desk's bit of a byte is set.
@@ -25,12 +28,12 @@ fn bit_of(byte: u8, desk: u32) -> bool
 }
 
 // Whether segment i is hidden for the desk, told by its owner.
-pub fn hidden(owners: &[u64], splines: u64, bits: &[u8], desk: u32, i: usize) -> bool
-    requires { (i < length owners.now) × (get_or owners.now i 0 < length bits.now) × (desk < 2) }
-    ensures { result ≡ hidden_in (sight_of owners.now splines bits.now desk) i }
+pub fn hidden(sight: &Sight<'_>, i: usize) -> bool
+    requires { Seen (sight_in sight.now) i }
+    ensures { result ≡ hidden_in (sight_in sight.now) i }
 {
-    let owner = owners[i] as usize;
-    bit_of(bits[owner], desk)
+    let owner = sight.owners[i] as usize;
+    bit_of(sight.bits[owner], sight.desk)
 }
 
 // The byte with the desk's bit as asked, and every other bit as it was.
@@ -48,16 +51,16 @@ fn with_bit(byte: u8, desk: u32, hidden: bool) -> u8
 }
 
 // Hides a spline for a desk, or shows it again: changes one bit, and nothing where it is refused.
-pub fn hide(bits: &mut [u8], desk: u32, spline: u64, hidden: bool) -> HideAnswer
+pub fn hide(bits: &mut [u8], desk: u32, spline: u64, hidden: bool) -> Result<(), Refusal>
     ensures { leaves result bits.new ≡ hide_of bits.old desk spline hidden }
 {
     if 2 <= desk {
-        return HideAnswer::Refused(Code::Desk, 0);
+        return Err((Code::Desk, 0));
     }
     let at = spline as usize;
     if bits.len() <= at {
-        return HideAnswer::Refused(Code::Trace, 0);
+        return Err((Code::Trace, 0));
     }
     bits[at] = with_bit(bits[at], desk, hidden);
-    HideAnswer::Done
+    Ok(())
 }
