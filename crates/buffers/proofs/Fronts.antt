@@ -1,9 +1,10 @@
 -- A list written on a buffer's front: stores after it make it longer. Each law is one append, or one drop of a drop.
 use mathlib.Core.Path.{◌≡◌, refl, sym, ap, ◌∙◌}
 use mathlib.Core.List.{List, [], ◌∷◌, ◌++◌, append_assoc}
-use Prim.Native.Nat.{ℕ, suc, ◌+◌, ◌≤◌}
+use Prim.Native.Nat.{ℕ, suc, ◌+◌, ◌-◌, ◌≤◌}
 use native.Mathlib.Omega.{arith}
 use lib.ListN.{length, take, drop, set, length-append, length-drop}
+use borrow.Rule.Slice.PartMut.{put_mid}
 use lib.Seq.{sets, sets-eq, take_at, drop-drop, drop-append-add}
 use Rattle.buffers.specs.Onto.{onto}
 
@@ -39,6 +40,12 @@ module _ {A : Type 0} where
   pub sets_more : (xs ys l : List A) (i j : ℕ) → i + length xs ≡ j → sets (sets l i xs) j ys ≡ sets l i (xs ++ ys)
   sets_more [] ys l i j e = ap (λ (k : ℕ). sets l k ys) (omega arith)
   sets_more (a ∷ xs) ys l i j e = sets_more xs ys (set l i a) (suc i) j (omega arith)
+
+  -- a part that was lent comes back as a run of stores
+  pub put_mid-sets : (vs o : List A) (a k : ℕ) {vs' : List A} → vs' ≡ vs → k ≡ a + length vs → k ≤ length o → put_mid a (k - a) o vs' ≡ sets o a vs
+  put_mid-sets vs o a k e n h =
+      let w : k - a ≡ length vs = omega arith in
+      rw (e, w, drop-drop, sets-eq vs o a (omega arith), append_assoc)
 
   -- what is written over a front that was written before
   pub onto_over : (xs ys o : List A) → onto (xs ++ ys) (onto xs o) ≡ onto (xs ++ ys) o
