@@ -3,6 +3,7 @@ use Rattle.std.specs.Prelude.{ℕ, zero, suc, ◌+◌, ◌*◌, cond, List, leng
 use Rattle.std.specs.Float.{nan}
 use Rattle.shape.specs.Shape as Shape
 use Rattle.shape.specs.Shape.{points_of}
+pub use Rattle.shape.specs.Description.{Description, description_of}
 use Rattle.codes.specs.Codes.{number_of}
 use Rattle.codes.specs.declared.Code.TheVariants.{Area, Coincide}
 use Rattle.numbers.specs.Saturating.{sat_add}
@@ -14,16 +15,6 @@ use Rattle.dequantize.specs.declared.judge.Settled.{Settled}
 use Rattle.dequantize.specs.declared.judge.Settled.TheVariants.{Total, Stop}
 use Rattle.dequantize.specs.declared.judge.Judged.{Judged}
 use Rattle.dequantize.specs.declared.judge.Judged.TheVariants.{Fine, Refused}
-
--- all splines, as they were read
-pub record Description : Type 0 where
-  pub counts : List ℕ
-  pub starts : List Float
-  pub deltas : List ℤ
-  pub coefficients : List ℤ
-
-abbrev pub description_of : List ℕ → List Float → List ℤ → List ℤ → Description
-description_of counts starts deltas coefficients = record { counts = counts; starts = starts; deltas = deltas; coefficients = coefficients }
 
 -- what SHAPE asks for
 abbrev pub Shaped : Description → Type 0

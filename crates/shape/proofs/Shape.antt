@@ -1,8 +1,8 @@
 -- Laws of SHAPE: each comparison of lengths by itself, the test against the three equations, and the running sum of the counts.
 use mathlib.Core.Path.{◌≡◌, refl, sym, ◌∙◌}
-use mathlib.Core.Bool.{Bool, true, false, ◌&&◌, and-false}
+use mathlib.Core.Bool.{Bool, true, false, ◌&&◌, true≢false}
 use mathlib.Core.List.{List}
-use Prim.Native.Nat.{ℕ, zero, suc, ◌+◌, ◌-◌, ◌*◌, ◌≤◌, ◌<◌}
+use Prim.Native.Nat.{ℕ, zero, suc, ◌+◌, ◌-◌, ◌*◌, ◌/◌, ◌%◌, ◌≤◌, ◌<◌}
 use native.Mathlib.Numerals.{add-one}
 use native.Mathlib.Omega.{arith}
 use lib.Dec.{eqb}
@@ -30,30 +30,14 @@ both true true e = (refl, refl)
 both true false e = absurd (let z : ◌≡◌ {A = ℕ} 0 1 = cc in omega arith)
 both false b e = absurd (let z : ◌≡◌ {A = ℕ} 0 1 = cc in omega arith)
 
+-- the value of `s && t`, where a test takes one of two ways
+pub and_then : {v t s : Bool} → s ≡ true → v ≡ t → v ≡ s && t
+and_then {v} {t} {s} p q = rw (p, q)
+
+pub and_else : {v s : Bool} (t : Bool) → s ≡ false → v ≡ s → v ≡ s && t
+and_else {v} {s} t p q = rw (q, p)
+
 module _ (ns : List ℕ) (ss : List Float) (ds cs : List ℤ) where
-  pub off_starts : (length ss ≡ 2 * length ns → ⊥) → false ≡ shaped ns ss ds cs
-  unfolding shaped
-  off_starts h = rw (ne_eqb (length ss) (2 * length ns) h)
-
-  pub off_deltas : (length ds ≡ 2 * points_of ns → ⊥) → false ≡ shaped ns ss ds cs
-  unfolding shaped
-  off_deltas h = simp (ne_eqb (length ds) (2 * points_of ns) h, and-false)
-
-  pub off_coefficients : (length cs ≡ 128 * length ns → ⊥) → false ≡ shaped ns ss ds cs
-  unfolding shaped
-  off_coefficients h = simp (ne_eqb (length cs) (128 * length ns) h, and-false)
-
-  -- where the other lengths agree, the sum decides
-  pub by_sum : (points : ℕ) → length ss ≡ 2 * length ns → length cs ≡ 128 * length ns → length ds ≡ 2 * points → eqb (points_of ns) points ≡ shaped ns ss ds cs
-  unfolding shaped
-  by_sum points a b e = go (eqb (points_of ns) points) refl
-    where
-      go : (t : Bool) → eqb (points_of ns) points ≡ t → t ≡ shaped ns ss ds cs
-      go true q =
-          let n : length ds ≡ 2 * points_of ns = omega (arith, eqb-true (points_of ns) points q) in
-          rw (eq-eqb (length ss) (2 * length ns) a, eq-eqb (length ds) (2 * points_of ns) n, eq-eqb (length cs) (128 * length ns) b)
-      go false q = off_deltas (λ n. eqb-false (points_of ns) points q (omega arith))
-
   -- the test is the three equations, both ways
   pub is_shaped : Shaped ns ss ds cs → shaped ns ss ds cs ≡ true
   unfolding shaped
@@ -77,4 +61,31 @@ module _ (ns : List ℕ) (ss : List Float) (ds cs : List ℤ) where
       go true p = absurd (n (shaped_is p))
       go false p = refl
 
--- Assumes nothing.
+  -- the tests of lengths, of which each stands on those before it
+  module _ (a b d : Bool) (first : a ≡ eqb (length ss) (2 * length ns) && eqb (length ds % 2) 0) (second : b ≡ a && eqb (length cs % 128) 0) (third : d ≡ b && eqb (length cs / 128) (length ns)) where
+    -- where they pass, the sum decides
+    pub by_sum : d ≡ true → eqb (points_of ns) (length ds / 2) ≡ shaped ns ss ds cs
+    by_sum e = go (eqb (points_of ns) (length ds / 2)) refl
+      where
+        tests : ((length ss ≡ 2 * length ns) × (length ds % 2 ≡ 0)) × ((length cs % 128 ≡ 0) × (length cs / 128 ≡ length ns))
+        tests =
+            let h = both b (eqb (length cs / 128) (length ns)) (sym third ∙ e) in
+            let g = both a (eqb (length cs % 128) 0) (sym second ∙ h.0) in
+            let f = both (eqb (length ss) (2 * length ns)) (eqb (length ds % 2) 0) (sym first ∙ g.0) in
+            ((eqb-true _ _ f.0, eqb-true _ _ f.1), (eqb-true _ _ g.1, eqb-true _ _ h.1))
+
+        go : (t : Bool) → eqb (points_of ns) (length ds / 2) ≡ t → t ≡ shaped ns ss ds cs
+        go true q = sym (is_shaped (let n = eqb-true (points_of ns) (length ds / 2) q in record { starts = tests.0.0; deltas = omega (arith, tests.0.1); coefficients = omega (arith, tests.1) }))
+        go false q = sym (not_shaped (λ s. eqb-false (points_of ns) (length ds / 2) q (omega (arith, s.deltas, tests.0.1))))
+
+    -- where one fails, so does SHAPE
+    pub by_tests : d ≡ false → d ≡ shaped ns ss ds cs
+    by_tests e = e ∙ sym (not_shaped (λ s. true≢false (sym (passes s) ∙ e)))
+      where
+        passes : Shaped ns ss ds cs → d ≡ true
+        passes s =
+            let p = eq-eqb (length ss) (2 * length ns) s.starts in
+            let q = eq-eqb (length ds % 2) 0 (omega (arith, s.deltas)) in
+            let r = eq-eqb (length cs % 128) 0 (omega (arith, s.coefficients)) in
+            let t = eq-eqb (length cs / 128) (length ns) (omega (arith, s.coefficients)) in
+            rw (third, second, first, p, q, r, t)

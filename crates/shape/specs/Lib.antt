@@ -1,2 +1,3 @@
 -- The definitions of the crate `shape`.
 pub mod Shape
+pub mod Description

@@ -1,15 +1,9 @@
-use mathlib.Core.Path.{◌≡◌, sym}
-use Prim.Native.Nat.{◌+◌, ◌-◌, ◌≤◌}
+use mathlib.Core.Path.{sym}
 use native.Mathlib.Omega.{arith}
-use borrow.Author.Rules.{rules}
 use borrow.Author.Tests.{ne_eqb}
-use lib.ListN.{length, drop}
 use Rattle.shape.specs.Shape.{points_of}
 use Rattle.shape.proofs.Shape.{sum_turn, sum_end, sum_left}
 use Rattle.shape.proofs.sum_is.Goals as goal
-
-pub overflow_cast-n : goal.overflow_cast-n
-overflow_cast-n c = omega (arith, c.type_inv.counts c.loop-i.i)
 
 pub returns-then-left-n : goal.returns-then-left-n
 returns-then-left-n c =
@@ -27,4 +21,4 @@ pub returns : goal.returns
 returns c =
     let a = c.args in
     let v = c.loop-i in
-    sum_left a.counts.now a.points v.left v.invariant.1 (rw (sum_end a.counts.now v.i (omega arith)) at v.invariant.2)
+    sum_left a.counts.now a.points v.left v.invariant.0 (rw (sum_end a.counts.now v.i (omega arith)) at v.invariant.1)
