@@ -5,15 +5,15 @@ ghost use Rattle.std.specs.Prelude.{◌≡◌, ◌++◌, ◌-◌, ◌*◌, ◌�
 ghost use Rattle.std.specs.Float.{binary32};
 ghost use Rattle.std.specs.Float.Ieee.{of_bits};
 
-use buffers::{clear_f32, clear_u32, clear_u64};
+use buffers::clear;
 
 // The cells that a build works in.
 fn wipe_working(path: &mut [f32], walk: &mut [f32])
     ensures path_after { path.new ≡ replicate (length path.old) (of_bits binary32 0) }
     ensures walk_after { walk.new ≡ replicate (length walk.old) (of_bits binary32 0) }
 {
-    clear_f32(path);
-    clear_f32(walk);
+    clear(path);
+    clear(walk);
 }
 
 // Every lent cell.
@@ -33,10 +33,10 @@ pub fn wipe(
     ensures entries_after { entries.new ≡ replicate (length entries.old) 0 }
 {
     wipe_working(path, walk);
-    clear_f32(segments);
-    clear_u64(owners);
-    clear_u32(row_starts);
-    clear_u32(entries);
+    clear(segments);
+    clear(owners);
+    clear(row_starts);
+    clear(entries);
 }
 
 // The working cells, and those of the segments and their owners behind the first `count`.
@@ -55,6 +55,6 @@ pub fn wipe_unused(
 {
     wipe_working(path, walk);
     let used = 8 * count;
-    clear_f32(&mut segments[used..]);
-    clear_u64(&mut owners[count..]);
+    clear(&mut segments[used..]);
+    clear(&mut owners[count..]);
 }
