@@ -14,7 +14,7 @@ use Rattle.desks.specs.Agree.{Agree, NothingHidden}
 use Rattle.desks.proofs.Shown.{agree_shown, agree_owned, nothing_hidden}
 use Rattle.checks.specs.Tables.{Table, row_of, shown_of}
 use Rattle.checks.specs.Checks.{counts_good, counts_good_for, all_below, entries_good, row_good, row_good_for, or_fault, judge_row}
-use Rattle.checks.specs.declared.Verdict.TheVariants.{Fine}
+use Rattle.checks.specs.Verdict.{Fine}
 use Rattle.codes.specs.declared.Code.{Code}
 use Rattle.checks.specs.Refusals.{CountsFit, CountsFitFor}
 use Rattle.checks.specs.Alike.{AlikeIn, AlikeFor, Kept, KeptFor}

@@ -10,8 +10,7 @@ use Rattle.desks.specs.Desks.{Sight, desk_good, bytes_good, all_owned}
 use Rattle.checks.specs.Tables.{Table, row_of}
 use Rattle.checks.specs.Checks.{all_below, counts_good, counts_good_for, span_good, entries_good, row_good, row_good_for, or_fault, judge_row, judge_draw}
 use Rattle.checks.specs.Refusals.{CountsFit, CountsFitFor, SpanFits, Lent}
-use Rattle.checks.specs.declared.Verdict.{Verdict}
-use Rattle.checks.specs.declared.Verdict.TheVariants.{Fine, Fault}
+use Rattle.checks.specs.Verdict.{Verdict, Fine, Fault}
 use Rattle.checks.proofs.Entries.{and_left, and_right}
 
 pub counts_facts : (t : Table) → counts_good t ≡ true → CountsFit t

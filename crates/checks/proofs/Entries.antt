@@ -2,7 +2,8 @@
 use mathlib.Core.Path.{◌≡◌, refl, sym, ap, ◌∙◌, subst}
 use mathlib.Core.Bool.{Bool, true, false, ◌&&◌}
 use mathlib.Core.List.{List, [], ◌∷◌}
-use Prim.Native.Nat.{ℕ, ◌+◌, ◌<◌, ◌≤◌}
+use Prim.Native.Nat.{ℕ, ◌+◌, ◌*◌, ◌<◌, ◌≤◌}
+use native.Mathlib.Omega.{arith}
 use native.Mathlib.Nat.{le_antisymm}
 use native.Mathlib.Numerals.{add-one}
 use lib.ListN.{length, get_or}
@@ -10,8 +11,9 @@ use lib.Seq.{slice, slice-cons, slice_empty}
 use lib.Dec.{ltb}
 use borrow.Author.Tests.{ltb-true}
 use Rattle.desks.proofs.Shown.{owned_first, owned_rest}
-use Rattle.desks.specs.Desks.{all_owned}
-use Rattle.checks.specs.Checks.{all_below}
+use Rattle.desks.specs.Desks.{Sight, Seen, all_owned}
+use Rattle.checks.specs.Tables.{Table}
+use Rattle.checks.specs.Checks.{all_below, EntriesFit}
 
 pub slice_next : (i e : ℕ) (l : List ℕ) → i < e → e ≤ length l → slice i e l ≡ get_or l i 0 ∷ slice (i + 1) e l
 slice_next i e l h k = rw (add-one i) (slice-cons i e l 0 h k)
@@ -85,5 +87,31 @@ first_owned owners splines i e l h k p = owned_first owners splines (get_or l i 
 
 pub rest_owned : (owners : List ℕ) (splines i e : ℕ) (l : List ℕ) → i < e → e ≤ length l → all_owned owners splines (slice i e l) ≡ true → all_owned owners splines (slice (i + 1) e l) ≡ true
 rest_owned owners splines i e l h k p = owned_rest owners splines (get_or l i 0) (slice (i + 1) e l) (sym (ap (all_owned owners splines) (slice_next i e l h k)) ∙ p)
+
+-- ---- entries that fit
+
+-- the first one can be looked up, and so can the rest
+module _ {t : Table} {s : Sight} {b e : ℕ} (f : EntriesFit t s b e) (h : b < e) where
+  pub first_in_segments : 8 * get_or t.entries b 0 + 8 ≤ length t.segments
+  first_in_segments = omega (arith, first_below t.segment_count b e t.entries h f.entries_fit f.named, f.segments_fit)
+
+  pub first_seen : Seen s (get_or t.entries b 0)
+  first_seen = record {
+    owner = omega (arith, first_below t.segment_count b e t.entries h f.entries_fit f.named, f.owners_fit);
+    byte = omega (arith, first_owned s.owners s.splines b e t.entries h f.entries_fit f.owned, f.bytes);
+    desk = f.desk;
+  }
+
+  pub rest_fit : EntriesFit t s (b + 1) e
+  rest_fit = record {
+    ascending = omega arith;
+    entries_fit = f.entries_fit;
+    segments_fit = f.segments_fit;
+    owners_fit = f.owners_fit;
+    bytes = f.bytes;
+    desk = f.desk;
+    named = rest_below t.segment_count b e t.entries h f.entries_fit f.named;
+    owned = rest_owned s.owners s.splines b e t.entries h f.entries_fit f.owned;
+  }
 
 -- Assumes nothing.

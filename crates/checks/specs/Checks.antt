@@ -1,10 +1,10 @@
 -- The checks of a table and of a part of a row, each a test, and their order. Definitions only.
-use Rattle.std.specs.Prelude.{Bool, true, false, ◌&&◌, List, [], ◌∷◌, ℕ, ◌+◌, ◌*◌, ◌^◌, leb, ltb, length, get_or}
+use Rattle.std.specs.Prelude.{◌≡◌, Bool, true, false, ◌&&◌, List, [], ◌∷◌, ℕ, ◌+◌, ◌*◌, ◌^◌, ◌<◌, ◌≤◌, leb, ltb, length, get_or}
+use Rattle.std.proofs.Math.Seq.{slice}
 use Rattle.codes.specs.declared.Code.{Code}
 use Rattle.desks.specs.Desks.{Sight, desk_good, bytes_good, all_owned}
 use Rattle.checks.specs.Tables.{Table, entries_of, row_of}
-use Rattle.checks.specs.declared.Verdict.{Verdict}
-use Rattle.checks.specs.declared.Verdict.TheVariants.{Fine, Fault}
+use Rattle.checks.specs.Verdict.{Verdict, Fine, Fault}
 
 -- the counts are in the buffers and not above 2^24 segments, 2^30 entries and the height 2^23
 unfoldable pub counts_good : Table → Bool
@@ -39,6 +39,17 @@ row_good t y = entries_good t.entries t.entry_count t.row_starts t.segment_count
 -- and the owners of the named segments are splines
 unfoldable pub row_good_for : Table → Sight → ℕ → Bool
 row_good_for t s y = row_good t y && all_owned s.owners s.splines (row_of t y)
+
+-- what a look at the entries from b up to e takes: they are in their buffer and name segments, these are in theirs and have owners that are splines, and a byte is lent for each spline
+pub record EntriesFit (t : Table) (s : Sight) (b e : ℕ) : Type 0 where
+  pub ascending : b ≤ e
+  pub entries_fit : e ≤ length t.entries
+  pub segments_fit : 8 * t.segment_count ≤ length t.segments
+  pub owners_fit : t.segment_count ≤ length s.owners
+  pub bytes : s.splines ≤ length s.bits
+  pub desk : s.desk < 2
+  pub named : all_below t.segment_count (slice b e t.entries) ≡ true
+  pub owned : all_owned s.owners s.splines (slice b e t.entries) ≡ true
 
 -- a check: where it fails its code is the answer, else what comes after it
 abbrev pub or_fault : Bool → Code → Verdict → Verdict

@@ -2,6 +2,7 @@
 use Rattle.std.specs.Prelude.{List, ℕ, ◌+◌, get_or, Float}
 use Rattle.std.proofs.Math.Seq.{slice}
 use Rattle.desks.specs.Desks.{Sight, shown}
+use Rattle.checks.specs.declared.Table as declared
 
 -- segments, entries and row starts, each in a buffer with the count in use; the row starts are one more than the rows
 pub record Table : Type 0 where
@@ -21,6 +22,10 @@ table_of segments segment_count entries entry_count row_starts height = record {
   row_starts = row_starts;
   height = height;
 }
+
+-- the same of the value that calls pass
+abbrev pub table_in : declared.Table → Table
+table_in t = table_of t.segments.now t.segment_count t.entries.now t.entry_count t.row_starts.now t.height
 
 -- the entries between the two starts of row y
 abbrev pub entries_of : List ℕ → List ℕ → ℕ → List ℕ

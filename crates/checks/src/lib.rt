@@ -3,211 +3,114 @@
 
 ghost use Rattle.std.specs.Prelude.{◌≡◌, ◌&&◌, ◌+◌, ◌<◌, ◌≤◌, leb, length};
 ghost use Rattle.std.proofs.Math.Seq.{slice};
-ghost use Rattle.desks.specs.Desks.{sight_of, all_owned};
-ghost use Rattle.checks.specs.Tables.{table_of, entries_of};
-ghost use Rattle.checks.specs.Checks.{counts_good, span_good, all_below, entries_good, judge_row, judge_draw};
+ghost use Rattle.desks.specs.Desks.{sight_in, all_owned};
+ghost use Rattle.checks.specs.Tables.{table_in, row_of};
+ghost use Rattle.checks.specs.Checks.{counts_good_for, span_good, all_below, row_good_for, judge_row, judge_draw};
 
 use codes::Code;
+use desks::Sight;
 
-// What the checks say.
+// Segments, entries and row starts, each in a buffer with the count in use; the row starts are one more than the rows.
 #[derive(Clone, Copy)]
-pub enum Verdict {
-    Fine,
-    Fault(Code),
+pub struct Table<'a> {
+    pub segments: &'a [f32],
+    pub segment_count: u32,
+    pub entries: &'a [u32],
+    pub entry_count: u32,
+    pub row_starts: &'a [u32],
+    pub height: u32,
 }
 
-// Whether the entries from b up to e are all below m, and the owners of their segments below `splines`.
-fn all_owned(entries: &[u32], b: usize, e: usize, m: u32, owners: &[u64], splines: u64) -> bool
-    requires { (b ≤ e) × (e ≤ length entries.now) × (m ≤ length owners.now) }
-    ensures { result ≡ (all_below m (slice b e entries.now) && all_owned owners.now splines (slice b e entries.now)) }
+// Whether the entries from b up to e all name segments, and the owners of these are splines.
+fn all_owned(table: &Table<'_>, sight: &Sight<'_>, b: usize, e: usize) -> bool
+    requires { (b ≤ e) × (e ≤ length table.now.entries.now) × (table.now.segment_count ≤ length sight.now.owners.now) }
+    ensures { result ≡ (all_below table.now.segment_count (slice b e table.now.entries.now) && all_owned sight.now.owners.now sight.now.splines (slice b e table.now.entries.now)) }
 {
-    let mut j = b;
-    while j < e {
-        let i = entries[j];
-        if m <= i {
+    for j in b..e {
+        let i = table.entries[j];
+        if table.segment_count <= i {
             return false;
         }
-        if splines <= owners[i as usize] {
+        if sight.splines <= sight.owners[i as usize] {
             return false;
         }
-        j += 1;
     }
     true
 }
 
 // Whether the counts are within their limits and their buffers, the owners' among them.
-pub fn counts_good(
-    segments: &[f32],
-    owners: &[u64],
-    segment_count: u32,
-    entries: &[u32],
-    entry_count: u32,
-    row_starts: &[u32],
-    height: u32,
-) -> bool
-    ensures { result ≡ (counts_good (table_of segments.now segment_count entries.now entry_count row_starts.now height) && leb segment_count (length owners.now)) }
+#[tactic(auto, unfolding(crate::specs::Checks::counts_good, crate::specs::Checks::counts_good_for))]
+pub fn counts_good(table: &Table<'_>, sight: &Sight<'_>) -> bool
+    ensures { result ≡ counts_good_for (table_in table.now) (sight_in sight.now) }
 {
-    if 16777216 < segment_count {
-        return false;
-    }
-    if segments.len() < 8 * (segment_count as usize) {
-        return false;
-    }
-    if 1073741824 < entry_count {
-        return false;
-    }
-    if entries.len() < entry_count as usize {
-        return false;
-    }
-    if 8388608 < height {
-        return false;
-    }
-    if row_starts.len() < height as usize + 1 {
-        return false;
-    }
-    if owners.len() < segment_count as usize {
-        return false;
-    }
-    true
+    table.segment_count <= 16777216
+        && 8 * (table.segment_count as usize) <= table.segments.len()
+        && table.entry_count <= 1073741824
+        && table.entry_count as usize <= table.entries.len()
+        && table.height <= 8388608
+        && (table.height as usize) < table.row_starts.len()
+        && table.segment_count as usize <= sight.owners.len()
 }
 
+#[tactic(auto, unfolding(crate::specs::Checks::span_good))]
 pub fn span_good(x0: u32, n: u32, l0: usize, l1: usize, l2: usize) -> bool
     ensures { result ≡ span_good x0 n l0 l1 l2 }
 {
-    if 8388608 < n {
-        return false;
-    }
-    if 8388608 - n < x0 {
-        return false;
-    }
     let m = n as usize;
-    if l0 < m {
-        return false;
-    }
-    if l1 < m {
-        return false;
-    }
-    if l2 < m {
-        return false;
-    }
-    true
+    u64::from(x0) + u64::from(n) <= 8388608 && m <= l0 && m <= l1 && m <= l2
 }
 
 // Whether the two starts of row y, the entries between them and the owners of their segments are good.
-fn entries_good(
-    owners: &[u64],
-    segment_count: u32,
-    entries: &[u32],
-    entry_count: u32,
-    row_starts: &[u32],
-    splines: u64,
-    y: u32,
-) -> bool
-    requires { (entry_count ≤ length entries.now) × (y + 1 < length row_starts.now) × (segment_count ≤ length owners.now) }
-    ensures { result ≡ (entries_good entries.now entry_count row_starts.now segment_count y
-        && all_owned owners.now splines (entries_of row_starts.now entries.now y)) }
+#[tactic(auto, unfolding(crate::specs::Checks::entries_good, crate::specs::Checks::row_good_for))]
+fn entries_good(table: &Table<'_>, sight: &Sight<'_>, y: u32) -> bool
+    requires { (table.now.entry_count ≤ length table.now.entries.now) × (y + 1 < length table.now.row_starts.now) × (table.now.segment_count ≤ length sight.now.owners.now) }
+    ensures { result ≡ row_good_for (table_in table.now) (sight_in sight.now) y }
 {
     let at = y as usize;
-    let b = row_starts[at] as usize;
-    let e = row_starts[at + 1] as usize;
-    if e < b {
-        return false;
-    }
-    if (entry_count as usize) < e {
-        return false;
-    }
-    all_owned(entries, b, e, segment_count, owners, splines)
+    let b = table.row_starts[at] as usize;
+    let e = table.row_starts[at + 1] as usize;
+    b <= e && e <= table.entry_count as usize && all_owned(table, sight, b, e)
 }
 
 // The checks of a row for a desk, in their order, with the answer of the span's among them.
-pub fn judge_row(
-    segments: &[f32],
-    owners: &[u64],
-    segment_count: u32,
-    entries: &[u32],
-    entry_count: u32,
-    row_starts: &[u32],
-    height: u32,
-    splines: u64,
-    bits: &[u8],
-    desk: u32,
-    y: u32,
-    spanned: bool,
-) -> Verdict
-    ensures { result ≡ judge_row (table_of segments.now segment_count entries.now entry_count row_starts.now height) (sight_of owners.now splines bits.now desk) y spanned }
+pub fn judge_row(table: &Table<'_>, sight: &Sight<'_>, y: u32, spanned: bool) -> Result<(), Code>
+    ensures { result ≡ judge_row (table_in table.now) (sight_in sight.now) y spanned }
 {
-    let counted = counts_good(
-        segments,
-        owners,
-        segment_count,
-        entries,
-        entry_count,
-        row_starts,
-        height,
-    );
+    let counted = counts_good(table, sight);
     if !counted {
-        return Verdict::Fault(Code::Table);
+        return Err(Code::Table);
     }
-    if bits.len() < splines as usize {
-        return Verdict::Fault(Code::Trace);
+    if sight.bits.len() < sight.splines as usize {
+        return Err(Code::Trace);
     }
-    if height <= y {
-        return Verdict::Fault(Code::Row);
+    if table.height <= y {
+        return Err(Code::Row);
     }
     if !spanned {
-        return Verdict::Fault(Code::Span);
+        return Err(Code::Span);
     }
-    if entries_good(
-        owners,
-        segment_count,
-        entries,
-        entry_count,
-        row_starts,
-        splines,
-        y,
-    ) {
-        return Verdict::Fine;
+    if !entries_good(table, sight, y) {
+        return Err(Code::Table);
     }
-    Verdict::Fault(Code::Table)
+    Ok(())
 }
 
 // The checks of `draw`, in their order.
+#[tactic(auto, unfolding(crate::specs::Checks::judge_draw))]
 pub fn judge(
-    segments: &[f32],
-    owners: &[u64],
-    segment_count: u32,
-    entries: &[u32],
-    entry_count: u32,
-    row_starts: &[u32],
-    height: u32,
-    splines: u64,
-    bits: &[u8],
-    desk: u32,
+    table: &Table<'_>,
+    sight: &Sight<'_>,
     y: u32,
     x0: u32,
     n: u32,
     l0: usize,
     l1: usize,
     l2: usize,
-) -> Verdict
-    ensures { result ≡ judge_draw (table_of segments.now segment_count entries.now entry_count row_starts.now height) (sight_of owners.now splines bits.now desk) y x0 n l0 l1 l2 }
+) -> Result<(), Code>
+    ensures { result ≡ judge_draw (table_in table.now) (sight_in sight.now) y x0 n l0 l1 l2 }
 {
-    if 2 <= desk {
-        return Verdict::Fault(Code::Desk);
+    if 2 <= sight.desk {
+        return Err(Code::Desk);
     }
-    let spanned = span_good(x0, n, l0, l1, l2);
-    judge_row(
-        segments,
-        owners,
-        segment_count,
-        entries,
-        entry_count,
-        row_starts,
-        height,
-        splines,
-        bits,
-        desk,
-        y,
-        spanned,
-    )
+    judge_row(table, sight, y, span_good(x0, n, l0, l1, l2))
 }
