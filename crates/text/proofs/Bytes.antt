@@ -8,9 +8,8 @@ use lib.Dec.{leb}
 use lib.ListN.{length, get_or, get_or-append}
 use lib.Seq.{get_or-append_seam}
 use borrow.Author.Tests.{eq-eqb, ne_eqb, le-leb, lt-leb}
-use Rattle.text.specs.declared.Scan.{Scan}
 use Rattle.text.specs.declared.Step.TheVariants.{Stranger}
-use Rattle.text.specs.Text.{is_space, space_of, digit_of, step_of, ended}
+use Rattle.text.specs.Text.{Scan, is_space, space_of, digit_of, step_of, ended}
 
 pub space_one : (b : ℕ) → b ≡ 32 → true ≡ is_space b
 space_one b is = rw (eq-eqb b 32 is)

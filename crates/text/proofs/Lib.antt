@@ -2,4 +2,3 @@
 pub mod Bytes
 pub mod Reading
 pub mod Lines
-pub mod Sameness

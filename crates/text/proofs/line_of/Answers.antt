@@ -1,16 +1,12 @@
-use native.Mathlib.Omega.{arith}
+use mathlib.Core.Path.{ap, ◌∙◌}
 use borrow.Author.Rules.{rules}
-use Rattle.text.proofs.Lines.{line_begin, line_more, line_past, line_end}
+use Prim.Native.Nat.{ℕ}
+use lib.Dec.{eqb}
+use Rattle.std.proofs.Common.{◌+◌, tests, take}
+use Rattle.std.proofs.lemmas.Iterator.{YieldsList-from_slice, YieldsList-from_take}
+use Rattle.std.proofs.lemmas.Iterator.Consumers.{YieldsList-from_filter, YieldsList-at, count_from_yields_List}
+use Rattle.text.proofs.Lines.{feeds_are}
 use Rattle.text.proofs.line_of.Goals as goal
 
-pub loop-i-init : goal.loop-i-init
-loop-i-init c = (search rules, line_begin c.args.text.now c.args.at)
-
-pub returns-then-text-i : goal.returns-then-text-i
-returns-then-text-i c = line_end c.if-text-i.true c.loop-i.invariant.1
-
-pub loop-i-preserved : goal.loop-i-preserved
-loop-i-preserved c = (omega arith, line_more c.loop-i-test.true c.if-text-i.false c.feed-line.ensures.0 c.loop-i.invariant.1)
-
 pub returns : goal.returns
-returns c = line_past c.loop-i-test.false c.loop-i.invariant.1
+returns c = ap (λ (n : ℕ). 1 + n) (count_from_yields_List c.filter.result _ c.count.ensures.ran (YieldsList-from_filter _ (λ b. eqb b 10) (YieldsList-at c.filter.ensures.source (YieldsList-from_take c.args.at (YieldsList-at c.take.ensures.source (YieldsList-from_slice c.args.text.now (cc))) (cc))) c.filter.ensures.closure (λ x r q k. search (rules, tests))) ∙ feeds_are (take c.args.at c.args.text.now))
