@@ -1,41 +1,38 @@
 -- A word in a drawing: it stands nowhere where too few bytes are left; and where it was not found at a place either, it is at none that was passed.
-use mathlib.Core.Path.{◌≡◌, refl, sym, ap, subst, ◌∙◌}
-use mathlib.Core.Bool.{Bool, true, false, cond}
+use mathlib.Core.Path.{◌≡◌, refl, sym, ◌∙◌}
+use mathlib.Core.Bool.{Bool, true, false, cond, ◌&&◌}
 use mathlib.Core.List.{List, [], ◌∷◌}
 use Prim.Native.Nat.{ℕ, ◌+◌, ◌-◌, ◌<◌, ◌≤◌}
 use native.Mathlib.Omega.{arith}
 use borrow.Author.Count.{below_more}
-use native.Mathlib.Nat.{le_of_suc-le-suc, not-suc-le-zero}
+use borrow.Author.Tests.{tests}
 use lib.Dec.{eqb}
-use lib.ListN.{length, take, drop, length-take, length-drop}
+use lib.ListN.{length, take, drop, length-drop}
+use Rattle.std.specs.Cmp.Lexicographic.{pointwise}
+use Rattle.std.proofs.lemmas.List.{take_all}
+use Rattle.std.specs.List.{starts_with}
 use Rattle.text.specs.Text.{same_of}
 use Rattle.finding.specs.Finding.{stands_at, FirstFrom}
 
-abbrev is_false : Bool → Type 0
-is_false true = ⊥
-is_false false = Unit
+eqb-comm : (x y : ℕ) → eqb x y ≡ eqb y x
+eqb-comm x y = grind (arith, tests)
 
-false_is_not_true : false ≡ true → ⊥
-false_is_not_true p = subst is_false p tt
+both : (t s : Bool) → (t && s) ≡ cond t s false
+both true s = refl
+both false s = refl
 
-either_way : (t : Bool) {s : Bool} → false ≡ s → false ≡ cond t s false
-either_way true e = e
-either_way false e = refl
-
--- a text is not the same as a longer one
-same_longer : (xs ys : List ℕ) → length xs < length ys → false ≡ same_of xs ys
+-- as the library compares two texts
+same_as : (xs ys : List ℕ) → pointwise eqb xs ys ≡ same_of ys xs
 unfolding same_of
-same_longer [] [] less = absurd (not-suc-le-zero less)
-same_longer [] (y ∷ ys) less = refl
-same_longer (x ∷ xs) [] less = absurd (not-suc-le-zero less)
-same_longer (x ∷ xs) (y ∷ ys) less = either_way (eqb x y) (same_longer xs ys (le_of_suc-le-suc less))
+same_as [] [] = refl
+same_as [] (y ∷ ys) = refl
+same_as (x ∷ xs) [] = refl
+same_as (x ∷ xs) (y ∷ ys) = rw (eqb-comm x y, same_as xs ys) (both (eqb y x) (same_of ys xs))
 
-pub too_short : (bytes : List ℕ) (at : ℕ) (word : List ℕ) → length bytes - at < length word → false ≡ stands_at bytes at word
-too_short bytes at word less = same_longer (take (length word) (drop at bytes)) word (omega (arith, less, length-take (length word) (drop at bytes), length-drop at bytes))
-
--- as code takes the part
-pub stands_part : (bytes : List ℕ) (at past : ℕ) (word : List ℕ) {r : Bool} → past ≡ at + length word → r ≡ same_of (take (past - at) (drop at bytes)) word → r ≡ stands_at bytes at word
-stands_part bytes at past word is e = let n : past - at ≡ length word = omega arith in e ∙ ap (λ (k : ℕ). same_of (take k (drop at bytes)) word) n
+pub begins : (bytes : List ℕ) (at : ℕ) (word : List ℕ) → starts_with eqb (take (length bytes - at) (drop at bytes)) word ≡ stands_at bytes at word
+begins bytes at word =
+    let all : take (length bytes - at) (drop at bytes) ≡ drop at bytes = take_all (length bytes - at) (drop at bytes) (omega (arith, length-drop at bytes)) in
+    rw all (same_as word (take (length word) (drop at bytes)))
 
 -- the word is at no place from the start on and before this one
 pub record Missing (bytes : List ℕ) (start : ℕ) (word : List ℕ) (at : ℕ) : Type 0 where
@@ -46,7 +43,7 @@ module _ {bytes word : List ℕ} {start : ℕ} where
   missing_none = record { so_far = λ k less from is. absurd (omega (arith, less, from)) }
 
   pub missing_more : {at : ℕ} {r : Bool} → Missing bytes start word at → r ≡ stands_at bytes at word → r ≡ false → Missing bytes start word (at + 1)
-  missing_more {at} m e not = record { so_far = below_more (λ k. start ≤ k → stands_at bytes k word ≡ true → ⊥) at m.so_far (λ from is. false_is_not_true (sym not ∙ e ∙ is)) }
+  missing_more {at} m e not = record { so_far = below_more (λ k. start ≤ k → stands_at bytes k word ≡ true → ⊥) at m.so_far (λ from is. cc) }
 
   pub found : {at : ℕ} {r : Bool} → Missing bytes start word at → r ≡ stands_at bytes at word → r ≡ true → FirstFrom bytes start word at
   found m e is = record { before = λ k from less. m.so_far k less from; there = λ _. sym e ∙ is }

@@ -9,11 +9,7 @@ fn stands(bytes: &[u8], at: usize, word: &[u8]) -> bool
     requires { at ≤ length bytes.now }
     ensures { result ≡ stands_at bytes.now at word.now }
 {
-    if bytes.len() - at < word.len() {
-        return false;
-    }
-    let past = at + word.len();
-    text::same(&bytes[at..past], word)
+    bytes[at..].starts_with(word)
 }
 
 // The first place from one on where a word stands; the length where there is none.
@@ -21,48 +17,27 @@ pub fn find(bytes: &[u8], from: usize, word: &[u8]) -> usize
     requires { from ≤ length bytes.now }
     ensures { (from ≤ result) × (result ≤ length bytes.now) × FirstFrom bytes.now from word.now result }
 {
-    let mut at = from;
-    while at < bytes.len() {
+    for at in from..bytes.len() {
         if stands(bytes, at, word) {
             return at;
         }
-        at += 1;
     }
-    at
-}
-
-fn is_space(b: u8) -> bool {
-    if b == 32 {
-        return true;
-    }
-    if b < 9 {
-        return false;
-    }
-    b <= 13
+    bytes.len()
 }
 
 // Whether a name ends at a place: there is white space, or the end of its element.
 fn name_ends(bytes: &[u8], at: usize) -> bool {
-    if bytes.len() <= at {
-        return true;
+    match bytes.get(at) {
+        None => true,
+        Some(&b) => b == b'/' || b == b'>' || text::is_space(b),
     }
-    if is_space(bytes[at]) {
-        return true;
-    }
-    if bytes[at] == b'/' {
-        return true;
-    }
-    bytes[at] == b'>'
 }
 
 // Whether a polyline begins at a place.
 fn is_line(bytes: &[u8], at: usize) -> bool
     requires { at ≤ length bytes.now }
 {
-    if !stands(bytes, at, b"<polyline") {
-        return false;
-    }
-    name_ends(bytes, at + 9)
+    stands(bytes, at, b"<polyline") && name_ends(bytes, at + 9)
 }
 
 // The place behind what begins at one: the end of a comment, or the next byte.
@@ -71,9 +46,10 @@ fn after(bytes: &[u8], at: usize) -> usize
     ensures { (at < result) × (result ≤ length bytes.now) }
 {
     if stands(bytes, at, b"<!--") {
-        return find(bytes, at + 1, b"-->");
+        find(bytes, at + 1, b"-->")
+    } else {
+        at + 1
     }
-    at + 1
 }
 
 // Where the next polyline begins from a place on, but for those in comments; the length where there is none.
@@ -91,15 +67,16 @@ pub fn next_line(bytes: &[u8], from: usize) -> usize
     at
 }
 
-// The mark within which the next byte stands, 0 for none: one mark ends what the same mark began.
-fn mark_after(mark: u8, b: u8) -> u8 {
-    if mark != 0 {
-        return if b == mark { 0 } else { mark };
+// The mark within which the next byte stands, if it stands in one: one mark ends what the same mark began.
+fn mark_after(mark: Option<u8>, b: u8) -> Option<u8> {
+    match mark {
+        Some(begun) => if b == begun { None } else { mark },
+        None => if b == b'"' || b == b'\'' {
+            Some(b)
+        } else {
+            None
+        },
     }
-    if b == b'"' {
-        return b;
-    }
-    if b == b'\'' { b } else { 0 }
 }
 
 // Where the element that begins at a place ends, by a `>` outside of quotation marks; the length where it does not end.
@@ -107,48 +84,31 @@ pub fn end_of(bytes: &[u8], from: usize) -> usize
     requires { from ≤ length bytes.now }
     ensures { (from ≤ result) × (result ≤ length bytes.now) }
 {
-    let mut at = from;
-    let mut mark = 0;
-    while at < bytes.len() {
-        if mark == 0 {
-            if bytes[at] == b'>' {
-                return at;
-            }
+    let mut mark = None;
+    for at in from..bytes.len() {
+        if mark.is_none() && bytes[at] == b'>' {
+            return at;
         }
         mark = mark_after(mark, bytes[at]);
-        at += 1;
     }
-    at
+    bytes.len()
 }
 
 // Whether this name of an attribute stands at a place, with its `="`, behind white space.
 fn is_attribute(element: &[u8], at: usize, name: &[u8]) -> bool {
-    if at == 0 {
-        return false;
-    }
-    if element.len() <= at {
-        return false;
-    }
-    if !is_space(element[at - 1]) {
-        return false;
-    }
-    stands(element, at, name)
+    0 < at && at < element.len() && text::is_space(element[at - 1]) && stands(element, at, name)
 }
 
 // Where the attribute of this name, with its `="`, stands in an element outside of quotation marks; the length where it does not.
 pub fn attribute(element: &[u8], name: &[u8]) -> usize
     ensures { result ≤ length element.now }
 {
-    let mut at = 0;
-    let mut mark = 0;
-    while at < element.len() {
-        if mark == 0 {
-            if is_attribute(element, at, name) {
-                return at;
-            }
+    let mut mark = None;
+    for (at, &b) in element.iter().enumerate() {
+        if mark.is_none() && is_attribute(element, at, name) {
+            return at;
         }
-        mark = mark_after(mark, element[at]);
-        at += 1;
+        mark = mark_after(mark, b);
     }
-    at
+    element.len()
 }

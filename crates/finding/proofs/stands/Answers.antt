@@ -1,11 +1,7 @@
--- `finding::stands` meets its contract.
-use mathlib.Core.Path.{refl}
-use native.Mathlib.Omega.{arith}
-use Rattle.finding.proofs.Passed.{too_short, stands_part}
+-- `finding::stands` meets its contract: the library compares as the definition does.
+use mathlib.Core.Path.{◌∙◌}
+use Rattle.finding.proofs.Passed.{begins}
 use Rattle.finding.proofs.stands.Goals as goal
 
-pub returns-then-bytes-at : goal.returns-then-bytes-at
-returns-then-bytes-at c = let A = c.args in too_short A.bytes.now A.at A.word.now (omega (arith, c.if-bytes-at.true))
-
 pub returns : goal.returns
-returns c = let A = c.args in stands_part A.bytes.now A.at _ A.word.now refl c.same.ensures
+returns c = c.starts_with.ensures.value ∙ begins c.args.bytes.now c.args.at c.args.word.now
