@@ -12,8 +12,8 @@ use Rattle.codes.specs.declared.Code.TheVariants.{Room}
 use Rattle.list.specs.List.{limit_of}
 use Rattle.reader.proofs.Promises.{refused_exactly, given_exactly}
 use Rattle.writer.specs.Write.{WriteOutcome, first_fault, content_checks, check, values_of, outcome, write_of}
-use Rattle.write_judge.specs.declared.Verdict.{Verdict}
-use Rattle.write_judge.specs.declared.Verdict.TheVariants.{Fine, Fault}
+use Rattle.write_judge.specs.Verdict.{Verdict}
+use Rattle.write_judge.specs.Verdict.{Fine, Fault}
 use Rattle.writer.specs.declared.WriteAnswer.{WriteAnswer}
 use Rattle.roundtrip.proofs.RoundTrip.{written_then_read, read_then_written}
 use Rattle.desks.specs.Desks.{Sight}

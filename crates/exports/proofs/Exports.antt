@@ -13,8 +13,8 @@ use Rattle.reader.specs.Read.{ReadOutcome, outcome, read_outcome, rooms_of}
 use Rattle.reader.specs.Read as reading
 use Rattle.writer.specs.Write.{WriteOutcome, check, first_fault, content_checks, values_of, write_of}
 use Rattle.writer.specs.Write as writing
-use Rattle.write_judge.specs.declared.Verdict.{Verdict}
-use Rattle.write_judge.specs.declared.Verdict.TheVariants.{Fine, Fault}
+use Rattle.write_judge.specs.Verdict.{Verdict}
+use Rattle.write_judge.specs.Verdict.{Fine, Fault}
 use Rattle.dequantize.specs.declared.judge.Judged.{Judged}
 use Rattle.dequantize.specs.declared.judge.Judged.TheVariants as judged
 use Rattle.dequantize.specs.Judge.{Description}

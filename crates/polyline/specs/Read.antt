@@ -3,8 +3,8 @@ use Rattle.std.specs.Prelude.{Bool, false, cond, ◌||◌, List, [], ◌∷◌, 
 use Rattle.codes.specs.declared.Code.TheVariants.{Room, Position, Coincide}
 use Rattle.list.specs.Steps.{f32_of, zero_f32}
 use Rattle.writer.specs.Write.{WriteTold, told_of}
-use Rattle.write_judge.specs.declared.Verdict.{Verdict}
-use Rattle.write_judge.specs.declared.Verdict.TheVariants.{Fine, Fault}
+use Rattle.write_judge.specs.Verdict.{Verdict}
+use Rattle.write_judge.specs.Verdict.{Fine, Fault}
 use Rattle.writer.specs.declared.WriteAnswer.{WriteAnswer}
 use Rattle.writer.specs.declared.WriteAnswer.TheVariants.{Done, Refused}
 use Rattle.control_points.specs.ControlPoints.{valid_point_pos, same_point, stand_at}

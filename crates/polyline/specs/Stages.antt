@@ -1,8 +1,8 @@
 -- The form of a points text, byte by byte: which bytes may come next, and the first that may not. That these texts are the grammar's is `form_judged` of the crate `polyline_laws`.
 use Rattle.std.specs.Prelude.{Bool, true, false, cond, List, [], ◌∷◌, ℕ, suc, eqb, leb}
 use Rattle.codes.specs.declared.Code.TheVariants.{Text}
-use Rattle.write_judge.specs.declared.Verdict.{Verdict}
-use Rattle.write_judge.specs.declared.Verdict.TheVariants.{Fine, Fault}
+use Rattle.write_judge.specs.Verdict.{Verdict}
+use Rattle.write_judge.specs.Verdict.{Fine, Fault}
 use Rattle.polyline.specs.declared.Stage.{Stage}
 use Rattle.polyline.specs.declared.Stage.TheVariants.{Fresh, Minus, Nought, Digits}
 use Rattle.polyline.specs.declared.Step.{Step}

@@ -3,8 +3,8 @@ use Rattle.std.specs.Prelude.{Bool, true, false, cond, ◌||◌, List, [], ◌�
 use Rattle.codes.specs.declared.Code.TheVariants.{Room, Shape, Delta, Position, Coincide}
 use Rattle.writer.specs.Write.{misshapen, WriteOutcome}
 use Rattle.writer.specs.Write as writing
-use Rattle.write_judge.specs.declared.Verdict.{Verdict}
-use Rattle.write_judge.specs.declared.Verdict.TheVariants.{Fine, Fault}
+use Rattle.write_judge.specs.Verdict.{Verdict}
+use Rattle.write_judge.specs.Verdict.{Fine, Fault}
 use Rattle.control_points.specs.ControlPoints.{valid_point_pos, valid_double_delta, same_point, starting_point, stand_at, moved_of, control_points}
 use Rattle.dequantize.specs.Judge.{Description, description_of, start_x, start_y, deltas_of}
 use Rattle.control_points.specs.declared.Pair.{Pair}

@@ -12,8 +12,8 @@ use lib.Ieee.{Float}
 use Rattle.codes.specs.declared.Code.TheVariants.{Room}
 use Rattle.codes.proofs.Decides.{both}
 use Rattle.list.specs.Steps.{f32_of, zero_f32}
-use Rattle.write_judge.specs.declared.Verdict.{Verdict}
-use Rattle.write_judge.specs.declared.Verdict.TheVariants.{Fine, Fault}
+use Rattle.write_judge.specs.Verdict.{Verdict}
+use Rattle.write_judge.specs.Verdict.{Fine, Fault}
 use Rattle.writer.specs.declared.WriteAnswer.TheVariants.{Done}
 use Rattle.control_points.specs.ControlPoints.{stand_at, moved_of, later_points, control_points, valid_double_delta, valid_point_pos, same_point, coincide_from, adjacent_coincide}
 use Rattle.control_points.specs.Asked.{passes}

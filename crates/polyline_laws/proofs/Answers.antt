@@ -15,8 +15,8 @@ use Rattle.codes.specs.declared.Code.{Code}
 use Rattle.codes.specs.declared.Code.TheVariants.{Text, Position, Coincide, Room}
 use Rattle.list.specs.Steps.{zero_f32}
 use Rattle.writer.specs.Write as writing
-use Rattle.write_judge.specs.declared.Verdict.{Verdict}
-use Rattle.write_judge.specs.declared.Verdict.TheVariants.{Fine, Fault}
+use Rattle.write_judge.specs.Verdict.{Verdict}
+use Rattle.write_judge.specs.Verdict.{Fine, Fault}
 use Rattle.writer.specs.declared.WriteAnswer.TheVariants.{Refused}
 use Rattle.dequantize.specs.Judge.{description_of}
 use Rattle.polyline.specs.declared.Spot.{Spot}

@@ -12,7 +12,7 @@ use lib.Ieee.{Float}
 use Rattle.codes.specs.declared.Code.{Code}
 use Rattle.codes.specs.declared.Code.TheVariants.{Room, Distance, Area}
 use Rattle.codes.proofs.Decides.{Decides}
-use Rattle.write_judge.specs.declared.Verdict.TheVariants.{Fine, Fault}
+use Rattle.write_judge.specs.Verdict.{Fine, Fault}
 use Rattle.writer.specs.declared.WriteAnswer.TheVariants.{Refused}
 use Rattle.control_points.specs.ControlPoints.{control_points, pair_at}
 use Rattle.dequantize.specs.Judge.{Description, description_of, start_x, start_y, deltas_of}

@@ -6,7 +6,7 @@ use Prim.Native.Nat.{ℕ, zero, suc, ◌+◌, ◌≤◌}
 use native.Mathlib.Omega.{arith}
 use lib.ListN.{length, take}
 use Rattle.codes.specs.declared.Code.TheVariants.{Text}
-use Rattle.write_judge.specs.declared.Verdict.TheVariants.{Fine, Fault}
+use Rattle.write_judge.specs.Verdict.{Fine, Fault}
 use Rattle.polyline.specs.declared.Stage.{Stage}
 use Rattle.polyline.specs.declared.Stage.TheVariants as S
 use Rattle.polyline.specs.declared.Step.{Step}

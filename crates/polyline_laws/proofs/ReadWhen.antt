@@ -10,8 +10,8 @@ use lib.ListN.{length}
 use Rattle.codes.specs.declared.Code.{Code}
 use Rattle.codes.specs.declared.Code.TheVariants.{Text, Position, Coincide, Room}
 use Rattle.codes.proofs.Decides.{Decides, less_than, either_decides}
-use Rattle.write_judge.specs.declared.Verdict.{Verdict}
-use Rattle.write_judge.specs.declared.Verdict.TheVariants.{Fine, Fault}
+use Rattle.write_judge.specs.Verdict.{Verdict}
+use Rattle.write_judge.specs.Verdict.{Fine, Fault}
 use Rattle.writer.specs.declared.WriteAnswer.TheVariants.{Refused}
 use Rattle.control_points.specs.ControlPoints.{valid_point_pos, same_point, stand_at}
 use Rattle.control_points.specs.Refusals.{Inside}

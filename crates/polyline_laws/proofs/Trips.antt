@@ -14,7 +14,7 @@ use Rattle.shape.specs.Shape.{points_of}
 use Rattle.list.specs.Steps.{f32_of}
 use Rattle.writer.specs.Write as writing
 use Rattle.writer.specs.Write.{WriteOutcome}
-use Rattle.write_judge.specs.declared.Verdict.TheVariants.{Fine}
+use Rattle.write_judge.specs.Verdict.{Fine}
 use Rattle.writer.specs.declared.WriteAnswer.TheVariants.{Done}
 use Rattle.control_points.specs.ControlPoints.{starting_point, control_points}
 use Rattle.dequantize.specs.Judge.{Description, description_of, start_x, start_y, deltas_at, deltas_of}

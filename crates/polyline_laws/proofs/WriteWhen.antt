@@ -16,8 +16,8 @@ use Rattle.shape.specs.Shape.{shaped}
 use Rattle.shape.proofs.Shape.{is_shaped, shaped_is}
 use Rattle.writer.specs.Write.{misshapen, WriteOutcome, leaves}
 use Rattle.writer.specs.Write as writing
-use Rattle.write_judge.specs.declared.Verdict.{Verdict}
-use Rattle.write_judge.specs.declared.Verdict.TheVariants.{Fine, Fault}
+use Rattle.write_judge.specs.Verdict.{Verdict}
+use Rattle.write_judge.specs.Verdict.{Fine, Fault}
 use Rattle.writer.specs.declared.WriteAnswer.TheVariants.{Done, Refused}
 use Rattle.control_points.specs.ControlPoints.{starting_point, control_points, valid_point_pos, same_point, coincide_from, adjacent_coincide, trace_of}
 use Rattle.dequantize.specs.Judge.{Description, description_of, start_x, start_y, deltas_of}

@@ -1,7 +1,7 @@
 -- How the place of TEXT is told: what begins a text of the form, and what does not. Definitions only.
 use Rattle.std.specs.Prelude.{◌≡◌, List, ◌++◌, ℕ, suc, ◌≤◌, ◌<◌, length, take}
 use Rattle.codes.specs.declared.Code.TheVariants.{Text}
-use Rattle.write_judge.specs.declared.Verdict.TheVariants.{Fine, Fault}
+use Rattle.write_judge.specs.Verdict.{Fine, Fault}
 use Rattle.polyline.specs.Form.{PointsForm}
 use Rattle.polyline.specs.Stages.{text_of}
 

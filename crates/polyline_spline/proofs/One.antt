@@ -10,7 +10,7 @@ use lib.ListN.{length}
 use borrow.Author.Tests.{lt-ltb, le-ltb}
 use Rattle.codes.specs.declared.Code.{Code}
 use Rattle.codes.specs.declared.Code.TheVariants.{Room}
-use Rattle.write_judge.specs.declared.Verdict.TheVariants.{Fine, Fault}
+use Rattle.write_judge.specs.Verdict.{Fine, Fault}
 use Rattle.writer.specs.declared.WriteAnswer.TheVariants.{Done, Refused}
 use Rattle.control_points.specs.ControlPoints.{starting_point, control_points, stand_at, valid_point_pos}
 use Rattle.control_points.specs.Asked.{Passable}

@@ -14,8 +14,8 @@ use Rattle.codes.specs.declared.Code.TheVariants.{Shape, Room}
 use Rattle.shape.specs.Shape.{points_of, shaped}
 use Rattle.writer.specs.Write.{misshapen, leaves}
 use Rattle.writer.specs.Write as writing
-use Rattle.write_judge.specs.declared.Verdict.{Verdict}
-use Rattle.write_judge.specs.declared.Verdict.TheVariants.{Fine, Fault}
+use Rattle.write_judge.specs.Verdict.{Verdict}
+use Rattle.write_judge.specs.Verdict.{Fine, Fault}
 use Rattle.writer.specs.declared.WriteAnswer.{WriteAnswer}
 use Rattle.writer.specs.declared.WriteAnswer.TheVariants.{Done, Refused}
 use Rattle.write_judge.proofs.Checks.{agreed}

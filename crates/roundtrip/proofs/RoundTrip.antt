@@ -21,8 +21,8 @@ use Rattle.reader.specs.Read.{ReadOutcome, read_outcome}
 use Rattle.reader.specs.Read as reading
 use Rattle.read_list.specs.declared.ReadAnswer.{ReadAnswer}
 use Rattle.writer.specs.Write.{Check, check, first_fault, content_checks, whole_of, values_of, WriteOutcome, leaves, outcome, write_of}
-use Rattle.write_judge.specs.declared.Verdict.{Verdict}
-use Rattle.write_judge.specs.declared.Verdict.TheVariants.{Fine, Fault}
+use Rattle.write_judge.specs.Verdict.{Verdict}
+use Rattle.write_judge.specs.Verdict.{Fine, Fault}
 use Rattle.writer.specs.declared.WriteAnswer.{WriteAnswer}
 use Rattle.write_judge.proofs.Checks.{passes, fine_before, both_fine, agreed, content_fine}
 use Rattle.write_laws.specs.Floats.{Floats}

@@ -9,7 +9,7 @@ use lib.ListN.{length, drop, get_or, length-drop, drop_of_length-le}
 use lib.Seq.{drop-cons, length-take-le, get_or-take, get_or-drop}
 use Rattle.codes.specs.declared.Code.{Code}
 use Rattle.writer.specs.Write.{check, first_fault}
-use Rattle.write_judge.specs.declared.Verdict.TheVariants.{Fine, Fault}
+use Rattle.write_judge.specs.Verdict.{Fine, Fault}
 use Rattle.write_judge.proofs.Checks.{fails, passes, passed}
 use Rattle.trace.specs.Trace.{part, number_checks}
 

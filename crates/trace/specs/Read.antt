@@ -5,8 +5,8 @@ use Rattle.shape.specs.Shape.{points_of}
 use Rattle.list.specs.List.{ListRooms, Got, got, stop, Described, described, lacking}
 use Rattle.reader.specs.Read.{ReadOutcome, outcome}
 use Rattle.writer.specs.Write.{Check, check, first_fault}
-use Rattle.write_judge.specs.declared.Verdict.{Verdict}
-use Rattle.write_judge.specs.declared.Verdict.TheVariants.{Fine, Fault}
+use Rattle.write_judge.specs.Verdict.{Verdict}
+use Rattle.write_judge.specs.Verdict.{Fine, Fault}
 use Rattle.little.specs.Little.{numbers_in, signed_in}
 use Rattle.trace.specs.Trace.{Layout, version1, starts_from, deltas_from, coefficients_from, numbers_of, part, outside, wild, number_checks}
 

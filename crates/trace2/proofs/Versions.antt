@@ -14,8 +14,8 @@ use Rattle.shape.specs.Shape.{points_of}
 use Rattle.list.specs.List.{ListRooms, described}
 use Rattle.writer.specs.Write.{Check, check, first_fault, misshapen, whole_of, WriteOutcome}
 use Rattle.writer.specs.Write as writing
-use Rattle.write_judge.specs.declared.Verdict.{Verdict}
-use Rattle.write_judge.specs.declared.Verdict.TheVariants.{Fine, Fault}
+use Rattle.write_judge.specs.Verdict.{Verdict}
+use Rattle.write_judge.specs.Verdict.{Fine, Fault}
 use Rattle.write_judge.proofs.Checks.{fails, passes, faults_before, fine_before}
 use Rattle.little.specs.Little.{numbers_in}
 use Rattle.trace.specs.Trace.{version1, numbers_of, file_of}

@@ -1,7 +1,7 @@
 -- What the judging of a file of version 2 speaks of.
 use Rattle.std.specs.Prelude.{◌≡◌, List, ℕ, ◌≤◌, length, get_or}
-use Rattle.write_judge.specs.declared.Verdict.{Verdict}
-use Rattle.write_judge.specs.declared.Verdict.TheVariants.{Fine, Fault}
+use Rattle.write_judge.specs.Verdict.{Verdict}
+use Rattle.write_judge.specs.Verdict.{Fine, Fault}
 use Rattle.little.specs.Little.{numbers_in}
 
 -- a file says version 2: it has the first eight numbers, and the first of them is 2

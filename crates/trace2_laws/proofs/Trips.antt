@@ -21,7 +21,7 @@ use Rattle.reader.specs.Read.{ReadOutcome}
 use Rattle.reader.specs.Read as reading
 use Rattle.read_list.specs.declared.ReadAnswer.{ReadAnswer}
 use Rattle.writer.specs.Write.{check, first_fault, whole_of, WriteOutcome, leaves}
-use Rattle.write_judge.specs.declared.Verdict.TheVariants.{Fine}
+use Rattle.write_judge.specs.Verdict.{Fine}
 use Rattle.writer.specs.declared.WriteAnswer.{WriteAnswer}
 use Rattle.write_judge.proofs.Checks.{passes, passed, fine_before, both_fine}
 use Rattle.write_laws.specs.Floats.{Floats}

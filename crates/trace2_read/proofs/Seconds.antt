@@ -16,7 +16,7 @@ use Rattle.reader.specs.Read.{ReadOutcome, leaves, rooms_of, outcome}
 use Rattle.reader.specs.Rest.{ListLeft, Wiped}
 use Rattle.read_list.specs.declared.ReadAnswer.{ReadAnswer}
 use Rattle.writer.specs.Write.{Check, check, first_fault}
-use Rattle.write_judge.specs.declared.Verdict.TheVariants.{Fine, Fault}
+use Rattle.write_judge.specs.Verdict.{Fine, Fault}
 use Rattle.write_judge.proofs.Checks.{fails, passed, faults_before, fine_before, both_fine}
 use Rattle.little.specs.Little.{numbers_in}
 use Rattle.little.proofs.Little.{numbers_length}

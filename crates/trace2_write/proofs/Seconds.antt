@@ -16,7 +16,7 @@ use Rattle.codes.specs.declared.Code.TheVariants.{Room, Shape, Header, Edition}
 use Rattle.shape.specs.Shape.{points_of, shaped}
 use Rattle.list.specs.List.{described}
 use Rattle.writer.specs.Write.{Check, first_fault, misshapen, whole_of, leaves}
-use Rattle.write_judge.specs.declared.Verdict.TheVariants.{Fine, Fault}
+use Rattle.write_judge.specs.Verdict.{Fine, Fault}
 use Rattle.writer.specs.declared.WriteAnswer.TheVariants.{Done, Refused}
 use Rattle.write_judge.proofs.Checks.{fails, passes, passed}
 use Rattle.trace.specs.Trace.{numbers_of, file_of}

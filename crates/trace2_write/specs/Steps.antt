@@ -3,7 +3,7 @@ use Rattle.std.specs.Prelude.{◌≡◌, Bool, ◌&&◌, List, ℕ, ◌*◌, ◌
 use Rattle.codes.specs.declared.Code.TheVariants.{Coord}
 use Rattle.shape.specs.Shape.{points_of}
 use Rattle.writer.specs.Write.{first_fault}
-use Rattle.write_judge.specs.declared.Verdict.TheVariants.{Fine}
+use Rattle.write_judge.specs.Verdict.{Fine}
 use Rattle.trace.specs.Trace.{starts_from, coefficients_from, numbers_of, number_checks}
 use Rattle.trace.specs.Write.{misfit}
 

@@ -18,7 +18,7 @@ use Rattle.shape.specs.Shape.{points_of, shaped}
 use Rattle.shape.proofs.Shape.{shaped_is}
 use Rattle.list.specs.List.{pos_limit}
 use Rattle.writer.specs.Write.{Check, check, first_fault, misshapen, unfit}
-use Rattle.write_judge.specs.declared.Verdict.TheVariants.{Fine, Fault}
+use Rattle.write_judge.specs.Verdict.{Fine, Fault}
 use Rattle.write_judge.proofs.Checks.{fails, passes, passed, faults_before, fine_before}
 use Rattle.trace.specs.Trace.{starts_from, deltas_from, coefficients_from, wild, number_checks}
 use Rattle.trace.specs.Write.{misfit, unheld, header_checks, value_checks, write_checks}

@@ -10,7 +10,7 @@ use borrow.Author.Tests.{lt-ltb, le-ltb, ltb-false}
 use Rattle.codes.specs.declared.Code.{Code}
 use Rattle.codes.specs.declared.Code.TheVariants.{Short, Trail, Header}
 use Rattle.writer.specs.Write.{Check, check, first_fault}
-use Rattle.write_judge.specs.declared.Verdict.TheVariants.{Fine, Fault}
+use Rattle.write_judge.specs.Verdict.{Fine, Fault}
 use Rattle.write_judge.proofs.Checks.{fails, passes, faults_before, fine_before}
 use Rattle.trace.specs.Trace.{version1, starts_from, deltas_from, coefficients_from, numbers_of}
 use Rattle.trace.specs.Read.{splines_in, points_in, version_checks, offset_checks, length_checks, part_checks, body_checks, read_checks}

@@ -9,7 +9,7 @@ use borrow.Author.Tests.{le-leb, ltb-true, leb-true, eq-eqb, ne_eqb}
 use Rattle.codes.specs.declared.Code.{Code}
 use Rattle.codes.specs.declared.Code.TheVariants.{Short, Coord, Delta, Trail, Shape, Header}
 use Rattle.writer.specs.Write.{Check, first_fault}
-use Rattle.write_judge.specs.declared.Verdict.TheVariants.{Fault}
+use Rattle.write_judge.specs.Verdict.{Fault}
 use Rattle.little.specs.Little.{numbers_in}
 use Rattle.trace.specs.Trace.{starts_from, deltas_from, coefficients_from, numbers_of, part, number_checks}
 use Rattle.trace.specs.Read.{offset_checks, length_checks, misplaced, too_wild, part_checks, body_checks}

@@ -11,7 +11,7 @@ use lib.Signed.{mag}
 use borrow.Author.Tests.{ltb-false, leb-true, leb-false, eq-eqb, ne_eqb, eqb-true, eqb-false, not-true, not-false}
 use Rattle.codes.specs.declared.Code.TheVariants.{Short, Coord, Delta, Shape, Header}
 use Rattle.writer.specs.Write.{first_fault}
-use Rattle.write_judge.specs.declared.Verdict.TheVariants.{Fine}
+use Rattle.write_judge.specs.Verdict.{Fine}
 use Rattle.write_judge.proofs.Checks.{passed, both_fine}
 use Rattle.write_laws.specs.Refusals.{NoneOf}
 use Rattle.little.specs.Little.{numbers_in, signed_in}

@@ -8,8 +8,8 @@ use native.Mathlib.Omega.{arith}
 use lib.ListN.{length, get_or}
 use Rattle.codes.specs.declared.Code.{Code}
 use Rattle.writer.specs.Write.{Check, check, first_fault}
-use Rattle.write_judge.specs.declared.Verdict.{Verdict}
-use Rattle.write_judge.specs.declared.Verdict.TheVariants.{Fine, Fault}
+use Rattle.write_judge.specs.Verdict.{Verdict}
+use Rattle.write_judge.specs.Verdict.{Fine, Fault}
 use Rattle.write_judge.proofs.Checks.{fails, passes, faults_before, fine_before}
 use Rattle.trace.specs.Trace.{number_checks}
 

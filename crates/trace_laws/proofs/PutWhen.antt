@@ -13,7 +13,7 @@ use Rattle.codes.specs.declared.Code.{Code}
 use Rattle.codes.specs.declared.Code.TheVariants.{Coord, Delta, Header}
 use Rattle.shape.specs.Shape.{points_of}
 use Rattle.writer.specs.Write.{Check, first_fault}
-use Rattle.write_judge.specs.declared.Verdict.TheVariants.{Fine, Fault}
+use Rattle.write_judge.specs.Verdict.{Fine, Fault}
 use Rattle.write_judge.proofs.Checks.{passed, faults_before, fine_before, both_fine}
 use Rattle.write_laws.specs.Refusals.{NoneOf}
 use Rattle.trace.specs.Trace.{starts_from, deltas_from, coefficients_from, wild, number_checks}

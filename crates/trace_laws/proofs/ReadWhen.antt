@@ -15,8 +15,8 @@ use Rattle.reader.specs.Read.{ReadOutcome, outcome}
 use Rattle.reader.specs.Refusals.{ReadRefused}
 use Rattle.read_list.specs.declared.ReadAnswer.{ReadAnswer}
 use Rattle.writer.specs.Write.{check, first_fault}
-use Rattle.write_judge.specs.declared.Verdict.{Verdict}
-use Rattle.write_judge.specs.declared.Verdict.TheVariants.{Fine, Fault}
+use Rattle.write_judge.specs.Verdict.{Verdict}
+use Rattle.write_judge.specs.Verdict.{Fine, Fault}
 use Rattle.little.specs.Little.{numbers_in}
 use Rattle.trace.specs.Trace.{version1}
 use Rattle.trace.specs.Read.{version_checks, offset_checks, body_checks, read_checks, tight, whole_checks, described_in, read_trace_of}

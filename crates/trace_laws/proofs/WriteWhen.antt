@@ -16,8 +16,8 @@ use Rattle.shape.specs.Shape.{points_of, Shaped}
 use Rattle.shape.proofs.Shape.{is_shaped, shaped_is, not_shaped}
 use Rattle.list.specs.List.{described}
 use Rattle.writer.specs.Write.{Check, check, first_fault, misshapen, whole_of, WriteOutcome, outcome}
-use Rattle.write_judge.specs.declared.Verdict.{Verdict}
-use Rattle.write_judge.specs.declared.Verdict.TheVariants.{Fine, Fault}
+use Rattle.write_judge.specs.Verdict.{Verdict}
+use Rattle.write_judge.specs.Verdict.{Fine, Fault}
 use Rattle.writer.specs.declared.WriteAnswer.{WriteAnswer}
 use Rattle.write_judge.proofs.Checks.{fails, passes, passed, faults_before, fine_before, both_fine}
 use Rattle.write_laws.specs.Refusals.{WriteRefused}

@@ -19,7 +19,7 @@ use Rattle.read_steps.specs.Steps.{Front}
 use Rattle.reader.specs.Rest.{ListLeft}
 use Rattle.read_list.specs.declared.ReadAnswer.{ReadAnswer}
 use Rattle.writer.specs.Write.{first_fault}
-use Rattle.write_judge.specs.declared.Verdict.TheVariants.{Fine}
+use Rattle.write_judge.specs.Verdict.{Fine}
 use Rattle.little.specs.Little.{numbers_in, signed_in}
 use Rattle.little.proofs.Little.{numbers_length}
 use Rattle.trace.specs.Trace.{starts_from, part, number_checks}

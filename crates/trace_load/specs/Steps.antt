@@ -6,7 +6,7 @@ use Rattle.list.specs.List.{ListRooms}
 use Rattle.list.specs.Steps.{f32_of}
 use Rattle.read_steps.specs.Steps.{Front}
 use Rattle.writer.specs.Write.{first_fault}
-use Rattle.write_judge.specs.declared.Verdict.TheVariants.{Fine}
+use Rattle.write_judge.specs.Verdict.{Fine}
 use Rattle.little.specs.Little.{numbers_in, signed_in}
 use Rattle.trace.specs.Trace.{starts_from, deltas_from, coefficients_from, numbers_of, part, number_checks}
 use Rattle.trace.specs.Read.{misplaced}

@@ -8,7 +8,7 @@ ghost use Rattle.read_steps.specs.Steps.{Front};
 ghost use Rattle.reader.specs.Read.{rooms_of};
 ghost use Rattle.reader.specs.Rest.{ListLeft};
 ghost use Rattle.writer.specs.Write.{first_fault};
-ghost use Rattle.write_judge.specs.declared.Verdict.{Verdict};
+ghost use Rattle.write_judge.specs.Verdict.{Verdict};
 ghost use Rattle.little.specs.Little.{numbers_in, signed_in};
 ghost use Rattle.trace.specs.Trace.{part, number_checks};
 ghost use Rattle.trace.specs.Read.{splines_in, points_in, misplaced, described_in};

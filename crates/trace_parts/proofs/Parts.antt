@@ -14,7 +14,7 @@ use Rattle.codes.specs.declared.Code.TheVariants.{Coord, Delta, Shape}
 use Rattle.shape.specs.Shape.{points_of}
 use Rattle.list.specs.List.{pos_limit, delta_limit}
 use Rattle.writer.specs.Write.{Check, first_fault}
-use Rattle.write_judge.specs.declared.Verdict.TheVariants.{Fine, Fault}
+use Rattle.write_judge.specs.Verdict.{Fine, Fault}
 use Rattle.write_judge.proofs.Checks.{fails, passes, faults_before, fine_before}
 use Rattle.little.specs.Little.{numbers_in}
 use Rattle.little.proofs.Little.{numbers_length}

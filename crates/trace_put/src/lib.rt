@@ -6,7 +6,7 @@ ghost use Rattle.std.specs.Prelude.{◌≡◌, Bool, [], map, ◌+◌, ◌*◌, 
 ghost use Rattle.std.proofs.lemmas.List.Edits.{sets};
 ghost use Rattle.codes.specs.declared.Code.{Code};
 ghost use Rattle.writer.specs.Write.{first_fault};
-ghost use Rattle.write_judge.specs.declared.Verdict.{Verdict};
+ghost use Rattle.write_judge.specs.Verdict.{Verdict};
 ghost use Rattle.little.specs.Little.{bytes_of, unsigned_of};
 ghost use Rattle.trace.specs.Trace.{version1, header_of, number_checks};
 ghost use Rattle.trace.specs.Write.{misfit};

@@ -19,7 +19,7 @@ use Rattle.reader.specs.Rest.{ListLeft, Wiped}
 use Rattle.read_list.specs.declared.ReadAnswer.{ReadAnswer}
 use Rattle.reader.proofs.Whole.{done}
 use Rattle.writer.specs.Write.{Check, check, first_fault}
-use Rattle.write_judge.specs.declared.Verdict.TheVariants.{Fine, Fault}
+use Rattle.write_judge.specs.Verdict.{Fine, Fault}
 use Rattle.write_judge.proofs.Checks.{neither, fails, passed, faults_before, fine_before, both_fine}
 use Rattle.little.specs.Little.{numbers_in}
 use Rattle.trace.specs.Trace.{version1, starts_from, numbers_of, part, number_checks}

@@ -14,7 +14,7 @@ use Rattle.codes.specs.declared.Code.TheVariants.{Coord, Room, Shape}
 use Rattle.shape.specs.Shape.{points_of}
 use Rattle.list.specs.List.{described}
 use Rattle.writer.specs.Write.{Check, check, first_fault, misshapen, whole_of, WriteOutcome, leaves, outcome}
-use Rattle.write_judge.specs.declared.Verdict.TheVariants.{Fine, Fault}
+use Rattle.write_judge.specs.Verdict.{Fine, Fault}
 use Rattle.writer.specs.declared.WriteAnswer.TheVariants.{Done, Refused}
 use Rattle.write_judge.proofs.Checks.{fails, passes, passed, faults_before, fine_before, both_fine, agreed}
 use Rattle.write_steps.proofs.Stores.{zeros_after}

@@ -1,20 +1,27 @@
 -- Laws of the checks: each turn of a judging loop is one unfolding of its definition.
-use Rattle.std.proofs.Common.{◌≡◌, ℕ, zero, suc, ◌+◌, ◌-◌, ◌*◌, ◌<◌, ◌≤◌, Bool, true, false, not, ◌||◌, T, eqb, ltb, leb, List, [], ◌∷◌, ◌++◌, length, get_or, take, drop, ℤ, pos, negsuc, nat_abs, sym, refl, ap, ◌∙◌, subst, add-one, arith, length-drop, drop_of_length-le, length-take-le, drop-cons, drop-drop, ltb-false, ltb-true, le-ltb, lt-ltb, eq-eqb, ne_eqb, le-leb}
+use Rattle.std.proofs.Common.{◌≡◌, ℕ, zero, suc, ◌+◌, ◌-◌, ◌*◌, ◌<◌, ◌≤◌, Bool, true, false, not, ◌||◌, T, eqb, ltb, List, [], ◌∷◌, ◌++◌, length, get_or, take, drop, ℤ, pos, sym, refl, ap, ◌∙◌, subst, add-one, arith, length-drop, drop_of_length-le, length-take-le, drop-cons, drop-drop, ltb-false, le-ltb, lt-ltb, eq-eqb, ne_eqb}
 use lib.Ieee.{Float, nan}
-use lib.Signed.{lt_z, le_z}
-use borrow.Author.Tests.{lt-leb, eqb-false, not-false}
+use borrow.Author.Tests.{eqb-false, not-false}
 use Rattle.codes.specs.declared.Code.{Code}
 use Rattle.codes.specs.declared.Code.TheVariants.{Splines, Coord, Points, Delta, Shape}
+use Rattle.std.specs.Prelude.{Result, Ok, Err}
+use Rattle.std.specs.Result.{IsErrAnd}
+use Rattle.codes.specs.Refusal.{Refusal}
 use Rattle.shape.proofs.Shape.{is_shaped, shaped_is}
 use Rattle.shape.specs.Shape.{points_of}
-use Rattle.list.specs.List.{delta_limit}
+use Rattle.list.specs.List.{delta_limit, beyond}
 use Rattle.write_judge.specs.Judge.{Check, check, first_fault, misshapen, miscounted, content_checks, unfit_as, start_checks, delta_checks, spline_checks}
-use Rattle.write_judge.specs.declared.Verdict.TheVariants.{Fine, Fault}
+use Rattle.write_judge.specs.Verdict.{Fine, Fault}
 
 -- neither of two tests
 pub neither : (a b : Bool) → (a || b) ≡ false → (a ≡ false) × (b ≡ false)
 neither true b e = absurd (subst T e tt)
 neither false b e = (refl, e)
+
+-- what `?` returns is the refusal that it was given
+pub passed_on : {A : Type 0} (r : Result A Refusal) (e : Refusal) (o : Result A Refusal) → IsErrAnd r (λ y. y ≡ e) → o ≡ Err e → r ≡ o
+passed_on (Ok x) e o is h = absurd is
+passed_on (Err y) e o is h = ap Err is ∙ sym h
 
 -- a check that fails, and one that passes
 pub fails : (b : Bool) (c : Code) (p : ℕ) (rest : List Check) → b ≡ true → first_fault (check b c p ∷ rest) ≡ Fault c p
@@ -59,21 +66,9 @@ module _ (ns : List ℕ) (ss : List Float) (ds cs : List ℤ) where
   unfolding misshapen
   agreed e = let s = shaped_is ns ss ds cs (not-false _ e) in (s.starts, s.deltas, s.coefficients)
 
--- whether a double delta is of magnitude 2^30 or more, from its order
-abbrev wild : ℤ → Bool
-wild d = leb delta_limit (nat_abs d)
-
-pub wild_above : (d : ℤ) → lt_z (negsuc 1073741823) d ≡ true → le_z (pos 1073741824) d ≡ wild d
-wild_above (pos n) h = refl
-wild_above (negsuc n) h = sym (lt-leb 1073741824 (suc n) (omega (arith, ltb-true n 1073741823 h)))
-
-pub wild_below : (d : ℤ) → lt_z (negsuc 1073741823) d ≡ false → true ≡ wild d
-wild_below (pos n) h = absurd (subst T h tt)
-wild_below (negsuc n) h = sym (le-leb 1073741824 (suc n) (omega (arith, ltb-false n 1073741823 h)))
-
 -- a pair of double deltas
 module _ (ds : List ℤ) (p i : ℕ) (h : i + 1 < length ds) where
-  deltas_turn : delta_checks p (drop i ds) ≡ check (wild (get_or ds i (pos 0)) || wild (get_or ds (i + 1) (pos 0))) Delta p ∷ delta_checks (p + 2) (drop (i + 2) ds)
+  deltas_turn : delta_checks p (drop i ds) ≡ check (beyond delta_limit (get_or ds i (pos 0)) (get_or ds (i + 1) (pos 0))) Delta p ∷ delta_checks (p + 2) (drop (i + 2) ds)
   unfolding delta_checks
   deltas_turn =
       let a : i < length ds = omega arith in
@@ -82,14 +77,11 @@ module _ (ds : List ℤ) (p i : ℕ) (h : i + 1 < length ds) where
       let f : i + 1 ≡ suc i = omega arith in
       rw (e, f, drop-cons ds i (pos 0) a, drop-cons ds (suc i) (pos 0) b)
 
-  pub deltas_first : wild (get_or ds i (pos 0)) ≡ true → first_fault (delta_checks p (drop i ds)) ≡ Fault Delta p
-  deltas_first e = rw deltas_turn (fails _ Delta p _ (rw e))
+  pub deltas_wild : beyond delta_limit (get_or ds i (pos 0)) (get_or ds (i + 1) (pos 0)) ≡ true → first_fault (delta_checks p (drop i ds)) ≡ Fault Delta p
+  deltas_wild e = rw deltas_turn (fails _ Delta p _ e)
 
-  pub deltas_second : wild (get_or ds i (pos 0)) ≡ false → wild (get_or ds (i + 1) (pos 0)) ≡ true → first_fault (delta_checks p (drop i ds)) ≡ Fault Delta p
-  deltas_second d e = rw deltas_turn (fails _ Delta p _ (rw (d, e)))
-
-  pub deltas_pass : wild (get_or ds i (pos 0)) ≡ false → wild (get_or ds (i + 1) (pos 0)) ≡ false → first_fault (delta_checks p (drop i ds)) ≡ first_fault (delta_checks (p + 2) (drop (i + 2) ds))
-  deltas_pass d e = rw deltas_turn (passes _ Delta p _ (rw (d, e)))
+  pub deltas_pass : beyond delta_limit (get_or ds i (pos 0)) (get_or ds (i + 1) (pos 0)) ≡ false → first_fault (delta_checks p (drop i ds)) ≡ first_fault (delta_checks (p + 2) (drop (i + 2) ds))
+  deltas_pass e = rw deltas_turn (passes _ Delta p _ e)
 
 pub deltas_end : (ds : List ℤ) (p i : ℕ) → length ds ≤ i → first_fault (delta_checks p (drop i ds)) ≡ Fine
 unfolding first_fault delta_checks
@@ -106,15 +98,12 @@ module _ (first : Bool) (ss : List Float) (p i : ℕ) (h : i + 1 < length ss) wh
       let f : i + 1 ≡ suc i = omega arith in
       rw (e, f, drop-cons ss i nan a, drop-cons ss (suc i) nan b)
 
-  pub starts_first : unfit_as first (get_or ss i nan) ≡ true → first_fault (start_checks first p (drop i ss)) ≡ Fault Coord p
-  starts_first e = rw starts_turn (fails _ Coord p _ (rw e))
+  pub starts_unfit : (unfit_as first (get_or ss i nan) || unfit_as first (get_or ss (i + 1) nan)) ≡ true → first_fault (start_checks first p (drop i ss)) ≡ Fault Coord p
+  starts_unfit e = rw starts_turn (fails _ Coord p _ e)
 
-  pub starts_second : unfit_as first (get_or ss i nan) ≡ false → unfit_as first (get_or ss (i + 1) nan) ≡ true → first_fault (start_checks first p (drop i ss)) ≡ Fault Coord p
-  starts_second d e = rw starts_turn (fails _ Coord p _ (rw (d, e)))
-
-  pub starts_pass : unfit_as first (get_or ss i nan) ≡ false → unfit_as first (get_or ss (i + 1) nan) ≡ false
+  pub starts_pass : (unfit_as first (get_or ss i nan) || unfit_as first (get_or ss (i + 1) nan)) ≡ false
       → first_fault (start_checks first p (drop i ss)) ≡ first_fault (start_checks false (p + 2) (drop (i + 2) ss))
-  starts_pass d e = rw starts_turn (passes _ Coord p _ (rw (d, e)))
+  starts_pass e = rw starts_turn (passes _ Coord p _ e)
 
   pub starts_fine : first_fault (start_checks first p (drop i ss)) ≡ Fine
       → (unfit_as first (get_or ss i nan) ≡ false) × (unfit_as first (get_or ss (i + 1) nan) ≡ false) × (first_fault (start_checks false (p + 2) (drop (i + 2) ss)) ≡ Fine)

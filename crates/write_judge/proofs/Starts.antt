@@ -6,7 +6,7 @@ use lib.Ieee.Exact.{HasValue}
 use lib.Ieee.Back.{round_whole, Float-back_signed}
 use lib.Ieee.Bits.{of_bits-to_bits}
 use lib.Ieee.Fits.{down_pos, of_int-fits}
-use borrow.Author.Tests.{lt-leb, not-false}
+use borrow.Author.Tests.{lt-leb, eqb-false, not-false}
 use Rattle.write_judge.proofs.Checks.{neither}
 use Rattle.write_judge.specs.Judge.{unfit, unfit_as}
 
@@ -148,19 +148,27 @@ fit_number (inf s) h = tt
 fit_number (fin s m e) h = tt
 
 -- the bits of a number and of its integer part tell whether it is fit
-pub bits_same : (x : Float) → T (fits binary32 x) → nat_abs (to_signed 63 x) < 2 ^ 23 → to_bits binary32 x ≡ to_bits binary32 (of_int binary32 (to_signed 63 x)) → false ≡ unfit x
+bits_same : (x : Float) → T (fits binary32 x) → nat_abs (to_signed 63 x) < 2 ^ 23 → to_bits binary32 x ≡ to_bits binary32 (of_int binary32 (to_signed 63 x)) → false ≡ unfit x
 bits_same x f h e =
     let z = to_signed 63 x in
     let is : x ≡ of_int binary32 z
     = sym (of_bits-to_bits binary32 x f) ∙ ap (of_bits binary32) e ∙ of_bits-to_bits binary32 (of_int binary32 z) (of_int-fits binary32 z) in
     sym (ap unfit is ∙ whole_fit z h)
 
-pub bits_other : (x : Float) → T (fits binary32 x) → (to_bits binary32 x ≡ to_bits binary32 (of_int binary32 (to_signed 63 x)) → ⊥) → true ≡ unfit x
+bits_other : (x : Float) → T (fits binary32 x) → (to_bits binary32 x ≡ to_bits binary32 (of_int binary32 (to_signed 63 x)) → ⊥) → true ≡ unfit x
 bits_other x f e = go (unfit x) refl
   where
     go : (b : Bool) → unfit x ≡ b → true ≡ b
     go true h = refl
     go false h = absurd (e (ap (to_bits binary32) (sym (Float-back_signed binary32 63 x f (fit_signed 63 (omega arith) x h)).1)))
+
+pub bits_tell : (x : Float) → T (fits binary32 x) → nat_abs (to_signed 63 x) < 2 ^ 23
+    → not (eqb (to_bits binary32 x) (to_bits binary32 (of_int binary32 (to_signed 63 x)))) ≡ unfit x
+bits_tell x f h = go (eqb (to_bits binary32 x) (to_bits binary32 (of_int binary32 (to_signed 63 x)))) refl
+  where
+    go : (b : Bool) → eqb (to_bits binary32 x) (to_bits binary32 (of_int binary32 (to_signed 63 x))) ≡ b → not b ≡ unfit x
+    go true e = bits_same x f h (eqb-true _ _ e)
+    go false e = bits_other x f (eqb-false _ _ e)
 
 -- a start as the first, and as a later one
 pub unfit_any : (first : Bool) (x : Float) → unfit x ≡ true → true ≡ unfit_as first x

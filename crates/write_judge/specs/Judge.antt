@@ -6,9 +6,10 @@ use Rattle.std.specs.Float.Ieee.{up, down, lt}
 use Rattle.codes.specs.declared.Code.{Code}
 use Rattle.codes.specs.declared.Code.TheVariants.{Splines, Coord, Points, Delta, Shape}
 use Rattle.shape.specs.Shape.{shaped}
+use Rattle.shape.specs.Description.{Description}
 use Rattle.list.specs.List.{pos_limit, delta_limit, beyond}
-use Rattle.write_judge.specs.declared.Verdict.{Verdict}
-use Rattle.write_judge.specs.declared.Verdict.TheVariants.{Fine, Fault}
+use Rattle.write_judge.specs.Verdict.{Verdict}
+use Rattle.write_judge.specs.Verdict.{Fine, Fault}
 
 -- one check: whether it fails, and the code and the place that it then gives
 pub data Check : Type 0 where
@@ -65,3 +66,7 @@ content_checks counts starts deltas coefficients limit =
     check (misshapen counts starts deltas coefficients) Shape 0
     ∷ check (miscounted limit (length counts)) Splines 0
     ∷ start_checks true 1 starts ++ spline_checks limit 0 (2 * length counts + 2) counts deltas
+
+-- those of a description
+abbrev pub checks_of : Description → ℕ → List Check
+checks_of d limit = content_checks d.counts d.starts d.deltas d.coefficients limit

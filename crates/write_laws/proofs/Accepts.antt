@@ -16,7 +16,7 @@ use Rattle.shape.specs.Shape.{points_of}
 use Rattle.list.specs.List.{pos_limit, delta_limit, beyond, Near, Tame, Valid}
 use Rattle.list.specs.Steps.{f32_of}
 use Rattle.writer.specs.Write.{first_fault, unfit, unfit_as, start_checks, delta_checks, spline_checks, content_checks, whole_of}
-use Rattle.write_judge.specs.declared.Verdict.TheVariants.{Fine}
+use Rattle.write_judge.specs.Verdict.{Fine}
 use Rattle.write_judge.proofs.Checks.{neither, passed, fine_before, both_fine, agree, agreed, well_counted, counted, content_rest, content_fine}
 use Rattle.write_judge.proofs.Starts.{fit_any, whole_fit}
 use Rattle.write_steps.proofs.Values.{fit_small, fit_back, first_signed}

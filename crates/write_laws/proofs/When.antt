@@ -17,8 +17,8 @@ use Rattle.codes.specs.declared.Code.TheVariants.{Splines, Coord, Points, Delta,
 use Rattle.shape.specs.Shape.{points_of}
 use Rattle.list.specs.List.{delta_limit, beyond, limit_of, Tame}
 use Rattle.writer.specs.Write.{Check, check, first_fault, misshapen, miscounted, unfit_as, start_checks, delta_checks, spline_checks, content_checks, values_of, outcome, write_of}
-use Rattle.write_judge.specs.declared.Verdict.{Verdict}
-use Rattle.write_judge.specs.declared.Verdict.TheVariants.{Fine, Fault}
+use Rattle.write_judge.specs.Verdict.{Verdict}
+use Rattle.write_judge.specs.Verdict.{Fine, Fault}
 use Rattle.writer.specs.declared.WriteAnswer.TheVariants.{Done, Refused}
 use Rattle.write_judge.proofs.Checks.{fails, passes, passed, faults_before, fine_before, both_fine, agreed, content_shape, content_count, content_start, content_rest, content_fine}
 use Rattle.write_laws.specs.Refusals.{points_before}

@@ -18,8 +18,8 @@ use Rattle.codes.specs.declared.Code.TheVariants.{Room}
 use Rattle.shape.specs.Shape.{points_of, Shaped}
 use Rattle.list.specs.List.{delta_limit, beyond, limit_of, Tame}
 use Rattle.writer.specs.Write.{check, first_fault, content_checks, misshapen, miscounted, unfit, unfit_as, values_of, WriteOutcome, outcome, write_of}
-use Rattle.write_judge.specs.declared.Verdict.{Verdict}
-use Rattle.write_judge.specs.declared.Verdict.TheVariants.{Fine, Fault}
+use Rattle.write_judge.specs.Verdict.{Verdict}
+use Rattle.write_judge.specs.Verdict.{Fine, Fault}
 use Rattle.writer.specs.declared.WriteAnswer.TheVariants.{Done, Refused}
 use Rattle.write_judge.proofs.Checks.{agree, agreed, none_counted, many_counted, well_counted, counted}
 use Rattle.write_judge.proofs.Starts.{unfit_any}

@@ -13,7 +13,7 @@ use Rattle.codes.specs.declared.Code.{Code}
 use Rattle.codes.specs.declared.Code.TheVariants.{Room}
 use Rattle.list.specs.List.{limit_of}
 use Rattle.writer.specs.Write.{check, first_fault, content_checks, values_of, leaves, write_of}
-use Rattle.write_judge.specs.declared.Verdict.TheVariants.{Fine, Fault}
+use Rattle.write_judge.specs.Verdict.{Fine, Fault}
 use Rattle.write_steps.specs.Steps.{Writable}
 use Rattle.writer.specs.declared.WriteAnswer.TheVariants.{Done, Refused}
 use Rattle.write_judge.proofs.Checks.{fails, passes, faults_before, fine_before, agreed, counted, content_fine}

@@ -3,8 +3,8 @@ use Rattle.std.specs.Prelude.{List, [], ◌∷◌, ◌++◌, ℕ, ◌-◌, ltb, 
 use Rattle.codes.specs.Codes.{number_of}
 use Rattle.codes.specs.declared.Code.TheVariants.{Room}
 use Rattle.list.specs.List.{limit_of}
-use Rattle.write_judge.specs.declared.Verdict.{Verdict}
-use Rattle.write_judge.specs.declared.Verdict.TheVariants.{Fine, Fault}
+use Rattle.write_judge.specs.Verdict.{Verdict}
+use Rattle.write_judge.specs.Verdict.{Fine, Fault}
 pub use Rattle.write_judge.specs.Judge.{Check, check}
 unfoldable pub use Rattle.write_judge.specs.Judge.{first_fault, misshapen, miscounted, unfit, unfit_as, start_checks, delta_checks, spline_checks, content_checks}
 pub use Rattle.write_steps.specs.Steps.{whole_of}

@@ -1,47 +1,55 @@
 -- `write_judge::judge` meets its contract: each test and each call is the next of the checks.
-use Rattle.std.proofs.Common.{length, sym, ◌∙◌, arith}
-use Rattle.write_judge.proofs.Checks.{agreed, none_counted, many_counted, well_counted, content_shape, content_count, content_start, content_rest}
+use Rattle.std.proofs.Common.{length, not, sym, ap, ◌∙◌, arith}
+use Rattle.write_judge.specs.Judge.{misshapen}
+use Rattle.write_judge.proofs.Checks.{passed_on, agreed, none_counted, many_counted, well_counted, content_shape, content_count, content_start, content_rest}
 use Rattle.write_judge.proofs.judge.Goals as goal
+use Rattle.write_judge.proofs.judge.Goals.{then-splines-eq0-via-then-splines-eq0, then-splines-eq0-via-else-splines-eq0+then-limit-splines}
 
-pub returns-then-disagree : goal.returns-then-disagree
-returns-then-disagree c =
-    let a = c.args in
-    sym (content_shape a.counts.now a.starts.now a.deltas.now a.coefficients.now a.limit (sym c.disagree.ensures ∙ c.if-disagree.true))
+pub returns-then-not-is_shaped : goal.returns-then-not-is_shaped
+unfolding misshapen
+returns-then-not-is_shaped c =
+    let d = c.args.description.now in
+    sym (content_shape d.counts.now d.starts.now d.deltas.now d.coefficients.now c.args.limit (ap not (sym c.is_shaped.ensures ∙ c.if-not-is_shaped.true)))
 
 pub returns-then-splines-eq0 : goal.returns-then-splines-eq0
+unfolding misshapen
 returns-then-splines-eq0 c =
-    let a = c.args in
-    sym (content_count a.counts.now a.starts.now a.deltas.now a.coefficients.now a.limit (sym c.disagree.ensures ∙ c.if-disagree.false)
-    (none_counted a.limit (length a.counts.now) c.if-splines-eq0.true))
-
-pub returns-then-limit-splines : goal.returns-then-limit-splines
-returns-then-limit-splines c =
-    let a = c.args in
-    sym (content_count a.counts.now a.starts.now a.deltas.now a.coefficients.now a.limit (sym c.disagree.ensures ∙ c.if-disagree.false)
-    (many_counted a.limit (length a.counts.now) c.if-splines-eq0.false c.if-limit-splines.true))
+    let d = c.args.description.now in
+    let s = ap not (sym c.is_shaped.ensures ∙ c.if-not-is_shaped.false) in
+    let f = content_count d.counts.now d.starts.now d.deltas.now d.coefficients.now c.args.limit s in
+    elim c.then-splines-eq0.branch [
+      | then-splines-eq0-via-then-splines-eq0 w ↦ sym (f (none_counted c.args.limit (length d.counts.now) w.if-splines-eq0.true))
+      | then-splines-eq0-via-else-splines-eq0+then-limit-splines w ↦ sym (f (many_counted c.args.limit (length d.counts.now) w.if-splines-eq0.false w.if-limit-splines.true))
+    ]
 
 pub judge_starts-requires : goal.judge_starts-requires
+unfolding misshapen
 judge_starts-requires c =
-    let a = c.args in
-    omega (arith, (agreed a.counts.now a.starts.now a.deltas.now a.coefficients.now (sym c.disagree.ensures ∙ c.if-disagree.false)).0)
+    let d = c.args.description.now in
+    omega (arith, (agreed d.counts.now d.starts.now d.deltas.now d.coefficients.now (ap not (sym c.is_shaped.ensures ∙ c.if-not-is_shaped.false))).0)
 
 pub judge_splines-requires : goal.judge_splines-requires
+unfolding misshapen
 judge_splines-requires c =
-    let a = c.args in
-    let h = agreed a.counts.now a.starts.now a.deltas.now a.coefficients.now (sym c.disagree.ensures ∙ c.if-disagree.false) in
+    let d = c.args.description.now in
+    let h = agreed d.counts.now d.starts.now d.deltas.now d.coefficients.now (ap not (sym c.is_shaped.ensures ∙ c.if-not-is_shaped.false)) in
     (omega (arith, c.if-limit-splines.false, c.ranges.limit), h.1)
 
-pub returns-in-Fault : goal.returns-in-Fault
-returns-in-Fault c =
-    let a = c.args in
-    sym (content_start a.counts.now a.starts.now a.deltas.now a.coefficients.now a.limit (sym c.disagree.ensures ∙ c.if-disagree.false)
-    (well_counted a.limit (length a.counts.now) c.if-splines-eq0.false c.if-limit-splines.false) _ _
-    (sym c.judge_starts.ensures ∙ c.in-Fault.is))
+pub returns-in_err-judge_starts : goal.returns-in_err-judge_starts
+unfolding misshapen
+returns-in_err-judge_starts c =
+    let d = c.args.description.now in
+    let r = c.in_err-judge_starts.field-0.0 in
+    passed_on _ _ _ c.from_residual.ensures.1
+    (content_start d.counts.now d.starts.now d.deltas.now d.coefficients.now c.args.limit (ap not (sym c.is_shaped.ensures ∙ c.if-not-is_shaped.false))
+    (well_counted c.args.limit (length d.counts.now) c.if-splines-eq0.false c.if-limit-splines.false) r.0 r.1
+    (sym c.judge_starts.ensures ∙ c.in_err-judge_starts.was))
 
-pub returns-in-Fine : goal.returns-in-Fine
-returns-in-Fine c =
-    let a = c.args in
+pub returns : goal.returns
+unfolding misshapen
+returns c =
+    let d = c.args.description.now in
     c.judge_splines.ensures
-    ∙ sym (content_rest a.counts.now a.starts.now a.deltas.now a.coefficients.now a.limit (sym c.disagree.ensures ∙ c.if-disagree.false)
-    (well_counted a.limit (length a.counts.now) c.if-splines-eq0.false c.if-limit-splines.false)
-    (sym c.judge_starts.ensures ∙ c.in-Fine.is))
+    ∙ sym (content_rest d.counts.now d.starts.now d.deltas.now d.coefficients.now c.args.limit (ap not (sym c.is_shaped.ensures ∙ c.if-not-is_shaped.false))
+    (well_counted c.args.limit (length d.counts.now) c.if-splines-eq0.false c.if-limit-splines.false)
+    (sym c.judge_starts.ensures ∙ c.in_ok-judge_starts.was))

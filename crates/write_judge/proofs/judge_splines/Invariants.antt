@@ -6,9 +6,6 @@ use Rattle.write_judge.proofs.judge_splines.Given as goal
 
 abbrev pub invariant-loop-i : goal.invariant-loop-i
 invariant-loop-i l =
-    (l.i ≤ length l.counts) × (l.left ≤ l.limit) × (l.from + 2 * points_of (drop l.i l.counts) ≡ length l.deltas) × (l.place ≡ 2 * length l.counts + 2 + 129 * l.i + l.from)
+    (l.left ≤ l.limit) × (l.from + 2 * points_of (drop l.i l.counts) ≡ length l.deltas) × (l.place ≡ 2 * length l.counts + 2 + 129 * l.i + l.from)
     × (first_fault (spline_checks l.limit 0 (2 * length l.counts + 2) l.counts l.deltas)
     ≡ first_fault (spline_checks l.limit (l.limit - l.left) l.place (drop l.i l.counts) (drop l.from l.deltas)))
-
-abbrev pub decreases-loop-i : goal.decreases-loop-i
-decreases-loop-i l = length l.counts - l.i
