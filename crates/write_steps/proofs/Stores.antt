@@ -12,7 +12,7 @@ use lib.Ieee.{Float, nan}
 use Rattle.shape.specs.Shape.{points_of}
 use Rattle.list.specs.List.{pack_signed, starts_list, spline_list, splines_list}
 use Rattle.write_judge.specs.Judge.{first_fault, unfit, start_checks}
-use Rattle.write_judge.specs.declared.Verdict.TheVariants.{Fine}
+use Rattle.write_judge.specs.Verdict.{Fine}
 use Rattle.write_steps.specs.Steps.{whole_of, values_of, later_list}
 use Rattle.shape.proofs.Shape.{sum_turn}
 use Rattle.write_judge.proofs.Checks.{starts_fine}

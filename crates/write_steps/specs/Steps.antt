@@ -3,9 +3,10 @@ use Rattle.std.specs.Prelude.{◌≡◌, true, false, List, map, ℕ, ◌+◌, �
 use Rattle.std.specs.Float.{nan}
 use Rattle.std.specs.Float.Ieee.{to_signed}
 use Rattle.shape.specs.Shape.{points_of}
+use Rattle.shape.specs.Description.{Description}
 use Rattle.list.specs.List.{described, list_of, starts_list}
 use Rattle.write_judge.specs.Judge.{first_fault, start_checks}
-use Rattle.write_judge.specs.declared.Verdict.TheVariants.{Fine}
+use Rattle.write_judge.specs.Verdict.{Fine}
 
 -- the whole number of a start
 abbrev pub whole_of : Float → ℤ
@@ -14,6 +15,9 @@ whole_of x = to_signed 31 x
 -- the values of a description
 unfoldable pub values_of : List ℕ → List Float → List ℤ → List ℤ → ℤ → List ℕ
 values_of counts starts deltas coefficients adjustment = list_of (described adjustment (map whole_of starts) counts deltas coefficients)
+
+abbrev pub list_values : Description → ℤ → List ℕ
+list_values d adjustment = values_of d.counts d.starts d.deltas d.coefficients adjustment
 
 -- the values of the starts from i on, each a difference to the one before it
 unfoldable pub later_list : List Float → ℕ → List ℕ
@@ -28,3 +32,6 @@ pub record Writable (counts : List ℕ) (starts : List Float) (deltas coefficien
   pub rows : length coefficients ≡ 128 * length counts
   pub fit : first_fault (start_checks true 1 starts) ≡ Fine
   pub fits : 131 * length counts + length deltas + 2 ≤ room
+
+abbrev pub CanBeWritten : Description → ℕ → Type 0
+CanBeWritten d room = Writable d.counts d.starts d.deltas d.coefficients room

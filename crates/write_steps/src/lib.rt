@@ -4,12 +4,14 @@
 ghost use Rattle.std.specs.Prelude.{◌≡◌, Bool, ◌∷◌, ◌++◌, map, ◌+◌, ◌-◌, ◌*◌, ◌≤◌, ◌<◌, ◌%◌, length, pos, nat_abs, ◌-ℤ◌};
 ghost use Rattle.std.proofs.lemmas.List.Edits.{sets};
 ghost use Rattle.shape.specs.Shape.{points_of};
+ghost use Rattle.shape.specs.Description.{description_in};
 ghost use Rattle.list.specs.List.{pack_signed, starts_list, splines_list};
 ghost use Rattle.write_judge.specs.Judge.{first_fault, unfit, unfit_as, start_checks};
-ghost use Rattle.write_judge.specs.declared.Verdict.{Verdict};
-ghost use Rattle.write_steps.specs.Steps.{whole_of, later_list, values_of, Writable};
+ghost use Rattle.write_judge.specs.Verdict.{Fine};
+ghost use Rattle.write_steps.specs.Steps.{whole_of, later_list, list_values, CanBeWritten};
 
 use list::pack_signed;
+use shape::Description;
 
 // The value of a coordinate of the first start.
 fn first_value(x: f32) -> u32
@@ -32,29 +34,26 @@ fn put_numbers(numbers: &[i32], list: &mut [u32], at: usize)
     requires { at + length numbers.now ≤ length list.old }
     ensures { list.new ≡ sets list.old at (map pack_signed numbers.now) }
 {
-    let mut i = 0;
-    while i < numbers.len() {
-        list[at + i] = pack_signed(numbers[i]);
-        i += 1;
+    for (i, &number) in numbers.iter().enumerate() {
+        list[at + i] = pack_signed(number);
     }
 }
 
 // The starts after the first: each is a difference to the one before it.
 fn put_later_starts(starts: &[f32], list: &mut [u32])
-    requires { (length starts.now % 2 ≡ 0) × (2 ≤ length starts.now) × (length starts.now < length list.old) × (first_fault (start_checks Bool.true 1 starts.now) ≡ Verdict.Fine) }
+    requires { (length starts.now % 2 ≡ 0) × (2 ≤ length starts.now) × (length starts.now < length list.old) × (first_fault (start_checks Bool.true 1 starts.now) ≡ Fine) }
     ensures { list.new ≡ sets list.old 3 (later_list starts.now 2) }
 {
-    let mut i = 2;
-    while i < starts.len() {
+    for k in 1..starts.len() / 2 {
+        let i = 2 * k;
         list[i + 1] = later_value(starts[i - 2], starts[i]);
         list[i + 2] = later_value(starts[i - 1], starts[i + 1]);
-        i += 2;
     }
 }
 
 // All starts, from 1 on.
 fn put_starts(starts: &[f32], list: &mut [u32])
-    requires { (length starts.now % 2 ≡ 0) × (2 ≤ length starts.now) × (length starts.now < length list.old) × (first_fault (start_checks Bool.true 1 starts.now) ≡ Verdict.Fine) }
+    requires { (length starts.now % 2 ≡ 0) × (2 ≤ length starts.now) × (length starts.now < length list.old) × (first_fault (start_checks Bool.true 1 starts.now) ≡ Fine) }
     ensures { list.new ≡ sets list.old 1 (starts_list Bool.true (pos 0) (pos 0) (map whole_of starts.now)) }
 {
     list[1] = first_value(starts[0]);
@@ -82,9 +81,7 @@ fn put_splines(counts: &[u32], deltas: &[i32], coefficients: &[i32], list: &mut 
     let mut place = at;
     let mut from = 0;
     let mut row = 0;
-    let mut i = 0;
-    while i < counts.len() {
-        let n = counts[i];
+    for &n in counts {
         let cells = 2 * (n as usize);
         let to = from + cells;
         let end = row + 128;
@@ -92,25 +89,24 @@ fn put_splines(counts: &[u32], deltas: &[i32], coefficients: &[i32], list: &mut 
         place += cells + 129;
         from = to;
         row = end;
-        i += 1;
     }
 }
 
 // The whole list of a description that was judged.
-pub fn put_list(
-    counts: &[u32],
-    starts: &[f32],
-    deltas: &[i32],
-    coefficients: &[i32],
-    adjustment: i32,
-    list: &mut [u32],
-)
-    requires { Writable counts.now starts.now deltas.now coefficients.now (length list.old) }
-    ensures { list.new ≡ sets list.old 0 (values_of counts.now starts.now deltas.now coefficients.now adjustment) }
+pub fn put_list(description: &Description<'_>, adjustment: i32, list: &mut [u32])
+    requires { CanBeWritten (description_in description.now) (length list.old) }
+    ensures { list.new ≡ sets list.old 0 (list_values (description_in description.now) adjustment) }
 {
-    let after = starts.len() + 1;
-    list[0] = (counts.len() - 1) as u32;
-    put_starts(starts, list);
+    let splines = description.counts.len();
+    let after = description.starts.len() + 1;
+    list[0] = (splines - 1) as u32;
+    put_starts(description.starts, list);
     list[after] = pack_signed(adjustment);
-    put_splines(counts, deltas, coefficients, list, after + 1);
+    put_splines(
+        description.counts,
+        description.deltas,
+        description.coefficients,
+        list,
+        after + 1,
+    );
 }
