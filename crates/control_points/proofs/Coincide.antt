@@ -12,8 +12,7 @@ use Rattle.control_points.specs.ControlPoints.{onward, step_of, trace_from, trac
 use Rattle.control_points.specs.declared.Pair.{Pair}
 use Rattle.control_points.specs.declared.Stand.{Stand}
 use Rattle.control_points.specs.declared.Run.{Run}
-use Rattle.control_points.specs.declared.Traced.{Traced}
-use Rattle.control_points.specs.declared.Traced.TheVariants.{On, Stop}
+use Rattle.control_points.specs.Answers.{Traced, On, Stop}
 use Rattle.codes.proofs.Decides.{both}
 use Rattle.control_points.proofs.Pairs.{point_range}
 use Rattle.control_points.proofs.Near.{eqb_same, eq_z, near_is}

@@ -14,8 +14,7 @@ use Rattle.codes.specs.declared.Code.TheVariants.{Delta, Position, Distance}
 use Rattle.control_points.specs.ControlPoints.{or_stop, onward, step_of, trace_from, trace_of, run_at, pair_at, plus_of, manhattan_of, valid_double_delta, valid_point_pos}
 use Rattle.control_points.specs.declared.Pair.{Pair}
 use Rattle.control_points.specs.declared.Run.{Run}
-use Rattle.control_points.specs.declared.Traced.{Traced}
-use Rattle.control_points.specs.declared.Traced.TheVariants.{On, Stop}
+use Rattle.control_points.specs.Answers.{Traced, On, Stop}
 use Rattle.control_points.proofs.Steps.{onto, turn_stop}
 
 -- ---- one step

@@ -13,9 +13,7 @@ use Rattle.codes.proofs.Decides.{Decides, both, both_decide}
 use Rattle.control_points.specs.ControlPoints.{in_range, below_delta_limit, valid_point_pos, valid_double_delta, rounded_of, joined, starting_point}
 use Rattle.control_points.specs.Refusals.{InRange, Beyond, Inside, Outside, Small, Large, rounded_start, RoundsTo, Strays}
 use Rattle.control_points.specs.declared.Pair.{Pair}
-use Rattle.control_points.specs.declared.Coordinate.{Coordinate}
-use Rattle.control_points.specs.declared.Coordinate.TheVariants as W
-use Rattle.control_points.specs.declared.Start.TheVariants as S
+use Rattle.control_points.specs.Answers.{Coordinate, At, Out}
 use Rattle.control_points.proofs.ByKind.{start_by_kind}
 
 -- ---- tests
@@ -89,72 +87,72 @@ double_delta_decides p = both_decide (magnitude_decides p.x) (magnitude_decides 
 -- ---- starts
 
 module _ (c : Float) where
-  by_tests : (n t : Bool) → is_nan c ≡ n → in_range (rounded_start c) ≡ t → (v : ℤ) → cond n W.Out (cond t (W.At (rounded_start c)) W.Out) ≡ W.At v → RoundsTo c v
+  by_tests : (n t : Bool) → is_nan c ≡ n → in_range (rounded_start c) ≡ t → (v : ℤ) → cond n Out (cond t (At (rounded_start c)) Out) ≡ At v → RoundsTo c v
   by_tests true t e r v h = absurd (let z : ◌≡◌ {A = ℕ} 0 1 = cc in omega arith)
   by_tests false false e r v h = absurd (let z : ◌≡◌ {A = ℕ} 0 1 = cc in omega arith)
   by_tests false true e r v h =
       let q : rounded_start c ≡ v = cc in
       record { number = e; is = sym q; inside = subst InRange q ((range_decides (rounded_start c)).passed r) }
 
-  pub rounds_to : (v : ℤ) → rounded_of c ≡ W.At v → RoundsTo c v
+  pub rounds_to : (v : ℤ) → rounded_of c ≡ At v → RoundsTo c v
   rounds_to v h = by_tests (is_nan c) (in_range (rounded_start c)) refl refl v (sym (start_by_kind c) ∙ h)
 
-  pub rounded_to : (v : ℤ) → RoundsTo c v → rounded_of c ≡ W.At v
+  pub rounded_to : (v : ℤ) → RoundsTo c v → rounded_of c ≡ At v
   rounded_to v r =
       let e : in_range (rounded_start c) ≡ true = (range_decides (rounded_start c)).passes (subst InRange r.is r.inside) in
       start_by_kind c ∙ by (is_nan c) (in_range (rounded_start c)) r.number e
     where
-      by : (n t : Bool) → n ≡ false → t ≡ true → cond n W.Out (cond t (W.At (rounded_start c)) W.Out) ≡ W.At v
+      by : (n t : Bool) → n ≡ false → t ≡ true → cond n Out (cond t (At (rounded_start c)) Out) ≡ At v
       by n t p q = rw (p, q, r.is)
 
-  out_by_tests : (n t : Bool) → is_nan c ≡ n → in_range (rounded_start c) ≡ t → cond n W.Out (cond t (W.At (rounded_start c)) W.Out) ≡ W.Out → Strays c
+  out_by_tests : (n t : Bool) → is_nan c ≡ n → in_range (rounded_start c) ≡ t → cond n Out (cond t (At (rounded_start c)) Out) ≡ Out → Strays c
   out_by_tests true t e r h = inl e
   out_by_tests false false e r h = inr ((range_decides (rounded_start c)).failed r)
   out_by_tests false true e r h = absurd (let z : ◌≡◌ {A = ℕ} 0 1 = cc in omega arith)
 
-  pub strays : rounded_of c ≡ W.Out → Strays c
+  pub strays : rounded_of c ≡ Out → Strays c
   strays h = out_by_tests (is_nan c) (in_range (rounded_start c)) refl refl (sym (start_by_kind c) ∙ h)
 
-  pub strayed : Strays c → rounded_of c ≡ W.Out
-  strayed (inl e) = start_by_kind c ∙ ap (λ (n : Bool). cond n W.Out (cond (in_range (rounded_start c)) (W.At (rounded_start c)) W.Out)) e
+  pub strayed : Strays c → rounded_of c ≡ Out
+  strayed (inl e) = start_by_kind c ∙ ap (λ (n : Bool). cond n Out (cond (in_range (rounded_start c)) (At (rounded_start c)) Out)) e
   strayed (inr b) = start_by_kind c ∙ go (is_nan c) ((range_decides (rounded_start c)).fails b)
     where
-      go : (n : Bool) → in_range (rounded_start c) ≡ false → cond n W.Out (cond (in_range (rounded_start c)) (W.At (rounded_start c)) W.Out) ≡ W.Out
+      go : (n : Bool) → in_range (rounded_start c) ≡ false → cond n Out (cond (in_range (rounded_start c)) (At (rounded_start c)) Out) ≡ Out
       go true e = refl
       go false e = rw e
 
 module _ (x y : Float) where
-  pub starts_at : (p : Pair) → starting_point x y ≡ S.At p → RoundsTo x p.x × RoundsTo y p.y
+  pub starts_at : (p : Pair) → starting_point x y ≡ At p → RoundsTo x p.x × RoundsTo y p.y
   unfolding starting_point
   starts_at p h = go (rounded_of x) (rounded_of y) refl refl h
     where
-      go : (a b : Coordinate) → rounded_of x ≡ a → rounded_of y ≡ b → joined a b ≡ S.At p → RoundsTo x p.x × RoundsTo y p.y
-      go W.Out b e f q = absurd (let z : ◌≡◌ {A = ℕ} 0 1 = cc in omega arith)
-      go (W.At a) W.Out e f q = absurd (let z : ◌≡◌ {A = ℕ} 0 1 = cc in omega arith)
-      go (W.At a) (W.At b) e f q =
+      go : (a b : Coordinate) → rounded_of x ≡ a → rounded_of y ≡ b → joined a b ≡ At p → RoundsTo x p.x × RoundsTo y p.y
+      go Out b e f q = absurd (let z : ◌≡◌ {A = ℕ} 0 1 = cc in omega arith)
+      go (At a) Out e f q = absurd (let z : ◌≡◌ {A = ℕ} 0 1 = cc in omega arith)
+      go (At a) (At b) e f q =
           let s : ◌≡◌ {A = Pair} (record { x = a; y = b }) p = cc in
           subst (λ (t : Pair). RoundsTo x t.x × RoundsTo y t.y) s (rounds_to x a e, rounds_to y b f)
 
-  pub starting_at : (p : Pair) → RoundsTo x p.x → RoundsTo y p.y → starting_point x y ≡ S.At p
+  pub starting_at : (p : Pair) → RoundsTo x p.x → RoundsTo y p.y → starting_point x y ≡ At p
   unfolding starting_point
   starting_at p a b = rw (rounded_to x p.x a, rounded_to y p.y b)
 
-  pub starts_out : starting_point x y ≡ S.Out → Strays x ⊎ Strays y
+  pub starts_out : starting_point x y ≡ Out → Strays x ⊎ Strays y
   unfolding starting_point
   starts_out h = go (rounded_of x) (rounded_of y) refl refl h
     where
-      go : (a b : Coordinate) → rounded_of x ≡ a → rounded_of y ≡ b → joined a b ≡ S.Out → Strays x ⊎ Strays y
-      go W.Out b e f q = inl (strays x e)
-      go (W.At a) W.Out e f q = inr (strays y f)
-      go (W.At a) (W.At b) e f q = absurd (let z : ◌≡◌ {A = ℕ} 0 1 = cc in omega arith)
+      go : (a b : Coordinate) → rounded_of x ≡ a → rounded_of y ≡ b → joined a b ≡ Out → Strays x ⊎ Strays y
+      go Out b e f q = inl (strays x e)
+      go (At a) Out e f q = inr (strays y f)
+      go (At a) (At b) e f q = absurd (let z : ◌≡◌ {A = ℕ} 0 1 = cc in omega arith)
 
-  pub starting_out : Strays x ⊎ Strays y → starting_point x y ≡ S.Out
+  pub starting_out : Strays x ⊎ Strays y → starting_point x y ≡ Out
   unfolding starting_point
   starting_out (inl s) = rw (strayed x s)
   starting_out (inr s) = go (rounded_of x) (strayed y s)
     where
-      go : (a : Coordinate) → rounded_of y ≡ W.Out → joined a (rounded_of y) ≡ S.Out
-      go W.Out e = refl
-      go (W.At a) e = rw e
+      go : (a : Coordinate) → rounded_of y ≡ Out → joined a (rounded_of y) ≡ Out
+      go Out e = refl
+      go (At a) e = rw e
 
 -- Assumes nothing.

@@ -10,8 +10,7 @@ use Rattle.wholes.specs.Whole.{whole_by}
 use Rattle.kinds.specs.Kind.{kind_by}
 use Rattle.control_points.specs.ControlPoints.{starting_point, rounded_of, trace_of, trace_from, step_of, run_at, plus_of, valid_double_delta, valid_point_pos, manhattan_of, same_point, near}
 use Rattle.control_points.specs.declared.Pair.{Pair}
-use Rattle.control_points.specs.declared.Start.TheVariants.{At, Out}
-use Rattle.control_points.specs.declared.Traced.TheVariants.{On, Stop}
+use Rattle.control_points.specs.Answers.{At, Out, On, Stop}
 
 abbrev pub origin : Pair
 origin = record { x = pos 0; y = pos 0 }

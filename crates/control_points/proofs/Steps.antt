@@ -16,8 +16,7 @@ use Rattle.control_points.specs.ControlPoints.{or_stop, onward, step_of, trace_f
 use Rattle.control_points.specs.Asked.{Held}
 use Rattle.control_points.specs.declared.Pair.{Pair}
 use Rattle.control_points.specs.declared.Run.{Run}
-use Rattle.control_points.specs.declared.Traced.{Traced}
-use Rattle.control_points.specs.declared.Traced.TheVariants.{On, Stop}
+use Rattle.control_points.specs.Answers.{Traced, On, Stop}
 use Rattle.control_points.proofs.Pairs.{point_fine}
 
 -- what a step that went on leads to

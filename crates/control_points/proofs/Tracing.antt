@@ -18,8 +18,7 @@ use Rattle.control_points.specs.Refusals.{Inside, Outside, Small, Large, nowhere
 use Rattle.control_points.specs.declared.Pair.{Pair}
 use Rattle.control_points.specs.declared.Stand.{Stand}
 use Rattle.control_points.specs.declared.Run.{Run}
-use Rattle.control_points.specs.declared.Traced.{Traced}
-use Rattle.control_points.specs.declared.Traced.TheVariants.{On, Stop}
+use Rattle.control_points.specs.Answers.{Traced, On, Stop}
 use Rattle.control_points.proofs.Steps.{onto, step_went, trace_more, trace_done}
 use Rattle.control_points.proofs.Walks.{points_more}
 use Rattle.codes.proofs.Decides.{Decides, at_most}

@@ -11,8 +11,7 @@ use Rattle.control_points.specs.Asked.{passes, Passable, Moves}
 use Rattle.control_points.specs.declared.Pair.{Pair}
 use Rattle.control_points.specs.declared.Stand.{Stand}
 use Rattle.control_points.specs.declared.Run.{Run}
-use Rattle.control_points.specs.declared.Traced.{Traced}
-use Rattle.control_points.specs.declared.Traced.TheVariants.{On, Stop}
+use Rattle.control_points.specs.Answers.{Traced, On, Stop}
 use Rattle.codes.proofs.Decides.{both}
 use Rattle.control_points.proofs.Pairs.{point_fine, double_delta_fine}
 use Rattle.control_points.proofs.Steps.{onto, step_went, pair_drop}

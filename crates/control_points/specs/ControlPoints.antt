@@ -14,13 +14,8 @@ use Rattle.codes.specs.declared.Code.{Code}
 use Rattle.codes.specs.declared.Code.TheVariants.{Delta, Position, Distance}
 use Rattle.control_points.specs.declared.Pair.{Pair}
 use Rattle.control_points.specs.declared.Stand.{Stand}
-use Rattle.control_points.specs.declared.Coordinate.{Coordinate}
-use Rattle.control_points.specs.declared.Coordinate.TheVariants as W
-use Rattle.control_points.specs.declared.Start.{Start}
-use Rattle.control_points.specs.declared.Start.TheVariants as S
+use Rattle.control_points.specs.Answers.{Coordinate, Start, At, Out, Traced, On, Stop}
 use Rattle.control_points.specs.declared.Run.{Run}
-use Rattle.control_points.specs.declared.Traced.{Traced}
-use Rattle.control_points.specs.declared.Traced.TheVariants.{On, Stop}
 
 -- ---- the two limits
 
@@ -56,19 +51,19 @@ pair_at l k = record { x = get_or l (2 * k) (pos 0); y = get_or l (2 * k + 1) (p
 
 -- a coordinate by its kind: an exact number in the range is one
 abbrev pub coordinate_by : KindI32 → Coordinate
-coordinate_by (I32.Exact z) = cond (in_range z) (W.At z) W.Out
-coordinate_by I32.NotNumber = W.Out
-coordinate_by I32.Below = W.Out
-coordinate_by I32.Above = W.Out
+coordinate_by (I32.Exact z) = cond (in_range z) (At z) Out
+coordinate_by I32.NotNumber = Out
+coordinate_by I32.Below = Out
+coordinate_by I32.Above = Out
 
 -- `x.round()` as an i32, where it is in the range; a NaN is not
 unfoldable pub rounded_of : Float → Coordinate
 rounded_of x = coordinate_by (cut_i32 (round_of binary32 x))
 
 abbrev pub joined : Coordinate → Coordinate → Start
-joined W.Out q = S.Out
-joined (W.At a) W.Out = S.Out
-joined (W.At a) (W.At b) = S.At (record { x = a; y = b })
+joined Out q = Out
+joined (At a) Out = Out
+joined (At a) (At b) = At (record { x = a; y = b })
 
 unfoldable pub starting_point : Float → Float → Start
 starting_point x y = joined (rounded_of x) (rounded_of y)

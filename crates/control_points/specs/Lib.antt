@@ -1,4 +1,5 @@
 -- The definitions of the crate `control_points`.
+pub mod Answers
 pub mod ControlPoints
 pub mod ByKind
 pub mod Asked

@@ -7,36 +7,24 @@ ghost use Rattle.control_points.specs.Asked.{Fine, Held, Moves};
 
 use codes::Code;
 use kinds::KindI32;
+use std::ops::Add;
 
 // A double delta, a delta or a point, of whole numbers.
-#[derive(Clone, Copy)]
+#[derive(Clone, Copy, Debug, PartialEq, Eq)]
 pub struct Pair {
     pub x: i32,
     pub y: i32,
 }
 
 // A control point, and the delta that led to it.
-#[derive(Clone, Copy)]
+#[derive(Clone, Copy, Debug, PartialEq, Eq)]
 pub struct Stand {
     pub delta: Pair,
     pub point: Pair,
 }
 
-// A coordinate of a start, made whole.
-#[derive(Clone, Copy)]
-pub enum Coordinate {
-    At(i32),
-    Out,
-}
-
-#[derive(Clone, Copy)]
-pub enum Start {
-    At(Pair),
-    Out,
-}
-
 // A stand that every check let through, with the Manhattan sum so far, and whether two adjacent points were the same.
-#[derive(Clone, Copy)]
+#[derive(Clone, Copy, Debug, PartialEq, Eq)]
 pub struct Run {
     pub delta: Pair,
     pub point: Pair,
@@ -44,69 +32,49 @@ pub struct Run {
     pub coincide: bool,
 }
 
-#[derive(Clone, Copy)]
-pub enum Traced {
-    On(Run),
-    Stop(Code),
-}
-
 // Whether v is from -2^23 up to but not including 2^23.
 fn in_range(v: i32) -> bool
     ensures { result ≡ in_range v }
 {
-    if v >= -8388608 { v < 8388608 } else { false }
+    v >= -8388608 && v < 8388608
 }
 
 // Whether v is below 2^30 in magnitude.
 fn below_delta_limit(v: i32) -> bool
     ensures { result ≡ below_delta_limit v }
 {
-    if v > -1073741824 {
-        v < 1073741824
-    } else {
-        false
-    }
+    v > -1073741824 && v < 1073741824
 }
 
 pub fn unsigned_abs(v: i32) -> u64
     ensures { result ≡ nat_abs v }
 {
-    let w = v as i64;
-    if w >= 0 { w as u64 } else { (0 - w) as u64 }
+    u64::from(v.unsigned_abs())
 }
 
-fn rounded(x: f32) -> Coordinate
+// A coordinate of a start, made whole, or None beyond the range.
+fn rounded(x: f32) -> Option<i32>
     ensures { result ≡ rounded_of x }
 {
     match kinds::rounded_to_i32(x) {
-        KindI32::Exact(z) => {
-            if in_range(z) {
-                Coordinate::At(z)
-            } else {
-                Coordinate::Out
-            }
-        }
-        KindI32::NotNumber => Coordinate::Out,
-        KindI32::Below => Coordinate::Out,
-        KindI32::Above => Coordinate::Out,
+        KindI32::Exact(z) => in_range(z).then_some(z),
+        _ => None,
     }
 }
 
-// Where a spline begins, or that POSITION refuses it.
-pub fn starting_point(x: f32, y: f32) -> Start
+// Where a spline begins, or None where POSITION refuses it.
+pub fn starting_point(x: f32, y: f32) -> Option<Pair>
     ensures { result ≡ starting_point x y }
 {
-    match rounded(x) {
-        Coordinate::Out => Start::Out,
-        Coordinate::At(a) => match rounded(y) {
-            Coordinate::Out => Start::Out,
-            Coordinate::At(b) => Start::At(Pair { x: a, y: b }),
-        },
-    }
+    Some(Pair {
+        x: rounded(x)?,
+        y: rounded(y)?,
+    })
 }
 
 impl Pair {
     // The pair k of double deltas.
+    #[tactic(auto, unfolding(crate::specs::ControlPoints::pair_at))]
     pub fn of(deltas: &[i32], k: usize) -> Pair
         requires { 2 * k + 2 ≤ length deltas.now }
         ensures { result ≡ pair_at deltas.now k }
@@ -117,40 +85,42 @@ impl Pair {
         }
     }
 
+    #[tactic(auto, unfolding(crate::specs::ControlPoints::valid_double_delta))]
     fn valid_double_delta(self) -> bool
         ensures { result ≡ valid_double_delta self }
     {
-        if below_delta_limit(self.x) {
-            below_delta_limit(self.y)
-        } else {
-            false
-        }
+        below_delta_limit(self.x) && below_delta_limit(self.y)
     }
 
+    #[tactic(auto, unfolding(crate::specs::ControlPoints::valid_point_pos))]
     fn valid_point_pos(self) -> bool
         ensures { result ≡ valid_point_pos self }
     {
-        if in_range(self.x) {
-            in_range(self.y)
-        } else {
-            false
-        }
+        in_range(self.x) && in_range(self.y)
     }
 
-    pub fn plus(self, o: Pair) -> Pair
-        requires { Fine self × Fine o }
-        ensures { result ≡ plus_of self o }
+    #[tactic(auto, unfolding(crate::specs::ControlPoints::manhattan_of))]
+    fn manhattan(self) -> u64
+        ensures { result ≡ manhattan_of self }
     {
+        u64::from(self.x.unsigned_abs()) + u64::from(self.y.unsigned_abs())
+    }
+}
+
+// Sums that fit.
+impl Add for Pair {
+    type Output = Pair;
+
+    ghost can_add = { λ p q. Fine p × Fine q };
+
+    ghost add_gives = { λ p q sum. sum ≡ plus_of p q };
+
+    #[tactic(auto, unfolding(crate::specs::ControlPoints::plus_of))]
+    fn add(self, o: Pair) -> Pair {
         Pair {
             x: self.x + o.x,
             y: self.y + o.y,
         }
-    }
-
-    fn manhattan(self) -> u64
-        ensures { result ≡ manhattan_of self }
-    {
-        unsigned_abs(self.x) + unsigned_abs(self.y)
     }
 }
 
@@ -165,39 +135,40 @@ impl Stand {
     }
 
     // The next place of a walk that was traced before.
+    #[tactic(auto, unfolding(crate::specs::ControlPoints::moved_of))]
     pub fn moved(self, dd: Pair) -> Stand
         requires { Moves self dd }
         ensures { result ≡ moved_of self dd }
     {
-        let delta = self.delta.plus(dd);
-        let point = self.point.plus(delta);
+        let delta = self.delta + dd;
+        let point = self.point + delta;
         Stand { delta, point }
     }
 }
 
 impl Run {
     // One double delta. A delta of nothing leaves the point where it is.
-    fn step(self, dd: Pair, limit: u64) -> Traced
+    fn step(self, dd: Pair, limit: u64) -> Result<Run, Code>
         requires { Held self limit }
         ensures { result ≡ step_of limit self dd }
     {
         if !dd.valid_double_delta() {
-            return Traced::Stop(Code::Delta);
+            return Err(Code::Delta);
         }
-        let delta = self.delta.plus(dd);
+        let delta = self.delta + dd;
         if !delta.valid_point_pos() {
-            return Traced::Stop(Code::Position);
+            return Err(Code::Position);
         }
         let more = delta.manhattan();
         if more > limit - self.manhattan {
-            return Traced::Stop(Code::Distance);
+            return Err(Code::Distance);
         }
-        let point = self.point.plus(delta);
+        let point = self.point + delta;
         if !point.valid_point_pos() {
-            return Traced::Stop(Code::Position);
+            return Err(Code::Position);
         }
         let manhattan = self.manhattan + more;
-        Traced::On(Run {
+        Ok(Run {
             delta,
             point,
             manhattan,
@@ -207,7 +178,7 @@ impl Run {
 }
 
 // The run after all double deltas, or the first refusal.
-pub fn trace(start: Pair, deltas: &[i32], limit: u64) -> Traced
+pub fn trace(start: Pair, deltas: &[i32], limit: u64) -> Result<Run, Code>
     requires { valid_point_pos start ≡ true }
     ensures { result ≡ trace_of limit start deltas.now }
 {
@@ -217,18 +188,8 @@ pub fn trace(start: Pair, deltas: &[i32], limit: u64) -> Traced
         manhattan: 0,
         coincide: false,
     };
-    let n = deltas.len() / 2;
-    let mut k = 0;
-    while k < n {
-        match run.step(Pair::of(deltas, k), limit) {
-            Traced::Stop(code) => {
-                return Traced::Stop(code);
-            }
-            Traced::On(next) => {
-                run = next;
-            }
-        }
-        k += 1;
+    for k in 0..deltas.len() / 2 {
+        run = run.step(Pair::of(deltas, k), limit)?;
     }
-    Traced::On(run)
+    Ok(run)
 }

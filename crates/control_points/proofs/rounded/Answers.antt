@@ -1,6 +1,7 @@
--- Each arm is the definition's case of the kind; an exact number is tested against the range.
-use mathlib.Core.Path.{◌≡◌, ap, sym, subst, ◌∙◌}
+-- An exact number that was given fits, and is tested against the range; every other kind is none.
+use mathlib.Core.Path.{◌≡◌, refl, ap, sym, subst, ◌∙◌}
 use mathlib.Core.Bool.{Bool, true, false, cond}
+use Rattle.std.specs.Bool.{then_some}
 use lib.IntN.{ℤ}
 use lib.Ieee.{Float, binary32}
 use lib.Ieee.Casts.{to_signed_in}
@@ -9,43 +10,35 @@ use mir.Val.{SFits, to_z, of_z}
 use mir.Facts.{to_z-of_z}
 use Rattle.wholes.specs.Whole.{round_of}
 use Rattle.kinds.specs.Kind.{cut_i32, saturated_i32}
+use Rattle.kinds.specs.declared.KindI32.{KindI32}
 use Rattle.kinds.specs.declared.KindI32.TheVariants as I32
 use Rattle.kinds.proofs.ByKind.{saturated_i32_lem}
 use Rattle.control_points.specs.ControlPoints.{coordinate_by, in_range, rounded_of}
-use Rattle.control_points.specs.declared.Coordinate.TheVariants as W
+use Rattle.control_points.specs.Answers.{Coordinate, At, Out}
 use Rattle.control_points.proofs.rounded.Goals as goal
 
--- the exact number that was given fits
 fitting : (x : Float) (z : ℤ) → I32.Exact z ≡ cut_i32 (round_of binary32 x) → to_z w32 (of_z w32 z) ≡ z
 fitting x z kind =
     to_z-of_z {w = w32} {z = z} (subst (SFits w32) (sym (ap saturated_i32 kind ∙ saturated_i32_lem (round_of binary32 x))) (record { sfits = to_signed_in 31 (round_of binary32 x) }))
 
-pub returns-then-in_range : goal.returns-then-in_range
+tested : (b : Bool) (z : ℤ) → then_some b z ≡ cond b (At z) Out
+tested true z = refl
+tested false z = refl
+
+-- any other kind is none
+other : (k : KindI32) → ((z : ℤ) → k ≡ I32.Exact z → ⊥) → ◌≡◌ {A = Coordinate} Out (coordinate_by k)
+other (I32.Exact z) not_exact = absurd (not_exact z refl)
+other I32.NotNumber h = refl
+other I32.Below h = refl
+other I32.Above h = refl
+
+pub returns-in-Exact : goal.returns-in-Exact
 unfolding rounded_of
-returns-then-in_range c =
-    let z = c.in-Exact.z in
+returns-in-Exact c =
     let kind = sym c.in-Exact.is ∙ c.rounded_to_i32.ensures in
-    let back = fitting c.args.x z kind in
-    let tested : in_range z ≡ true = ap (λ (v : ℤ). in_range v) (sym back) ∙ sym c.in_range.ensures ∙ c.if-in_range.true in
-    ap W.At back ∙ sym (ap (λ (b : Bool). cond b (W.At z) W.Out) tested) ∙ ap coordinate_by kind
+    let back = fitting c.args.x c.in-Exact.z kind in
+    c.then_some.ensures ∙ rw (← kind, back, rw back at c.in_range.ensures) (tested (in_range c.in-Exact.z) c.in-Exact.z)
 
-pub returns-else-in_range : goal.returns-else-in_range
+pub returns-in_default : goal.returns-in_default
 unfolding rounded_of
-returns-else-in_range c =
-    let z = c.in-Exact.z in
-    let kind = sym c.in-Exact.is ∙ c.rounded_to_i32.ensures in
-    let back = fitting c.args.x z kind in
-    let tested : in_range z ≡ false = ap (λ (v : ℤ). in_range v) (sym back) ∙ sym c.in_range.ensures ∙ c.if-in_range.false in
-    sym (ap (λ (b : Bool). cond b (W.At z) W.Out) tested) ∙ ap coordinate_by kind
-
-pub returns-in-NotNumber : goal.returns-in-NotNumber
-unfolding rounded_of
-returns-in-NotNumber c = ap coordinate_by (sym c.in-NotNumber.is ∙ c.rounded_to_i32.ensures)
-
-pub returns-in-Below : goal.returns-in-Below
-unfolding rounded_of
-returns-in-Below c = ap coordinate_by (sym c.in-Below.is ∙ c.rounded_to_i32.ensures)
-
-pub returns-in-Above : goal.returns-in-Above
-unfolding rounded_of
-returns-in-Above c = ap coordinate_by (sym c.in-Above.is ∙ c.rounded_to_i32.ensures)
+returns-in_default c = other _ c.in_default.not-Exact ∙ ap coordinate_by c.rounded_to_i32.ensures

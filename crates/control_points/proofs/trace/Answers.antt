@@ -1,33 +1,22 @@
-use mathlib.Core.Path.{refl, sym, ◌∙◌}
+use mathlib.Core.Path.{sym, ◌∙◌}
+use Rattle.std.proofs.Common.{rules}
 use native.Mathlib.Omega.{arith}
 use lib.ListN.{length-drop}
 use Rattle.control_points.specs.ControlPoints.{trace_of, run_at}
 use Rattle.control_points.proofs.Steps.{step_held, turn_stop, turn_on, trace_done}
 use Rattle.control_points.proofs.trace.Goals as goal
 
-pub loop-k-init : goal.loop-k-init
-loop-k-init c = (omega arith, refl, record { delta = record { x = omega arith; y = omega arith }; point = c.requires; manhattan = omega arith }, refl)
-
-pub step-requires : goal.step-requires
-step-requires c = c.loop-k.invariant.2
-
-pub returns-in-Stop : goal.returns-in-Stop
+pub returns-in_err-run : goal.returns-in_err-run
 unfolding trace_of run_at
-returns-in-Stop c =
+returns-in_err-run c =
     let l = c.loop-k in
-    sym (l.invariant.3 ∙ turn_stop _ l.run _ l.k (omega arith) c.of.ensures c.step.ensures c.in-Stop.is)
+    rw (l.invariant.1 ∙ turn_stop _ l.run _ l.k (omega arith) c.of.ensures c.step.ensures c.in_err-run.was) (search rules)
 
 pub loop-k-preserved : goal.loop-k-preserved
 loop-k-preserved c =
-    let l = c.loop-k in (
-      omega arith,
-      omega arith,
-      step_held _ l.run _ _ (sym c.step.ensures ∙ c.in-On.is),
-      l.invariant.3 ∙ turn_on _ l.run _ l.k (omega arith) c.of.ensures c.step.ensures c.in-On.is,
-    )
+    let l = c.loop-k in
+    (step_held _ l.run _ _ (sym c.step.ensures ∙ c.in_ok-run.was), l.invariant.1 ∙ turn_on _ l.run _ l.k (omega arith) c.of.ensures c.step.ensures c.in_ok-run.was)
 
 pub returns : goal.returns
 unfolding trace_of run_at
-returns c =
-    let l = c.loop-k in
-    sym (l.invariant.3 ∙ trace_done _ l.run _ (simp length-drop (omega arith)))
+returns c = sym (c.loop-k.invariant.1 ∙ trace_done _ c.loop-k.run _ (simp length-drop (omega arith)))

@@ -22,33 +22,33 @@ pub returns-then-not-valid_double_delta : goal.returns-then-not-valid_double_del
 unfolding step_of
 returns-then-not-valid_double_delta c = rw (sym c.valid_double_delta.ensures ∙ c.if-not-valid_double_delta.true)
 
-pub plus-delta-requires : goal.plus-delta-requires
-plus-delta-requires c = (c.requires.delta, double_delta_fine _ (sym c.valid_double_delta.ensures ∙ c.if-not-valid_double_delta.false))
+pub add-delta-requires : goal.add-delta-requires
+add-delta-requires c = (c.requires.delta, double_delta_fine _ (sym c.valid_double_delta.ensures ∙ c.if-not-valid_double_delta.false))
 
 pub returns-then-not-valid_point_pos : goal.returns-then-not-valid_point_pos
 unfolding step_of
 returns-then-not-valid_point_pos c =
-    rw (sym c.valid_double_delta.ensures ∙ c.if-not-valid_double_delta.false, ← c.plus-delta.ensures, sym c.valid_point_pos.ensures ∙ c.if-not-valid_point_pos.true)
+    rw (sym c.valid_double_delta.ensures ∙ c.if-not-valid_double_delta.false, ← c.add-delta.ensures, sym c.valid_point_pos.ensures ∙ c.if-not-valid_point_pos.true)
 
 pub returns-then-more-limit : goal.returns-then-more-limit
 unfolding step_of
 returns-then-more-limit c =
     let e = c.manhattan-more.ensures in
-    let h : c.args.limit < c.args.self.manhattan + manhattan_of c.plus-delta.result = omega arith in
-    rw (sym c.valid_double_delta.ensures ∙ c.if-not-valid_double_delta.false, ← c.plus-delta.ensures, sym c.valid_point_pos.ensures ∙ c.if-not-valid_point_pos.false, lt-leb _ _ h)
+    let h : c.args.limit < c.args.self.manhattan + manhattan_of c.add-delta.result = omega arith in
+    rw (sym c.valid_double_delta.ensures ∙ c.if-not-valid_double_delta.false, ← c.add-delta.ensures, sym c.valid_point_pos.ensures ∙ c.if-not-valid_point_pos.false, lt-leb _ _ h)
 
-pub plus-point-requires : goal.plus-point-requires
-plus-point-requires c = (point_fine _ c.requires.point, point_fine _ (sym c.valid_point_pos.ensures ∙ c.if-not-valid_point_pos.false))
+pub add-point-requires : goal.add-point-requires
+add-point-requires c = (point_fine _ c.requires.point, point_fine _ (sym c.valid_point_pos.ensures ∙ c.if-not-valid_point_pos.false))
 
 pub returns-then-not-valid_point_pos-2 : goal.returns-then-not-valid_point_pos-2
 unfolding step_of
 returns-then-not-valid_point_pos-2 c =
     rw (
       sym c.valid_double_delta.ensures ∙ c.if-not-valid_double_delta.false,
-      ← c.plus-delta.ensures,
+      ← c.add-delta.ensures,
       sym c.valid_point_pos.ensures ∙ c.if-not-valid_point_pos.false,
       not_far c.args.self.manhattan c.args.limit c.manhattan-more.ensures (omega (arith, c.manhattan-more.ensures, c.requires.manhattan)),
-      ← c.plus-point.ensures,
+      ← c.add-point.ensures,
       sym c.valid_point_pos-2.ensures ∙ c.if-not-valid_point_pos-2.true,
     )
 
@@ -57,10 +57,10 @@ unfolding step_of
 returns-then-self c =
     rw (
       sym c.valid_double_delta.ensures ∙ c.if-not-valid_double_delta.false,
-      ← c.plus-delta.ensures,
+      ← c.add-delta.ensures,
       sym c.valid_point_pos.ensures ∙ c.if-not-valid_point_pos.false,
       not_far c.args.self.manhattan c.args.limit c.manhattan-more.ensures (omega (arith, c.manhattan-more.ensures, c.requires.manhattan)),
-      ← c.plus-point.ensures,
+      ← c.add-point.ensures,
       sym c.valid_point_pos-2.ensures ∙ c.if-not-valid_point_pos-2.false,
       c.manhattan-more.ensures,
       c.if-self.true,
@@ -71,12 +71,12 @@ unfolding step_of
 returns-else-self c =
     rw (
       sym c.valid_double_delta.ensures ∙ c.if-not-valid_double_delta.false,
-      ← c.plus-delta.ensures,
+      ← c.add-delta.ensures,
       sym c.valid_point_pos.ensures ∙ c.if-not-valid_point_pos.false,
       not_far c.args.self.manhattan c.args.limit c.manhattan-more.ensures (omega (arith, c.manhattan-more.ensures, c.requires.manhattan)),
-      ← c.plus-point.ensures,
+      ← c.add-point.ensures,
       sym c.valid_point_pos-2.ensures ∙ c.if-not-valid_point_pos-2.false,
-      same_flag c.args.self.point c.plus-delta.result c.requires.point c.plus-point.ensures (sym c.valid_point_pos-2.ensures ∙ c.if-not-valid_point_pos-2.false),
+      same_flag c.args.self.point c.add-delta.result c.requires.point c.add-point.ensures (sym c.valid_point_pos-2.ensures ∙ c.if-not-valid_point_pos-2.false),
       c.manhattan-more.ensures,
       c.if-self.false,
     )
