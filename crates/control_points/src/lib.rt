@@ -86,14 +86,14 @@ impl Pair {
     }
 
     #[tactic(auto, unfolding(crate::specs::ControlPoints::valid_double_delta))]
-    fn valid_double_delta(self) -> bool
+    pub fn valid_double_delta(self) -> bool
         ensures { result ≡ valid_double_delta self }
     {
         below_delta_limit(self.x) && below_delta_limit(self.y)
     }
 
     #[tactic(auto, unfolding(crate::specs::ControlPoints::valid_point_pos))]
-    fn valid_point_pos(self) -> bool
+    pub fn valid_point_pos(self) -> bool
         ensures { result ≡ valid_point_pos self }
     {
         in_range(self.x) && in_range(self.y)

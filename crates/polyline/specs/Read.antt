@@ -5,8 +5,7 @@ use Rattle.list.specs.Steps.{f32_of, zero_f32}
 use Rattle.writer.specs.Write.{WriteTold, told_of}
 use Rattle.write_judge.specs.Verdict.{Verdict}
 use Rattle.write_judge.specs.Verdict.{Fine, Fault}
-use Rattle.writer.specs.declared.WriteAnswer.{WriteAnswer}
-use Rattle.writer.specs.declared.WriteAnswer.TheVariants.{Done, Refused}
+use Rattle.writer.specs.WriteAnswer.{WriteAnswer, Done, Refused}
 use Rattle.control_points.specs.ControlPoints.{valid_point_pos, same_point, stand_at}
 use Rattle.control_points.specs.declared.Pair.{Pair}
 use Rattle.control_points.specs.declared.Stand.{Stand}

@@ -14,7 +14,6 @@ use Rattle.codes.proofs.Decides.{both}
 use Rattle.list.specs.Steps.{f32_of, zero_f32}
 use Rattle.write_judge.specs.Verdict.{Verdict}
 use Rattle.write_judge.specs.Verdict.{Fine, Fault}
-use Rattle.writer.specs.declared.WriteAnswer.TheVariants.{Done}
 use Rattle.control_points.specs.ControlPoints.{stand_at, moved_of, later_points, control_points, valid_double_delta, valid_point_pos, same_point, coincide_from, adjacent_coincide}
 use Rattle.control_points.specs.Asked.{passes}
 use Rattle.control_points.specs.Refusals.{Inside}
@@ -39,6 +38,7 @@ use Rattle.polyline_laws.proofs.Places.{form_judged}
 use Rattle.polyline_laws.proofs.Says.{form_says, spots_by, spots_said, spots_length}
 use Rattle.polyline_laws.proofs.Legal.{moved_double, double_moved, delta_moved, double_small, gone_legal}
 use Rattle.polyline_laws.proofs.ReadWhen.{AllPass, passes_valid, walk_says, walk_fine, Says-so, lacks_decides, verdict_said}
+use Rattle.writer.specs.WriteAnswer.{Done}
 
 -- ---- pairs that pass, and their double deltas
 

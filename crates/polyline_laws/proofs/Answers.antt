@@ -17,7 +17,6 @@ use Rattle.list.specs.Steps.{zero_f32}
 use Rattle.writer.specs.Write as writing
 use Rattle.write_judge.specs.Verdict.{Verdict}
 use Rattle.write_judge.specs.Verdict.{Fine, Fault}
-use Rattle.writer.specs.declared.WriteAnswer.TheVariants.{Refused}
 use Rattle.dequantize.specs.Judge.{description_of}
 use Rattle.polyline.specs.declared.Spot.{Spot}
 use Rattle.polyline.specs.declared.Stage.{Stage}
@@ -34,6 +33,7 @@ use Rattle.polyline.specs.Read.{placeable, meets, track_to, judged_of, after_pai
 use Rattle.polyline.specs.Write.{spline_text, write_verdict, write_points_of}
 use Rattle.polyline_laws.specs.Begins.{Begins, FirstBad}
 use Rattle.polyline_laws.proofs.Places.{form_judged, first_bad_byte}
+use Rattle.writer.specs.WriteAnswer.{Refused}
 
 -- ---- TEXT is the form's alone
 

@@ -13,7 +13,6 @@ use Rattle.codes.specs.declared.Code.{Code}
 use Rattle.codes.specs.declared.Code.TheVariants.{Room, Distance, Area}
 use Rattle.codes.proofs.Decides.{Decides}
 use Rattle.write_judge.specs.Verdict.{Fine, Fault}
-use Rattle.writer.specs.declared.WriteAnswer.TheVariants.{Refused}
 use Rattle.control_points.specs.ControlPoints.{control_points, pair_at}
 use Rattle.dequantize.specs.Judge.{Description, description_of, start_x, start_y, deltas_of}
 use Rattle.control_points.specs.Refusals.{RoundsTo, Adjacent, delta_at, control_point_at, PairRefusal, delta_large, delta_outside, too_far, point_outside}
@@ -27,6 +26,7 @@ use Rattle.polyline_laws.specs.Refusals.{There, Goes, points_by}
 use Rattle.polyline_laws.proofs.Answers.{wrote}
 use Rattle.polyline_laws.proofs.Legal.{pair_is}
 use Rattle.polyline_laws.proofs.WriteWhen.{begins, goes_fine, there_verdict}
+use Rattle.writer.specs.WriteAnswer.{Refused}
 
 -- a test does not decide both ways
 not_both : {b : Bool} {A B X : Type 0} → Decides b A B → A → B → X

@@ -12,7 +12,6 @@ use Rattle.codes.specs.declared.Code.TheVariants.{Text, Position, Coincide, Room
 use Rattle.codes.proofs.Decides.{Decides, less_than, either_decides}
 use Rattle.write_judge.specs.Verdict.{Verdict}
 use Rattle.write_judge.specs.Verdict.{Fine, Fault}
-use Rattle.writer.specs.declared.WriteAnswer.TheVariants.{Refused}
 use Rattle.control_points.specs.ControlPoints.{valid_point_pos, same_point, stand_at}
 use Rattle.control_points.specs.Refusals.{Inside}
 use Rattle.control_points.specs.declared.Pair.{Pair}
@@ -35,6 +34,7 @@ use Rattle.polyline_laws.specs.Refusals.{Placed, Misplaced, Again, Passes, Befor
 use Rattle.polyline_laws.proofs.Places.{form_judged}
 use Rattle.polyline_laws.proofs.Answers.{said, bad-said, bad-there, text-exactly}
 use Rattle.polyline_laws.proofs.Says.{form_says, spots_by, spots_said, spots_length}
+use Rattle.writer.specs.WriteAnswer.{Refused}
 
 -- why pair j does not pass
 pub data Why (ps : List Pair) (j : ℕ) : Code → Type 0 where

@@ -15,7 +15,6 @@ use Rattle.list.specs.Steps.{f32_of}
 use Rattle.writer.specs.Write as writing
 use Rattle.writer.specs.Write.{WriteOutcome}
 use Rattle.write_judge.specs.Verdict.{Fine}
-use Rattle.writer.specs.declared.WriteAnswer.TheVariants.{Done}
 use Rattle.control_points.specs.ControlPoints.{starting_point, control_points}
 use Rattle.dequantize.specs.Judge.{Description, description_of, start_x, start_y, deltas_at, deltas_of}
 use Rattle.control_points.specs.declared.Pair.{Pair}
@@ -29,6 +28,7 @@ use Rattle.polyline_laws.specs.Refusals.{Legal, There, PointsAccepted, PointsWri
 use Rattle.polyline_laws.proofs.Legal.{gone_legal, legal_gone}
 use Rattle.polyline_laws.proofs.Accepted.{start_left, deltas_left, read_says, accepted_leaves, accepted_exactly}
 use Rattle.polyline_laws.proofs.WriteWhen.{there_verdict, begins, goes_fine, text_by, written_leaves, written_exactly}
+use Rattle.writer.specs.WriteAnswer.{Done}
 
 -- ---- a spline with legal points is written
 

@@ -18,7 +18,6 @@ use Rattle.writer.specs.Write.{misshapen, WriteOutcome, leaves}
 use Rattle.writer.specs.Write as writing
 use Rattle.write_judge.specs.Verdict.{Verdict}
 use Rattle.write_judge.specs.Verdict.{Fine, Fault}
-use Rattle.writer.specs.declared.WriteAnswer.TheVariants.{Done, Refused}
 use Rattle.control_points.specs.ControlPoints.{starting_point, control_points, valid_point_pos, same_point, coincide_from, adjacent_coincide, trace_of}
 use Rattle.dequantize.specs.Judge.{Description, description_of, start_x, start_y, deltas_of}
 use Rattle.control_points.specs.Refusals.{Inside, Outside, Small, Large, RoundsTo, Strays, nowhere, delta_at, control_point_at, Adjacent, PairPasses, PairRefusal}
@@ -39,6 +38,7 @@ use Rattle.polyline.specs.Write.{points_text, settled, begun, spline_verdict, sp
 use Rattle.polyline_laws.specs.Refusals.{StepPasses, StepRefusal, delta_large, delta_outside, point_outside, There, Goes, points_by, PointsWriteRefusal, shape, start, pair, coincide, room, PointsWritten}
 use Rattle.polyline_laws.proofs.Answers.{wrote}
 use Rattle.polyline_laws.proofs.Legal.{wide_limit, far_within, untraced, gone_is}
+use Rattle.writer.specs.WriteAnswer.{Done, Refused}
 
 -- ---- two adjacent points
 

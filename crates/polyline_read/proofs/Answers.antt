@@ -15,8 +15,7 @@ use Rattle.codes.specs.declared.Code.TheVariants.{Room}
 use Rattle.list.specs.Steps.{zero_f32}
 use Rattle.write_judge.specs.Verdict.{Verdict}
 use Rattle.write_judge.specs.Verdict.{Fine, Fault}
-use Rattle.writer.specs.declared.WriteAnswer.{WriteAnswer}
-use Rattle.writer.specs.declared.WriteAnswer.TheVariants.{Done, Refused}
+use Rattle.writer.specs.WriteAnswer.{WriteAnswer, Done, Refused}
 use Rattle.write_judge.proofs.Checks.{neither}
 use Rattle.control_points.specs.ControlPoints.{valid_point_pos}
 use Rattle.control_points.specs.declared.Pair.{Pair}

@@ -1,8 +1,7 @@
 -- What reading a points text answers and leaves, as the steps below `points_read` say it.
 use Rattle.std.specs.Prelude.{◌≡◌, List, ℤ, Float}
 use Rattle.std.proofs.lemmas.List.Edits.{sets}
-use Rattle.writer.specs.declared.WriteAnswer.{WriteAnswer}
-use Rattle.writer.specs.declared.WriteAnswer.TheVariants.{Done, Refused}
+use Rattle.writer.specs.WriteAnswer.{WriteAnswer, Done, Refused}
 use Rattle.write_judge.specs.Verdict.{Verdict}
 use Rattle.write_judge.specs.Verdict.{Fine, Fault}
 use Rattle.polyline.specs.declared.Spot.{Spot}

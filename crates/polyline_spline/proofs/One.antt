@@ -11,7 +11,6 @@ use borrow.Author.Tests.{lt-ltb, le-ltb}
 use Rattle.codes.specs.declared.Code.{Code}
 use Rattle.codes.specs.declared.Code.TheVariants.{Room}
 use Rattle.write_judge.specs.Verdict.{Fine, Fault}
-use Rattle.writer.specs.declared.WriteAnswer.TheVariants.{Done, Refused}
 use Rattle.control_points.specs.ControlPoints.{starting_point, control_points, stand_at, valid_point_pos}
 use Rattle.control_points.specs.Asked.{Passable}
 use Rattle.control_points.specs.declared.Pair.{Pair}
@@ -25,6 +24,7 @@ use Rattle.polyline_spline.specs.declared.Begun.TheVariants as begun'
 use Rattle.polyline_spline.specs.declared.Put.TheVariants.{Ends, Full}
 use Rattle.polyline_spline.specs.Steps.{settled_at, begun_at, PutLeaves, one_verdict, OneLeaves}
 use Rattle.polyline_spline.proofs.Goes.{passable}
+use Rattle.writer.specs.WriteAnswer.{Done, Refused}
 
 begun_fault : (k : ℕ) (ds : List ℤ) (s : Start) (c : Code) → begun_at ds s ≡ begun'.Stop c → begun k ds s ≡ Fault c k
 begun_fault k ds S.Out c e = ap (λ (x : Code). Fault x k) (cc)

@@ -16,8 +16,7 @@ use Rattle.writer.specs.Write.{misshapen, leaves}
 use Rattle.writer.specs.Write as writing
 use Rattle.write_judge.specs.Verdict.{Verdict}
 use Rattle.write_judge.specs.Verdict.{Fine, Fault}
-use Rattle.writer.specs.declared.WriteAnswer.{WriteAnswer}
-use Rattle.writer.specs.declared.WriteAnswer.TheVariants.{Done, Refused}
+use Rattle.writer.specs.WriteAnswer.{WriteAnswer, Done, Refused}
 use Rattle.write_judge.proofs.Checks.{agreed}
 use Rattle.write_steps.proofs.Stores.{zeros_after}
 use Rattle.control_points.specs.ControlPoints.{starting_point}
