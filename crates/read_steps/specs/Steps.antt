@@ -1,15 +1,8 @@
 -- What each loop leaves in the buffer that it is lent: on success its values and then what was there, after a stop nothing is said.
-use Rattle.std.specs.Prelude.{◌≡◌, List, [], ◌∷◌, ◌++◌, map, ℕ, length, drop, ℤ, Float}
+use Rattle.std.specs.Prelude.{◌≡◌, List, ◌++◌, map, length, drop, ℤ, Float, Result, Ok}
+use Rattle.codes.specs.Refusal.{Refusal, refused}
 use Rattle.list.specs.List.{Got, got, stop}
 use Rattle.list.specs.Steps.{f32_of}
-use Rattle.read_steps.specs.declared.Pair.{Pair}
-use Rattle.read_steps.specs.declared.Step.{Step}
-
--- the next two values, or too few
-abbrev pub pair_of : List ℕ → Pair
-pair_of [] = Pair.Short
-pair_of (a ∷ []) = Pair.Short
-pair_of (a ∷ b ∷ l) = Pair.Both a b
 
 -- whole numbers as f32
 abbrev pub floats : Got (List ℤ) → Got (List Float)
@@ -21,6 +14,6 @@ abbrev pub Front : {A : Type 0} → List A → List A → List A → Type 0
 Front vs old new = new ≡ vs ++ drop (length vs) old
 
 -- a step that fills the front of one buffer
-abbrev pub Filled : {A : Type 0} → Got (List A) → Step → List A → List A → Type 0
-Filled (got vs l) r old new = (r ≡ Step.Done) × Front vs old new
-Filled (stop c p) r old new = r ≡ Step.Stop c p
+abbrev pub Filled : {A : Type 0} → Got (List A) → Result (Unit {0}) Refusal → List A → List A → Type 0
+Filled (got vs l) r old new = (r ≡ Ok tt) × Front vs old new
+Filled (stop c p) r old new = r ≡ refused c p

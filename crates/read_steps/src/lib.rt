@@ -6,92 +6,62 @@ ghost use Rattle.std.specs.Prelude.{◌≡◌, Bool, ◌*◌, ◌≤◌, ◌<◌
 ghost use Rattle.std.specs.Int.Signed.{mag};
 ghost use Rattle.list.specs.List.{unpack_signed, pos_limit, delta_limit, beyond, coordinate, starts_in, deltas_in, coefficients_in};
 ghost use Rattle.list.specs.Steps.{f32_of};
-ghost use Rattle.read_steps.specs.Steps.{pair_of, floats, Filled};
+ghost use Rattle.read_steps.specs.Steps.{floats, Filled};
 
-use codes::Code;
-use list::{Next, head, unpack_signed};
-
-#[derive(Clone, Copy)]
-pub enum Pair {
-    Both(u32, u32),
-    Short,
-}
-
-#[derive(Clone, Copy)]
-pub enum Step {
-    Done,
-    Stop(Code, usize),
-}
-
-pub fn two(list: &[u32]) -> Pair
-    ensures { result ≡ pair_of list.now }
-{
-    let Next::Value(a) = head(list) else {
-        return Pair::Short;
-    };
-    let Next::Value(b) = head(&list[1..]) else {
-        return Pair::Short;
-    };
-    Pair::Both(a, b)
-}
+use codes::{Code, Refusal};
+use list::unpack_signed;
 
 // A packed value of 2^31 - 1 or more unpacks to a magnitude of 2^30 or more.
 pub fn wild(a: u32, b: u32) -> bool
     ensures { result ≡ beyond delta_limit (unpack_signed a) (unpack_signed b) }
 {
-    if 2147483647 <= a {
-        true
-    } else {
-        2147483647 <= b
-    }
+    2147483647 <= a || 2147483647 <= b
 }
 
-pub fn read_deltas(list: &[u32], total: usize, n: usize, out: &mut [i32]) -> Step
+pub fn read_deltas(list: &[u32], total: usize, n: usize, out: &mut [i32]) -> Result<(), Refusal>
     requires { (2 * n ≤ length out.old) × (length list.now ≤ total) }
     ensures { Filled (deltas_in total n list.now) result out.old out.new }
 {
     let mut rest = list;
-    let mut left = n;
-    let mut i = 0;
-    while 0 < left {
-        let Pair::Both(a, b) = two(rest) else {
-            return Step::Stop(Code::Short, total);
+    for i in 0..n {
+        let [a, b, after @ ..] = rest else {
+            return Err((Code::Short, total));
         };
-        if wild(a, b) {
-            let place = total - rest.len();
-            return Step::Stop(Code::Delta, place);
+        if wild(*a, *b) {
+            return Err((Code::Delta, total - rest.len()));
         }
-        out[i] = unpack_signed(a);
-        out[i + 1] = unpack_signed(b);
-        rest = &rest[2..];
-        i += 2;
-        left -= 1;
+        out[2 * i] = unpack_signed(*a);
+        out[2 * i + 1] = unpack_signed(*b);
+        rest = after;
     }
-    Step::Done
+    Ok(())
 }
 
-pub fn read_coefficients(list: &[u32], total: usize, n: usize, out: &mut [i32]) -> Step
+pub fn read_coefficients(
+    list: &[u32],
+    total: usize,
+    n: usize,
+    out: &mut [i32],
+) -> Result<(), Refusal>
     requires { n ≤ length out.old }
     ensures { Filled (coefficients_in total n list.now) result out.old out.new }
 {
     let mut rest = list;
-    let mut i = 0;
-    while i < n {
-        let Next::Value(a) = head(rest) else {
-            return Step::Stop(Code::Short, total);
+    for i in 0..n {
+        let [a, after @ ..] = rest else {
+            return Err((Code::Short, total));
         };
-        out[i] = unpack_signed(a);
-        rest = &rest[1..];
-        i += 1;
+        out[i] = unpack_signed(*a);
+        rest = after;
     }
-    Step::Done
+    Ok(())
 }
 
 pub fn moved(last: i64, by: i32) -> i64
     requires { mag last < 2 ^ 23 }
     ensures { result ≡ last +ℤ by }
 {
-    last + (by as i64)
+    last + i64::from(by)
 }
 
 // The first start is unsigned, each later one a difference to the last.
@@ -100,7 +70,7 @@ pub fn coordinate_of(first: bool, last: i64, u: u32) -> i64
     ensures { result ≡ coordinate first last u }
 {
     if first {
-        u as i64
+        i64::from(u)
     } else {
         moved(last, unpack_signed(u))
     }
@@ -109,13 +79,13 @@ pub fn coordinate_of(first: bool, last: i64, u: u32) -> i64
 pub fn is_far(x: i64) -> bool
     ensures { result ≡ leb pos_limit (nat_abs x) }
 {
-    if -8388608 < x { 8388608 <= x } else { true }
+    8388608 <= x.unsigned_abs()
 }
 
 pub fn far(x: i64, y: i64) -> bool
     ensures { result ≡ beyond pos_limit x y }
 {
-    if is_far(x) { true } else { is_far(y) }
+    is_far(x) || is_far(y)
 }
 
 // A whole number below 2^23 in magnitude is an f32.
@@ -126,34 +96,28 @@ pub fn start_of(x: i64) -> f32
     x as f32
 }
 
-pub fn read_starts(list: &[u32], total: usize, n: usize, out: &mut [f32]) -> Step
+pub fn read_starts(list: &[u32], total: usize, n: usize, out: &mut [f32]) -> Result<(), Refusal>
     requires { (2 * n ≤ length out.old) × (length list.now ≤ total) }
     ensures { Filled (floats (starts_in total Bool.true (pos 0) (pos 0) n list.now)) result out.old out.new }
 {
     let mut rest = list;
-    let mut left = n;
-    let mut i = 0;
-    let mut first = true;
     let mut last_x: i64 = 0;
     let mut last_y: i64 = 0;
-    while 0 < left {
-        let Pair::Both(a, b) = two(rest) else {
-            return Step::Stop(Code::Short, total);
+    for i in 0..n {
+        let [a, b, after @ ..] = rest else {
+            return Err((Code::Short, total));
         };
-        let x = coordinate_of(first, last_x, a);
-        let y = coordinate_of(first, last_y, b);
+        let first = i == 0;
+        let x = coordinate_of(first, last_x, *a);
+        let y = coordinate_of(first, last_y, *b);
         if far(x, y) {
-            let place = total - rest.len();
-            return Step::Stop(Code::Coord, place);
+            return Err((Code::Coord, total - rest.len()));
         }
-        out[i] = start_of(x);
-        out[i + 1] = start_of(y);
-        rest = &rest[2..];
-        i += 2;
-        left -= 1;
-        first = false;
+        out[2 * i] = start_of(x);
+        out[2 * i + 1] = start_of(y);
+        rest = after;
         last_x = x;
         last_y = y;
     }
-    Step::Done
+    Ok(())
 }

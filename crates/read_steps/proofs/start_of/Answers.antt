@@ -2,11 +2,7 @@
 use mir.Syntax.{w64}
 use mir.Facts.{to_z-of_z}
 use Rattle.list.specs.Steps.{f32_of}
-use Rattle.read_steps.proofs.Numbers.{small_exact}
 use Rattle.read_steps.proofs.start_of.Goals as goal
-
-pub int_to_float-result : goal.int_to_float-result
-int_to_float-result c = rw (to_z-of_z {w = w64} {z = c.args.x} c.ranges.x) (small_exact c.args.x c.requires)
 
 pub returns : goal.returns
 unfolding f32_of
