@@ -11,7 +11,7 @@ use lib.Ieee.{Float}
 use Rattle.buffers.specs.Onto.{onto}
 use Rattle.buffers.proofs.Fronts.{take_onto}
 use Rattle.curve.specs.declared.Point.{Point}
-use Rattle.curve.specs.declared.Curved.TheVariants.{Points, Room}
+use Rattle.curve.specs.Curved.{Points, Room}
 use Rattle.curve.specs.Curve.{flat, curved_of, curved_on}
 use Rattle.curve.proofs.Paths.{length_flat}
 
@@ -26,7 +26,7 @@ unfolding curved_of curved_on
 curved-got room path o e n a b = go (leb (length path) room) refl a b
   where
     go : (t : Bool) → leb (length path) room ≡ t → Points n ≡ cond t (Points (length path)) Room → e ≡ cond t (onto (flat path) o) o → OnFront room path e n
-    go false h a b = absurd (let z : ◌≡◌ {A = ℕ} 0 1 = cc in omega arith)
+    go false h a b = absurd (cc)
     go true h a b =
         let k : n ≡ length path = cc in
         let l : length (flat path) ≡ 2 * n = length_flat path ∙ ap (λ (i : ℕ). 2 * i) (sym k) in
@@ -37,7 +37,7 @@ unfolding curved_of
 curved-none room path a = go (leb (length path) room) refl a
   where
     go : (t : Bool) → leb (length path) room ≡ t → Room ≡ cond t (Points (length path)) Room → room < length path
-    go true h a = absurd (let z : ◌≡◌ {A = ℕ} 0 1 = cc in omega arith)
+    go true h a = absurd (cc)
     go false h a = leb-false (length path) room h
 
 -- Assumes nothing.

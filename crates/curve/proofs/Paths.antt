@@ -14,7 +14,7 @@ use Rattle.control_points.specs.declared.Pair.{Pair}
 use Rattle.control_points.proofs.Walks.{points_length, points_done}
 use Rattle.curve.specs.declared.Point.{Point}
 use Rattle.curve.specs.declared.Window.{Window}
-use Rattle.curve.specs.declared.Curved.TheVariants.{Points, Room}
+use Rattle.curve.specs.Curved.{Points, Room}
 use Rattle.curve.specs.Windows.{window_point}
 use Rattle.curve.specs.Curve.{point_of, as_points, reflected, closing, window_of, windows_from, windows_of, interpolated, window_points, all_points, last_of, draw_centripetal_catmull_rom_spline, path_of, PathLength, flat, curved_of, curved_on}
 

@@ -8,8 +8,7 @@ use Rattle.control_points.specs.ControlPoints.{control_points}
 use Rattle.control_points.specs.declared.Pair.{Pair}
 use Rattle.curve.specs.declared.Point.{Point}
 use Rattle.curve.specs.declared.Window.{Window}
-use Rattle.curve.specs.declared.Curved.{Curved}
-use Rattle.curve.specs.declared.Curved.TheVariants.{Points, Room}
+use Rattle.curve.specs.Curved.{Curved, Points, Room}
 use Rattle.curve.specs.Points.{add_point, sub_point, abs_point}
 use Rattle.curve.specs.Windows.{window_point}
 

@@ -12,55 +12,68 @@ ghost use Rattle.curve.specs.Curve.{point_of, reflected, interpolated, window_po
 ghost use Rattle.curve.specs.Turns.{root_length, next_stand, first_turn, next_turn, turn_window, last_window};
 
 use control_points::{Pair, Stand};
+use std::ops::{Add, Mul, Sub};
 
 // ---- points
 
-#[derive(Clone, Copy)]
+#[derive(Clone, Copy, Debug, PartialEq)]
 pub struct Point {
     pub x: f32,
     pub y: f32,
 }
 
-impl Point {
-    pub fn add(self, q: Point) -> Point
-        ensures { result ≡ add_point self q }
-    {
+impl Add for Point {
+    type Output = Point;
+
+    ghost add_gives = { λ p q r. r ≡ add_point p q };
+
+    fn add(self, q: Point) -> Point {
         Point {
             x: self.x + q.x,
             y: self.y + q.y,
         }
     }
+}
 
-    pub fn sub(self, q: Point) -> Point
-        ensures { result ≡ sub_point self q }
-    {
+impl Sub for Point {
+    type Output = Point;
+
+    ghost sub_gives = { λ p q r. r ≡ sub_point p q };
+
+    fn sub(self, q: Point) -> Point {
         Point {
             x: self.x - q.x,
             y: self.y - q.y,
         }
     }
+}
 
-    pub fn scale(self, k: f32) -> Point
-        ensures { result ≡ mul_point self k }
-    {
+impl Mul<f32> for Point {
+    type Output = Point;
+
+    ghost mul_gives = { λ p k r. r ≡ mul_point p k };
+
+    fn mul(self, k: f32) -> Point {
         Point {
             x: self.x * k,
             y: self.y * k,
         }
     }
+}
 
+impl Point {
     // From this point towards q, as far as tt lies from t in units of d.
     fn toward(self, q: Point, tt: f32, t: f32, d: f32) -> Point
         ensures { result ≡ toward self q tt t d }
     {
-        self.add(q.sub(self).scale((tt - t) / d))
+        self + (q - self) * ((tt - t) / d)
     }
 
     // The point on the other side of this one, as far away as q.
     fn reflected(self, q: Point) -> Point
         ensures { result ≡ reflected self q }
     {
-        self.add(self.sub(q))
+        self + (self - q)
     }
 
     // A control point. In the range every whole number is exact.
@@ -126,11 +139,9 @@ fn put_interpolated(out: &mut [f32], k: usize, w: Window)
     requires { k + 30 ≤ length out.old }
     ensures { out.new ≡ sets out.old k (flat (interpolated w 15)) }
 {
-    let mut i = 0;
-    while i < 15 {
+    for i in 0..15 {
         let p = w.point(i + 1);
-        buffers::put2(out, k + 2 * i, p.x, p.y);
-        i += 1;
+        buffers::put(out, k + 2 * i, &[p.x, p.y]);
     }
 }
 
@@ -139,7 +150,7 @@ fn put_window(out: &mut [f32], k: usize, w: Window)
     requires { k + 32 ≤ length out.old }
     ensures { out.new ≡ sets out.old k (flat (window_points w)) }
 {
-    buffers::put2(out, k, w.p1.x, w.p1.y);
+    buffers::put(out, k, &[w.p1.x, w.p1.y]);
     put_interpolated(out, k + 2, w);
 }
 
@@ -195,17 +206,13 @@ impl Turn {
         requires { valid_point_pos stand.point ≡ true }
         ensures { result ≡ next_turn self stand }
     {
-        let p = self.q;
-        let q = self.r;
-        let r = Point::of(stand.point);
-        let d = root_length(stand.delta);
         Turn {
-            p,
-            q,
-            r,
+            p: self.q,
+            q: self.r,
+            r: Point::of(stand.point),
             stand,
             d0: self.d1,
-            d1: d,
+            d1: root_length(stand.delta),
         }
     }
 
@@ -213,13 +220,10 @@ impl Turn {
     fn window(self, s: Point, d: f32) -> Window
         ensures { result ≡ turn_window self s d }
     {
-        let p0 = self.p;
-        let p1 = self.q;
-        let p2 = self.r;
         Window {
-            p0,
-            p1,
-            p2,
+            p0: self.p,
+            p1: self.q,
+            p2: self.r,
             p3: s,
             d0: self.d0,
             d1: self.d1,
@@ -249,52 +253,40 @@ fn put_path(start: Pair, deltas: &[i32], out: &mut [f32], m: usize)
     requires { Passable (stand_at start) deltas.now × (m ≡ length deltas.now / 2) × (0 < m) × (32 * m + 2 ≤ length out.old) }
     ensures { out.new ≡ onto (flat (path_of start deltas.now)) out.old }
 {
+    let last = m - 1;
     let mut t = first_turn(start, deltas);
-    let mut k = 0;
-    while k + 1 < m {
+    for k in 0..last {
         let next = t.next(next_stand(t.stand, deltas, k + 1));
         put_window(out, 32 * k, t.window(next.r, next.d1));
         t = next;
-        k += 1;
     }
-    put_window(out, 32 * k, t.last());
-    buffers::put2(out, 32 * k + 32, t.r.x, t.r.y);
-}
-
-// The path's points, or that there is no room for them.
-#[derive(Clone, Copy)]
-pub enum Curved {
-    Points(usize),
-    Room,
+    put_window(out, 32 * last, t.last());
+    buffers::put(out, 32 * m, &[t.r.x, t.r.y]);
 }
 
 // How many points a path may have in a buffer of len numbers.
 fn path_room(len: usize) -> usize
     ensures { result ≡ path_room len }
 {
-    let n = len / 2;
-    if n <= 8388608 { n } else { 8388608 }
+    (len / 2).min(8388608)
 }
 
-// The path of a spline that was traced before, on the front of out.
-pub fn curve(start: Pair, deltas: &[i32], out: &mut [f32]) -> Curved
+// The path of a spline that was traced before, on the front of out: how many points it has, or None, where there is no room for them.
+pub fn curve(start: Pair, deltas: &[i32], out: &mut [f32]) -> Option<usize>
     requires { Passable (stand_at start) deltas.now }
     ensures { (result ≡ curved_of (path_room (length out.old)) (path_of start deltas.now))
         × (out.new ≡ curved_on (path_room (length out.old)) (path_of start deltas.now) out.old) }
 {
     let room = path_room(out.len());
-    if room == 0 {
-        return Curved::Room;
-    }
     let m = deltas.len() / 2;
-    if m > (room - 1) / 16 {
-        return Curved::Room;
+    if room == 0 || m > (room - 1) / 16 {
+        return None;
     }
     if m == 0 {
         let p = Point::of(start);
-        buffers::put2(out, 0, p.x, p.y);
-        return Curved::Points(1);
+        buffers::put(out, 0, &[p.x, p.y]);
+        return Some(1);
     }
     put_path(start, deltas, out, m);
-    Curved::Points(16 * m + 1)
+    Some(16 * m + 1)
 }

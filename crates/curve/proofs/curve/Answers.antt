@@ -13,13 +13,7 @@ pub returns-then-room-eq0 : goal.returns-then-room-eq0
 returns-then-room-eq0 c =
     let a = c.args in
     curved_room (path_room (length a.out.now)) (path_of a.start a.deltas.now) a.out.now
-    (omega (arith, length_path a.start a.deltas.now, c.path_room-room.ensures, c.if-room-eq0.true))
-
-pub returns-then-m-room : goal.returns-then-m-room
-returns-then-m-room c =
-    let a = c.args in
-    curved_room (path_room (length a.out.now)) (path_of a.start a.deltas.now) a.out.now
-    (omega (arith, length_path a.start a.deltas.now, c.path_room-room.ensures, c.if-room-eq0.false, c.if-m-room.true))
+    (omega (arith, length_path a.start a.deltas.now))
 
 pub of-p-requires : goal.of-p-requires
 unfolding stand_at
@@ -32,7 +26,7 @@ returns-then-m-eq0 c =
     let r = c.path_room-room.ensures in
     let e : flat (path_of a.start a.deltas.now) ≡ two (point_of a.start) = path_one a.start a.deltas.now (omega (arith, c.if-m-eq0.true)) in
     curved_points (path_room (length a.out.now)) (path_of a.start a.deltas.now) a.out.now _ 1 (omega (arith, c.if-m-eq0.true)) (omega (arith, c.if-m-eq0.true, c.if-room-eq0.false))
-    (rw c.of-p.ensures at c.put2.ensures
+    (rw c.of-p.ensures at c.put.ensures
     ∙ filled_all (filled_more (two (point_of a.start)) [] (filled_none _ e) (omega (arith, c.if-room-eq0.false)) 2 refl))
 
 pub returns : goal.returns

@@ -9,5 +9,5 @@ use Rattle.curve.proofs.put_window.Goals as goal
 pub returns : goal.returns
 returns c =
     let a = c.args in
-    rw (c.put_interpolated.ensures, c.put2.ensures, window_flat)
+    rw (c.put_interpolated.ensures, c.put.ensures, window_flat)
     (sets_more (two a.w.p1) (flat (interpolated a.w 15)) a.out.now a.k (a.k + 2) refl)

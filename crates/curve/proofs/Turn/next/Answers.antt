@@ -4,4 +4,4 @@ use Rattle.curve.proofs.Turn.next.Goals as goal
 
 pub returns : goal.returns
 unfolding next_turn
-returns c = rw (c.root_length-d.ensures, c.of-r.ensures)
+returns c = rw (c.root_length.ensures, c.of.ensures)
