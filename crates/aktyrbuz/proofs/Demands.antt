@@ -14,7 +14,7 @@ use Rattle.reader.proofs.Promises.{refused_exactly, given_exactly}
 use Rattle.writer.specs.Write.{WriteOutcome, first_fault, content_checks, check, values_of, outcome, write_of}
 use Rattle.write_judge.specs.Verdict.{Verdict}
 use Rattle.write_judge.specs.Verdict.{Fine, Fault}
-use Rattle.writer.specs.declared.WriteAnswer.{WriteAnswer}
+use Rattle.writer.specs.WriteAnswer.{Refused}
 use Rattle.roundtrip.proofs.RoundTrip.{written_then_read, read_then_written}
 use Rattle.desks.specs.Desks.{Sight}
 use Rattle.segments.specs.declared.Segment.{Segment}
@@ -105,13 +105,13 @@ logs_by_its_steps = ln_equation
 -- ---- refusals
 
 write_zeros : (ns : List ℕ) (ss : List Float) (ds cs : List ℤ) (a : ℤ) (configured pixels room : ℕ) (o : WriteOutcome) (c : Code) (p : ℕ)
-    → o ≡ write_of ns ss ds cs a configured pixels room → o.answer ≡ WriteAnswer.Refused c p → o.list ≡ replicate room 0
+    → o ≡ write_of ns ss ds cs a configured pixels room → o.answer ≡ Refused c p → o.list ≡ replicate room 0
 unfolding write_of
 write_zeros ns ss ds cs a configured pixels room o c p w e =
     go (first_fault (content_checks ns ss ds cs (limit_of configured pixels) ++ check (ltb room (length (values_of ns ss ds cs a))) Room room ∷ []))
     (sym (ap (λ (u : WriteOutcome). u.answer) w) ∙ e) (ap (λ (u : WriteOutcome). u.list) w)
   where
-    go : (v : Verdict) → (outcome room (values_of ns ss ds cs a) v).answer ≡ WriteAnswer.Refused c p → o.list ≡ (outcome room (values_of ns ss ds cs a) v).list
+    go : (v : Verdict) → (outcome room (values_of ns ss ds cs a) v).answer ≡ Refused c p → o.list ≡ (outcome room (values_of ns ss ds cs a) v).list
         → o.list ≡ replicate room 0
     go Fine f l = let z : ◌≡◌ {A = ℕ} 0 1 = cc in absurd (omega arith)
     go (Fault k q) f l = l

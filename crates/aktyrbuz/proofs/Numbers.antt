@@ -7,7 +7,7 @@ use lib.Ieee.{Float}
 use Rattle.reader.specs.Read as Read
 use Rattle.read_list.specs.declared.ReadAnswer.{ReadAnswer}
 use Rattle.writer.specs.Write as Write
-use Rattle.writer.specs.declared.WriteAnswer.{WriteAnswer}
+use Rattle.writer.specs.WriteAnswer.{WriteAnswer}
 use Rattle.table.specs.Table as Build
 use Rattle.build_answer.specs.declared.BuildAnswer.{BuildAnswer}
 use Rattle.desks.specs.Hide as Hide

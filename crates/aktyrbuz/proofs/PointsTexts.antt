@@ -9,8 +9,7 @@ use lib.ListN.{length, get_or, take}
 use lib.Ieee.{Float, nan}
 use Rattle.codes.specs.declared.Code.{Code}
 use Rattle.writer.specs.Write.{WriteOutcome}
-use Rattle.writer.specs.declared.WriteAnswer.{WriteAnswer}
-use Rattle.writer.specs.declared.WriteAnswer.TheVariants.{Done, Refused}
+use Rattle.writer.specs.WriteAnswer.{WriteAnswer, Done, Refused}
 use Rattle.dequantize.specs.Judge.{description_of}
 use Rattle.dequantize.specs.Refusals.{SplineRefusal}
 use Rattle.dequantize.specs.declared.Given.{Given}
@@ -39,14 +38,14 @@ write_along ns ss ds cs k room o w P h = subst P (sym (points_as_defined.write n
 pub text_accepted_exactly : TextAcceptedExactly
 text_accepted_exactly = record {
   exactly = λ text start deltas o r n.
-      read_along text start deltas o r (λ (u : PointsOutcome). u.answer ≡ WriteAnswer.Done n ↔ PointsAccepted text start deltas n) (accepted_exactly text start deltas n);
+      read_along text start deltas o r (λ (u : PointsOutcome). u.answer ≡ Done n ↔ PointsAccepted text start deltas n) (accepted_exactly text start deltas n);
   left = λ text start deltas o r n a. points_as_defined.read text start deltas o r ∙ accepted_leaves text start deltas n a;
 }
 
 module _ (text : List ℕ) (start deltas : ℕ) (o : PointsOutcome) (r : PointsReadCall text start deltas o) where
-  read_codes_exactly : (c : Code) (p : ℕ) → o.answer ≡ WriteAnswer.Refused c p ↔ PointsReadRefusal text start deltas c p
+  read_codes_exactly : (c : Code) (p : ℕ) → o.answer ≡ Refused c p ↔ PointsReadRefusal text start deltas c p
   read_codes_exactly c p =
-      read_along text start deltas o r (λ (u : PointsOutcome). u.answer ≡ WriteAnswer.Refused c p ↔ PointsReadRefusal text start deltas c p) (read_exactly text start deltas c p)
+      read_along text start deltas o r (λ (u : PointsOutcome). u.answer ≡ Refused c p ↔ PointsReadRefusal text start deltas c p) (read_exactly text start deltas c p)
 
   -- an answer that is no refusal is done
   answered : (a : WriteAnswer) → o.answer ≡ a → ((c : Code) (p : ℕ) → PointsReadRefusal text start deltas c p → ⊥) → PointsDone o
@@ -65,25 +64,25 @@ points_read_codes = record {
 -- ---- writing
 
 write_codes_exactly : (ns : List ℕ) (ss : List Float) (ds cs : List ℤ) (k room : ℕ) (o : WriteOutcome) → PointsWriteCall ns ss ds cs k room o
-    → (c : Code) (p : ℕ) → o.answer ≡ WriteAnswer.Refused c p ↔ PointsWriteRefusal ns ss ds cs k room c p
+    → (c : Code) (p : ℕ) → o.answer ≡ Refused c p ↔ PointsWriteRefusal ns ss ds cs k room c p
 write_codes_exactly ns ss ds cs k room o w c p =
-    write_along ns ss ds cs k room o w (λ (u : WriteOutcome). u.answer ≡ WriteAnswer.Refused c p ↔ PointsWriteRefusal ns ss ds cs k room c p) (write_exactly ns ss ds cs k room c p)
+    write_along ns ss ds cs k room o w (λ (u : WriteOutcome). u.answer ≡ Refused c p ↔ PointsWriteRefusal ns ss ds cs k room c p) (write_exactly ns ss ds cs k room c p)
 
 pub points_write_codes : PointsWriteCodes
 points_write_codes = record {
   exactly = write_codes_exactly;
   told = λ ns ss ds cs k room o w c p t. points_refusals_zero.write ns ss ds cs k room o w c p ((write_codes_exactly ns ss ds cs k room o w c p).1 t);
   done = λ ns ss ds cs k room o w n.
-      write_along ns ss ds cs k room o w (λ (u : WriteOutcome). u.answer ≡ WriteAnswer.Done n ↔ PointsWritten ns ss ds cs k room n) (written_exactly ns ss ds cs k room n);
+      write_along ns ss ds cs k room o w (λ (u : WriteOutcome). u.answer ≡ Done n ↔ PointsWritten ns ss ds cs k room n) (written_exactly ns ss ds cs k room n);
 }
 
 -- ---- there and back
 
-module _ (text : List ℕ) (start deltas : ℕ) (o : PointsOutcome) (n : ℕ) (r : PointsReadCall text start deltas o) (e : o.answer ≡ WriteAnswer.Done n) where
+module _ (text : List ℕ) (start deltas : ℕ) (o : PointsOutcome) (n : ℕ) (r : PointsReadCall text start deltas o) (e : o.answer ≡ Done n) where
   is : o ≡ read_points_of start deltas text
   is = points_as_defined.read text start deltas o r
 
-  done : (read_points_of start deltas text).answer ≡ WriteAnswer.Done n
+  done : (read_points_of start deltas text).answer ≡ Done n
   done = sym (ap (λ (u : PointsOutcome). u.answer) is) ∙ e
 
 pub text_written_back : TextWrittenBack
@@ -101,7 +100,7 @@ text_written_back = record {
 
 -- ---- as building judges
 
-module _ (ns : List ℕ) (ss : List Float) (ds cs : List ℤ) (k room n : ℕ) (e : (write_points_of ns ss ds cs k room).answer ≡ WriteAnswer.Done n) where
+module _ (ns : List ℕ) (ss : List Float) (ds cs : List ℤ) (k room n : ℕ) (e : (write_points_of ns ss ds cs k room).answer ≡ Done n) where
   built : (g : Given) (c : Code) → SplineRefusal (description_of ns ss ds cs) g k c → (c ≡ Code.Distance) ⊎ (c ≡ Code.Area)
   built g c s = let w = (written_exactly ns ss ds cs k room n).0 e in built_code (description_of ns ss ds cs) k w.goes w.apart g c s
 
@@ -120,7 +119,7 @@ points_as_built = record {
 pub text_read_back : TextReadBack
 text_read_back ns ss ds cs k room o n w e start deltas h g q r =
     let i = points_as_defined.write ns ss ds cs k room o w in
-    let d : (write_points_of ns ss ds cs k room).answer ≡ WriteAnswer.Done n = sym (ap (λ (u : WriteOutcome). u.answer) i) ∙ e in
+    let d : (write_points_of ns ss ds cs k room).answer ≡ Done n = sym (ap (λ (u : WriteOutcome). u.answer) i) ∙ e in
     record {
       first = origin ns ss ds cs k room n d;
       rounded = origin_is ns ss ds cs k room n d;

@@ -73,7 +73,7 @@ use Rattle.list.specs.List.{ListRooms, Got, got, Described, described}
 use Rattle.reader.specs.Read.{ReadOutcome}
 use Rattle.read_list.specs.declared.ReadAnswer.{ReadAnswer}
 use Rattle.writer.specs.Write.{WriteOutcome}
-use Rattle.writer.specs.declared.WriteAnswer.{WriteAnswer}
+use Rattle.writer.specs.WriteAnswer.{Done, Refused}
 use Rattle.write_laws.specs.Floats.{Floats}
 use Rattle.little.specs.Little.{numbers_in, Bytes, Numbers, Signeds}
 use Rattle.trace.specs.Read.{described_in, read_trace_of}
@@ -184,9 +184,9 @@ trace_read_codes = record {
 pub trace_write_codes : TraceWriteCodes
 trace_write_codes = record {
   exactly = λ ns ss ds cs a room o w c p.
-      along (λ (u : WriteOutcome). u.answer ≡ WriteAnswer.Refused c p) (trace_write_equation ns ss ds cs a room o w) (write_exactly ns ss ds cs room a c p);
+      along (λ (u : WriteOutcome). u.answer ≡ Refused c p) (trace_write_equation ns ss ds cs a room o w) (write_exactly ns ss ds cs room a c p);
   told = λ ns ss ds cs a room o w c p t. write_refused ns ss ds cs room a c p o (trace_write_equation ns ss ds cs a room o w) t;
-  done = λ ns ss ds cs a room o w n. along (λ (u : WriteOutcome). u.answer ≡ WriteAnswer.Done n) (trace_write_equation ns ss ds cs a room o w) (write_done ns ss ds cs room a n);
+  done = λ ns ss ds cs a room o w n. along (λ (u : WriteOutcome). u.answer ≡ Done n) (trace_write_equation ns ss ds cs a room o w) (write_done ns ss ds cs room a n);
 }
 
 pub trace_one_outcome : TraceOneOutcome
@@ -354,9 +354,9 @@ points_as_defined = record { read = points_read_equation; write = points_write_e
 
 pub first_bad_byte : FirstBadByteTold
 first_bad_byte = record {
-  place = λ text start deltas o r p. along (λ (u : PointsOutcome). u.answer ≡ WriteAnswer.Refused Code.Text p) (points_read_equation text start deltas o r) (answers.text-exactly start deltas text p);
+  place = λ text start deltas o r p. along (λ (u : PointsOutcome). u.answer ≡ Refused Code.Text p) (points_read_equation text start deltas o r) (answers.text-exactly start deltas text p);
   form = λ text start deltas o r.
-      subst (λ (u : PointsOutcome). PointsForm text ↔ ((p : ℕ) → u.answer ≡ WriteAnswer.Refused Code.Text p → ⊥)) (sym (points_read_equation text start deltas o r)) (answers.form-exactly start deltas text);
+      subst (λ (u : PointsOutcome). PointsForm text ↔ ((p : ℕ) → u.answer ≡ Refused Code.Text p → ⊥)) (sym (points_read_equation text start deltas o r)) (answers.form-exactly start deltas text);
 }
 
 pub points_refusals_zero : PointsRefusalsZero
@@ -774,10 +774,10 @@ file_read_codes = record {
 pub file_write_codes : FileWriteCodes
 file_write_codes = record {
   exactly = λ ns ss ds cs a v e room o w c p.
-      along (λ (u : WriteOutcome). u.answer ≡ WriteAnswer.Refused c p) (file_write_equation ns ss ds cs a v e room o w) (writes-when.write_exactly ns ss ds cs v e room a c p);
+      along (λ (u : WriteOutcome). u.answer ≡ Refused c p) (file_write_equation ns ss ds cs a v e room o w) (writes-when.write_exactly ns ss ds cs v e room a c p);
   told = λ ns ss ds cs a v e room o w c p t. writes-when.write_refused ns ss ds cs v e room a c p o (file_write_equation ns ss ds cs a v e room o w) t;
   done = λ ns ss ds cs a v e room o w n.
-      along (λ (u : WriteOutcome). u.answer ≡ WriteAnswer.Done n) (file_write_equation ns ss ds cs a v e room o w) (writes-when.write_done ns ss ds cs v e room a n);
+      along (λ (u : WriteOutcome). u.answer ≡ Done n) (file_write_equation ns ss ds cs a v e room o w) (writes-when.write_done ns ss ds cs v e room a n);
 }
 
 pub file_one_outcome : FileOneOutcome

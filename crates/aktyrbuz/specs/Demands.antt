@@ -20,7 +20,7 @@ use Rattle.reader.specs.Read as reading
 use Rattle.read_list.specs.declared.ReadAnswer.{ReadAnswer}
 use Rattle.writer.specs.Write.{WriteOutcome, write_of}
 use Rattle.writer.specs.Write as writing
-use Rattle.writer.specs.declared.WriteAnswer.{WriteAnswer}
+use Rattle.writer.specs.WriteAnswer.{Done, Refused}
 use Rattle.roundtrip.specs.Enough.{Enough}
 use Rattle.dequantize.specs.Limits.{spline_area_limit}
 use Rattle.dequantize.specs.Coefficients.{inv_adjusted_quant}
@@ -70,7 +70,7 @@ WritesTheList =
 abbrev pub WrittenIsRead : Type 0
 WrittenIsRead =
     (ns : List ℕ) (ss : List Float) (ds cs : List ℤ) (a : ℤ) (configured pixels room : ℕ) (o : WriteOutcome) (n : ℕ)
-    → WriteCall ns ss ds cs a configured pixels room o → o.answer ≡ WriteAnswer.Done n
+    → WriteCall ns ss ds cs a configured pixels room o → o.answer ≡ Done n
     → (rooms : ListRooms) → Enough rooms ns ss ds cs → (q : ReadOutcome) → ReadCall (take n o.list) configured pixels rooms q
     → q ≡ reading.leaves (ReadAnswer.Done (length ns) (points_of ns) a) (padded rooms.counts 0 ns) (padded rooms.starts zero_f32 ss)
     (padded rooms.deltas (pos 0) ds) (padded rooms.coefficients (pos 0) cs)
@@ -81,7 +81,7 @@ ReadIsWritten =
     (configured pixels : ℕ) (rooms : ListRooms) (l : List ℕ) (q : ReadOutcome) (s p : ℕ) (a : ℤ) → ReadCall l configured pixels rooms q
     → q.answer ≡ ReadAnswer.Done s p a → (room : ℕ) → length l ≤ room → (o : WriteOutcome)
     → WriteCall (take s q.counts) (take (2 * s) q.starts) (take (2 * p) q.deltas) (take (128 * s) q.coefficients) a configured pixels room o
-    → o ≡ writing.leaves (WriteAnswer.Done (length l)) (l ++ replicate (room - length l) 0)
+    → o ≡ writing.leaves (Done (length l)) (l ++ replicate (room - length l) 0)
 
 -- `build` answers and leaves what `initialize_draw_cache` makes of a description for an image, with the checks in their order
 abbrev pub BuildsAsSplineRs : Type 0
@@ -141,7 +141,7 @@ pub record RefusedLeavesZero : Type 0 where
   pub read : (l : List ℕ) (configured pixels : ℕ) (rooms : ListRooms) (o : ReadOutcome) (c : Code) (p : ℕ) → ReadCall l configured pixels rooms o
       → o.answer ≡ ReadAnswer.Refused c p → ReadZeros rooms o
   pub write : (ns : List ℕ) (ss : List Float) (ds cs : List ℤ) (a : ℤ) (configured pixels room : ℕ) (o : WriteOutcome) (c : Code) (p : ℕ)
-      → WriteCall ns ss ds cs a configured pixels room o → o.answer ≡ WriteAnswer.Refused c p → o.list ≡ replicate room 0
+      → WriteCall ns ss ds cs a configured pixels room o → o.answer ≡ Refused c p → o.list ≡ replicate room 0
   pub build : (d : Description) (i : Setting) (r : building.BuildRooms) (o : building.BuildOutcome) (c : Code) (p : ℕ) → BuildCall d i r o
       → o.answer ≡ BuildAnswer.Refused c p → BuildZeros r o
 

@@ -7,7 +7,7 @@ use Rattle.reader.specs.Read.{ReadOutcome}
 use Rattle.reader.specs.Refusals.{ReadRefusal, ReadRefused}
 use Rattle.read_list.specs.declared.ReadAnswer.{ReadAnswer}
 use Rattle.writer.specs.Write.{WriteOutcome}
-use Rattle.writer.specs.declared.WriteAnswer.{WriteAnswer}
+use Rattle.writer.specs.WriteAnswer.{Done, Refused}
 use Rattle.write_laws.specs.Refusals.{WriteRefusal, WriteRefused, WriteAccepted, list_size}
 use Rattle.aktyrbuz.specs.Calls.{ReadCall, WriteCall}
 
@@ -31,14 +31,14 @@ pub record ReadCodes : Type 0 where
 -- writing likewise, by the table of writing; and it is done exactly when nothing is given
 pub record WriteCodes : Type 0 where
   pub exactly : (ns : List ℕ) (ss : List Float) (ds cs : List ℤ) (a : ℤ) (configured pixels room : ℕ) (o : WriteOutcome) → WriteCall ns ss ds cs a configured pixels room o
-      → (c : Code) (p : ℕ) → o.answer ≡ WriteAnswer.Refused c p ↔ WriteRefusal ns ss ds cs (limit_of configured pixels) room c p
+      → (c : Code) (p : ℕ) → o.answer ≡ Refused c p ↔ WriteRefusal ns ss ds cs (limit_of configured pixels) room c p
   pub told : (ns : List ℕ) (ss : List Float) (ds cs : List ℤ) (a : ℤ) (configured pixels room : ℕ) (o : WriteOutcome) → WriteCall ns ss ds cs a configured pixels room o
       → (c : Code) (p : ℕ) → WriteRefusal ns ss ds cs (limit_of configured pixels) room c p → WriteRefused room c p o
   pub done : (ns : List ℕ) (ss : List Float) (ds cs : List ℤ) (a : ℤ) (configured pixels room : ℕ) (o : WriteOutcome) → WriteCall ns ss ds cs a configured pixels room o
-      → (n : ℕ) → o.answer ≡ WriteAnswer.Done n ↔ WriteAccepted ns ss ds cs (limit_of configured pixels) room n
+      → (n : ℕ) → o.answer ≡ Done n ↔ WriteAccepted ns ss ds cs (limit_of configured pixels) room n
 
 -- 2 + 131 S + 2 P values are written of S splines and P points
 abbrev pub WrittenSize : Type 0
 WrittenSize =
     (ns : List ℕ) (ss : List Float) (ds cs : List ℤ) (a : ℤ) (configured pixels room : ℕ) (o : WriteOutcome) → WriteCall ns ss ds cs a configured pixels room o
-    → (n : ℕ) → o.answer ≡ WriteAnswer.Done n → n ≡ list_size (length ns) (points_of ns)
+    → (n : ℕ) → o.answer ≡ Done n → n ≡ list_size (length ns) (points_of ns)

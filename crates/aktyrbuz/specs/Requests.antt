@@ -40,7 +40,7 @@ use Rattle.reader.specs.Read.{ReadOutcome}
 use Rattle.reader.specs.Refusals.{ReadRefused}
 use Rattle.read_list.specs.declared.ReadAnswer.{ReadAnswer}
 use Rattle.writer.specs.Write.{WriteOutcome, WriteTold}
-use Rattle.writer.specs.declared.WriteAnswer.{WriteAnswer}
+use Rattle.writer.specs.WriteAnswer.{Done, Refused}
 use Rattle.write_laws.specs.Refusals.{WriteRefused}
 use Rattle.roundtrip.specs.Enough.{Enough}
 use Rattle.trace_laws.specs.Refusals.{TraceReadRefusal, TraceWriteRefusal, TraceAccepted}
@@ -99,7 +99,7 @@ use Rattle.writer.specs.Write as writing
 -- reading what was written gives the description back, every number, with zeros behind, in rooms exact or larger
 abbrev pub FileReadBack : Type 0
 FileReadBack =
-    (ns : List ℕ) (ss : List Float) (ds cs : List ℤ) (a : ℤ) (room : ℕ) (o : WriteOutcome) (n : ℕ) → TraceWriteCall ns ss ds cs a room o → o.answer ≡ WriteAnswer.Done n
+    (ns : List ℕ) (ss : List Float) (ds cs : List ℤ) (a : ℤ) (room : ℕ) (o : WriteOutcome) (n : ℕ) → TraceWriteCall ns ss ds cs a room o → o.answer ≡ Done n
     → (rooms : ListRooms) → Enough rooms ns ss ds cs → (q : ReadOutcome) → TraceReadCall (take n o.list) rooms q
     → q ≡ reading.leaves (ReadAnswer.Done (length ns) (points_of ns) a) (padded rooms.counts 0 ns) (padded rooms.starts zero_f32 ss)
     (padded rooms.deltas (pos 0) ds) (padded rooms.coefficients (pos 0) cs)
@@ -110,7 +110,7 @@ FileWrittenBack =
     (bytes : List ℕ) (rooms : ListRooms) (q : ReadOutcome) (s p : ℕ) (a : ℤ) → TraceReadCall bytes rooms q → q.answer ≡ ReadAnswer.Done s p a
     → (room : ℕ) → length bytes ≤ room → (o : WriteOutcome)
     → TraceWriteCall (take s q.counts) (take (2 * s) q.starts) (take (2 * p) q.deltas) (take (128 * s) q.coefficients) a room o
-    → o ≡ writing.leaves (WriteAnswer.Done (length bytes)) (bytes ++ replicate (room - length bytes) 0)
+    → o ≡ writing.leaves (Done (length bytes)) (bytes ++ replicate (room - length bytes) 0)
 
 -- a description has one file only
 abbrev pub OneFile : Type 0
@@ -131,11 +131,11 @@ pub record TraceReadCodes : Type 0 where
 -- writing likewise, by the table of writing; and it is done exactly when nothing is given, with so many bytes
 pub record TraceWriteCodes : Type 0 where
   pub exactly : (ns : List ℕ) (ss : List Float) (ds cs : List ℤ) (a : ℤ) (room : ℕ) (o : WriteOutcome) → TraceWriteCall ns ss ds cs a room o
-      → (c : Code) (p : ℕ) → o.answer ≡ WriteAnswer.Refused c p ↔ TraceWriteRefusal ns ss ds cs room c p
+      → (c : Code) (p : ℕ) → o.answer ≡ Refused c p ↔ TraceWriteRefusal ns ss ds cs room c p
   pub told : (ns : List ℕ) (ss : List Float) (ds cs : List ℤ) (a : ℤ) (room : ℕ) (o : WriteOutcome) → TraceWriteCall ns ss ds cs a room o
       → (c : Code) (p : ℕ) → TraceWriteRefusal ns ss ds cs room c p → WriteRefused room c p o
   pub done : (ns : List ℕ) (ss : List Float) (ds cs : List ℤ) (a : ℤ) (room : ℕ) (o : WriteOutcome) → TraceWriteCall ns ss ds cs a room o
-      → (n : ℕ) → o.answer ≡ WriteAnswer.Done n ↔ TraceAccepted ns ss ds cs room n
+      → (n : ℕ) → o.answer ≡ Done n ↔ TraceAccepted ns ss ds cs room n
 
 -- any two outcomes that a contract allows are equal
 pub record TraceOneOutcome : Type 0 where
@@ -219,9 +219,9 @@ pub record PointsAsDefined : Type 0 where
 -- TEXT points to the first byte that no text of the form could have there, or to the end of a text that stops early, and to nothing else; it is given exactly when the text has not the form
 pub record FirstBadByteTold : Type 0 where
   pub place : (text : List ℕ) (start deltas : ℕ) (o : PointsOutcome) → PointsReadCall text start deltas o
-      → (p : ℕ) → (o.answer ≡ WriteAnswer.Refused Code.Text p) ↔ FirstBad text p
+      → (p : ℕ) → (o.answer ≡ Refused Code.Text p) ↔ FirstBad text p
   pub form : (text : List ℕ) (start deltas : ℕ) (o : PointsOutcome) → PointsReadCall text start deltas o
-      → PointsForm text ↔ ((p : ℕ) → o.answer ≡ WriteAnswer.Refused Code.Text p → ⊥)
+      → PointsForm text ↔ ((p : ℕ) → o.answer ≡ Refused Code.Text p → ⊥)
 
 -- a refusal tells its code's number and its place, and leaves nothing but zeros in every lent cell
 pub record PointsRefused (start deltas : ℕ) (c : Code) (p : ℕ) (o : PointsOutcome) : Type 0 where
@@ -231,9 +231,9 @@ pub record PointsRefused (start deltas : ℕ) (c : Code) (p : ℕ) (o : PointsOu
 
 pub record PointsRefusalsZero : Type 0 where
   pub read : (text : List ℕ) (start deltas : ℕ) (o : PointsOutcome) → PointsReadCall text start deltas o
-      → (c : Code) (p : ℕ) → o.answer ≡ WriteAnswer.Refused c p → PointsRefused start deltas c p o
+      → (c : Code) (p : ℕ) → o.answer ≡ Refused c p → PointsRefused start deltas c p o
   pub write : (ns : List ℕ) (ss : List Float) (ds cs : List ℤ) (k room : ℕ) (o : WriteOutcome) → PointsWriteCall ns ss ds cs k room o
-      → (c : Code) (p : ℕ) → o.answer ≡ WriteAnswer.Refused c p → WriteRefused room c p o
+      → (c : Code) (p : ℕ) → o.answer ≡ Refused c p → WriteRefused room c p o
 
 -- the start, as two floats, and the double deltas, each with zeros behind
 abbrev pub start_at : Pair → ℕ → List Float
@@ -246,20 +246,20 @@ deltas_behind ds n room = ds ++ replicate (room - 2 * n) (pos 0)
 -- its start and its double deltas are then left
 pub record TextAcceptedExactly : Type 0 where
   pub exactly : (text : List ℕ) (start deltas : ℕ) (o : PointsOutcome) → PointsReadCall text start deltas o
-      → (n : ℕ) → o.answer ≡ WriteAnswer.Done n ↔ PointsAccepted text start deltas n
+      → (n : ℕ) → o.answer ≡ Done n ↔ PointsAccepted text start deltas n
   pub left : (text : List ℕ) (start deltas : ℕ) (o : PointsOutcome) → PointsReadCall text start deltas o
-      → (n : ℕ) (a : PointsAccepted text start deltas n) → o ≡ drawn.leaves (WriteAnswer.Done n) (start_at a.first start) (deltas_behind a.ds n deltas)
+      → (n : ℕ) (a : PointsAccepted text start deltas n) → o ≡ drawn.leaves (Done n) (start_at a.first start) (deltas_behind a.ds n deltas)
 
 -- an answer of success, with its double deltas
 pub record PointsDone (o : PointsOutcome) : Type 0 where
   pub deltas : ℕ
-  pub is : o.answer ≡ WriteAnswer.Done deltas
+  pub is : o.answer ≡ Done deltas
 
 -- reading refuses with a code at a place exactly when the table of reading gives it; the number and the place are then told, and every lent cell is zero
 -- where the table gives nothing, reading is done; the table speaks of the points that a text says: it says some exactly if it has the form, and no two lists of them
 pub record PointsReadCodes : Type 0 where
   pub exactly : (text : List ℕ) (start deltas : ℕ) (o : PointsOutcome) → PointsReadCall text start deltas o
-      → (c : Code) (p : ℕ) → o.answer ≡ WriteAnswer.Refused c p ↔ PointsReadRefusal text start deltas c p
+      → (c : Code) (p : ℕ) → o.answer ≡ Refused c p ↔ PointsReadRefusal text start deltas c p
   pub told : (text : List ℕ) (start deltas : ℕ) (o : PointsOutcome) → PointsReadCall text start deltas o
       → (c : Code) (p : ℕ) → PointsReadRefusal text start deltas c p → PointsRefused start deltas c p o
   pub else_done : (text : List ℕ) (start deltas : ℕ) (o : PointsOutcome) → PointsReadCall text start deltas o
@@ -270,11 +270,11 @@ pub record PointsReadCodes : Type 0 where
 -- writing likewise, by the table of writing; and it is done exactly when nothing is given, with so many bytes
 pub record PointsWriteCodes : Type 0 where
   pub exactly : (ns : List ℕ) (ss : List Float) (ds cs : List ℤ) (k room : ℕ) (o : WriteOutcome) → PointsWriteCall ns ss ds cs k room o
-      → (c : Code) (p : ℕ) → o.answer ≡ WriteAnswer.Refused c p ↔ PointsWriteRefusal ns ss ds cs k room c p
+      → (c : Code) (p : ℕ) → o.answer ≡ Refused c p ↔ PointsWriteRefusal ns ss ds cs k room c p
   pub told : (ns : List ℕ) (ss : List Float) (ds cs : List ℤ) (k room : ℕ) (o : WriteOutcome) → PointsWriteCall ns ss ds cs k room o
       → (c : Code) (p : ℕ) → PointsWriteRefusal ns ss ds cs k room c p → WriteRefused room c p o
   pub done : (ns : List ℕ) (ss : List Float) (ds cs : List ℤ) (k room : ℕ) (o : WriteOutcome) → PointsWriteCall ns ss ds cs k room o
-      → (n : ℕ) → o.answer ≡ WriteAnswer.Done n ↔ PointsWritten ns ss ds cs k room n
+      → (n : ℕ) → o.answer ≡ Done n ↔ PointsWritten ns ss ds cs k room n
 
 -- the spline k of a description has the start and the n double deltas that reading left
 pub record HasRead (o : PointsOutcome) (n : ℕ) (ns : List ℕ) (ss : List Float) (ds cs : List ℤ) (k : ℕ) : Type 0 where
@@ -285,33 +285,33 @@ pub record HasRead (o : PointsOutcome) (n : ℕ) (ns : List ℕ) (ss : List Floa
 
 -- by building's own table of codes: under any setting it refuses a spline that was read, or written, by DISTANCE or AREA and nothing else, and a spline that it passes is refused by ROOM and nothing else
 pub record PointsAsBuilt : Type 0 where
-  pub read : (text : List ℕ) (start deltas : ℕ) (o : PointsOutcome) (n : ℕ) → PointsReadCall text start deltas o → o.answer ≡ WriteAnswer.Done n
+  pub read : (text : List ℕ) (start deltas : ℕ) (o : PointsOutcome) (n : ℕ) → PointsReadCall text start deltas o → o.answer ≡ Done n
       → (ns : List ℕ) (ss : List Float) (ds cs : List ℤ) (k : ℕ) → HasRead o n ns ss ds cs k
       → (g : Given) (c : Code) → SplineRefusal (description_of ns ss ds cs) g k c → (c ≡ Code.Distance) ⊎ (c ≡ Code.Area)
-  pub written : (ns : List ℕ) (ss : List Float) (ds cs : List ℤ) (k room : ℕ) (o : WriteOutcome) (n : ℕ) → PointsWriteCall ns ss ds cs k room o → o.answer ≡ WriteAnswer.Done n
+  pub written : (ns : List ℕ) (ss : List Float) (ds cs : List ℤ) (k room : ℕ) (o : WriteOutcome) (n : ℕ) → PointsWriteCall ns ss ds cs k room o → o.answer ≡ Done n
       → (g : Given) (c : Code) → SplineRefusal (description_of ns ss ds cs) g k c → (c ≡ Code.Distance) ⊎ (c ≡ Code.Area)
   pub passed : (ns : List ℕ) (ss : List Float) (ds cs : List ℤ) (k room : ℕ) (o : WriteOutcome) → PointsWriteCall ns ss ds cs k room o → There ns ss ds cs k
-      → (g : Given) → SplinePasses (description_of ns ss ds cs) g k → (c : Code) (p : ℕ) → o.answer ≡ WriteAnswer.Refused c p → c ≡ Code.Room
+      → (g : Given) → SplinePasses (description_of ns ss ds cs) g k → (c : Code) (p : ℕ) → o.answer ≡ Refused c p → c ≡ Code.Room
 
 -- import, then export, returns the same text, with zeros behind: of any description that has what was read as a spline, so of one that is this spline alone
 pub record TextWrittenBack : Type 0 where
-  pub any : (text : List ℕ) (start deltas : ℕ) (o : PointsOutcome) (n : ℕ) → PointsReadCall text start deltas o → o.answer ≡ WriteAnswer.Done n
+  pub any : (text : List ℕ) (start deltas : ℕ) (o : PointsOutcome) (n : ℕ) → PointsReadCall text start deltas o → o.answer ≡ Done n
       → (ns : List ℕ) (ss : List Float) (ds cs : List ℤ) (k : ℕ) → HasRead o n ns ss ds cs k
       → (room : ℕ) → length text ≤ room → (q : WriteOutcome) → PointsWriteCall ns ss ds cs k room q
-      → q ≡ writing.leaves (WriteAnswer.Done (length text)) (text ++ replicate (room - length text) 0)
-  pub alone : (text : List ℕ) (start deltas : ℕ) (o : PointsOutcome) (n : ℕ) → PointsReadCall text start deltas o → o.answer ≡ WriteAnswer.Done n
+      → q ≡ writing.leaves (Done (length text)) (text ++ replicate (room - length text) 0)
+  pub alone : (text : List ℕ) (start deltas : ℕ) (o : PointsOutcome) (n : ℕ) → PointsReadCall text start deltas o → o.answer ≡ Done n
       → (cs : List ℤ) → length cs ≡ 128 → (room : ℕ) → length text ≤ room → (q : WriteOutcome) → PointsWriteCall (n ∷ []) (take 2 o.start) (take (2 * n) o.deltas) cs 0 room q
-      → q ≡ writing.leaves (WriteAnswer.Done (length text)) (text ++ replicate (room - length text) 0)
+      → q ≡ writing.leaves (Done (length text)) (text ++ replicate (room - length text) 0)
 
 -- export, then import, gives the start as building rounds it and the same double deltas, with zeros behind, in rooms exact or larger
 pub record ReadBack (ns : List ℕ) (ss : List Float) (ds cs : List ℤ) (k start deltas : ℕ) (q : PointsOutcome) : Type 0 where
   pub first : Pair
   pub rounded : starting_point (start_x (description_of ns ss ds cs) k) (start_y (description_of ns ss ds cs) k) ≡ start_at_lem.At first
-  pub is : q ≡ drawn.leaves (WriteAnswer.Done (get_or ns k 0)) (start_at first start) (deltas_behind (deltas_of (description_of ns ss ds cs) k) (get_or ns k 0) deltas)
+  pub is : q ≡ drawn.leaves (Done (get_or ns k 0)) (start_at first start) (deltas_behind (deltas_of (description_of ns ss ds cs) k) (get_or ns k 0) deltas)
 
 abbrev pub TextReadBack : Type 0
 TextReadBack =
-    (ns : List ℕ) (ss : List Float) (ds cs : List ℤ) (k room : ℕ) (o : WriteOutcome) (n : ℕ) → PointsWriteCall ns ss ds cs k room o → o.answer ≡ WriteAnswer.Done n
+    (ns : List ℕ) (ss : List Float) (ds cs : List ℤ) (k room : ℕ) (o : WriteOutcome) (n : ℕ) → PointsWriteCall ns ss ds cs k room o → o.answer ≡ Done n
     → (start deltas : ℕ) → 2 ≤ start → 2 * get_or ns k 0 ≤ deltas → (q : PointsOutcome) → PointsReadCall (take n o.list) start deltas q → ReadBack ns ss ds cs k start deltas q
 
 -- any two outcomes are equal
@@ -517,13 +517,13 @@ pub record EditionExactly : Type 0 where
 -- a reader that knows only version 1 answers HEADER at 0 to every file of version 2, which is one whose first number is 2 and that has eight numbers at least; and so to all that is written at version 2
 pub record OlderReaderSaysHeader : Type 0 where
   pub any : (bytes : List ℕ) (rooms : ListRooms) (o : ReadOutcome) → 32 ≤ length bytes → number bytes 0 ≡ 2 → TraceReadCall bytes rooms o → ReadRefused rooms Code.Header 0 o
-  pub written : (ns : List ℕ) (ss : List Float) (ds cs : List ℤ) (a : ℤ) (e room : ℕ) (o : WriteOutcome) (n : ℕ) → FileWriteCall ns ss ds cs a 2 e room o → o.answer ≡ WriteAnswer.Done n
+  pub written : (ns : List ℕ) (ss : List Float) (ds cs : List ℤ) (a : ℤ) (e room : ℕ) (o : WriteOutcome) (n : ℕ) → FileWriteCall ns ss ds cs a 2 e room o → o.answer ≡ Done n
       → (rooms : ListRooms) (q : ReadOutcome) → TraceReadCall (take n o.list) rooms q → ReadRefused rooms Code.Header 0 q
 
 -- a description with its edition has one file per version: reading what was written gives it back with its edition, every number, with zeros behind, in rooms exact or larger;
 -- what is read is written, at its version and edition, as the same bytes, with zeros behind; and two files of one version with one description and edition are equal
 pub record OneFilePerVersion : Type 0 where
-  pub read_back : (ns : List ℕ) (ss : List Float) (ds cs : List ℤ) (a : ℤ) (v e room : ℕ) (o : WriteOutcome) (n : ℕ) → FileWriteCall ns ss ds cs a v e room o → o.answer ≡ WriteAnswer.Done n
+  pub read_back : (ns : List ℕ) (ss : List Float) (ds cs : List ℤ) (a : ℤ) (v e room : ℕ) (o : WriteOutcome) (n : ℕ) → FileWriteCall ns ss ds cs a v e room o → o.answer ≡ Done n
       → (rooms : ListRooms) → Enough rooms ns ss ds cs → (q : FileOutcome) → FileReadCall (take n o.list) rooms q
       → q ≡ record {
         read = reading.leaves (ReadAnswer.Done (length ns) (points_of ns) a) (padded rooms.counts 0 ns) (padded rooms.starts zero_f32 ss)
@@ -533,7 +533,7 @@ pub record OneFilePerVersion : Type 0 where
   pub written_back : (bytes : List ℕ) (rooms : ListRooms) (q : FileOutcome) (s p : ℕ) (a : ℤ) → FileReadCall bytes rooms q → q.read.answer ≡ ReadAnswer.Done s p a
       → (room : ℕ) → length bytes ≤ room → (v : ℕ) → number bytes 0 ≡ v → (o : WriteOutcome)
       → FileWriteCall (take s q.read.counts) (take (2 * s) q.read.starts) (take (2 * p) q.read.deltas) (take (128 * s) q.read.coefficients) a v q.edition room o
-      → o ≡ writing.leaves (WriteAnswer.Done (length bytes)) (bytes ++ replicate (room - length bytes) 0)
+      → o ≡ writing.leaves (Done (length bytes)) (bytes ++ replicate (room - length bytes) 0)
   pub one : (bytes bytes' : List ℕ) (rooms : ListRooms) (q : FileOutcome) (s p : ℕ) (a : ℤ) → FileReadCall bytes rooms q → FileReadCall bytes' rooms q
       → q.read.answer ≡ ReadAnswer.Done s p a → number bytes 0 ≡ number bytes' 0 → bytes ≡ bytes'
 
@@ -555,11 +555,11 @@ pub record FileReadCodes : Type 0 where
 -- writing likewise, by the table of writing; and it is done exactly when nothing is given, with so many bytes
 pub record FileWriteCodes : Type 0 where
   pub exactly : (ns : List ℕ) (ss : List Float) (ds cs : List ℤ) (a : ℤ) (v e room : ℕ) (o : WriteOutcome) → FileWriteCall ns ss ds cs a v e room o
-      → (c : Code) (p : ℕ) → o.answer ≡ WriteAnswer.Refused c p ↔ FileWriteRefusal ns ss ds cs v e room c p
+      → (c : Code) (p : ℕ) → o.answer ≡ Refused c p ↔ FileWriteRefusal ns ss ds cs v e room c p
   pub told : (ns : List ℕ) (ss : List Float) (ds cs : List ℤ) (a : ℤ) (v e room : ℕ) (o : WriteOutcome) → FileWriteCall ns ss ds cs a v e room o
       → (c : Code) (p : ℕ) → FileWriteRefusal ns ss ds cs v e room c p → WriteRefused room c p o
   pub done : (ns : List ℕ) (ss : List Float) (ds cs : List ℤ) (a : ℤ) (v e room : ℕ) (o : WriteOutcome) → FileWriteCall ns ss ds cs a v e room o
-      → (n : ℕ) → o.answer ≡ WriteAnswer.Done n ↔ FileAccepted ns ss ds cs v e room n
+      → (n : ℕ) → o.answer ≡ Done n ↔ FileAccepted ns ss ds cs v e room n
 
 -- any two outcomes that a contract allows are equal
 pub record FileOneOutcome : Type 0 where

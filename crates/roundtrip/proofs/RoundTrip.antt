@@ -23,7 +23,7 @@ use Rattle.read_list.specs.declared.ReadAnswer.{ReadAnswer}
 use Rattle.writer.specs.Write.{Check, check, first_fault, content_checks, whole_of, values_of, WriteOutcome, leaves, outcome, write_of}
 use Rattle.write_judge.specs.Verdict.{Verdict}
 use Rattle.write_judge.specs.Verdict.{Fine, Fault}
-use Rattle.writer.specs.declared.WriteAnswer.{WriteAnswer}
+use Rattle.writer.specs.WriteAnswer.{Done}
 use Rattle.write_judge.proofs.Checks.{passes, fine_before, both_fine, agreed, content_fine}
 use Rattle.write_laws.specs.Floats.{Floats}
 use Rattle.write_laws.proofs.Accepts.{fine_valid, valid_fine, wholes_back, floats_back}
@@ -38,7 +38,7 @@ pub record Written (ns : List ℕ) (ss : List Float) (ds cs : List ℤ) (a : ℤ
 
 module _ (ns : List ℕ) (ss : List Float) (ds cs : List ℤ) (a : ℤ) (configured pixels room : ℕ) where
   -- an answer of success tells all
-  pub done_written : (o : WriteOutcome) (n : ℕ) → o ≡ write_of ns ss ds cs a configured pixels room → o.answer ≡ WriteAnswer.Done n
+  pub done_written : (o : WriteOutcome) (n : ℕ) → o ≡ write_of ns ss ds cs a configured pixels room → o.answer ≡ Done n
       → Written ns ss ds cs a (limit_of configured pixels) room n o.list
   unfolding write_of
   done_written o n p e = go (first_fault (content ++ last ∷ [])) refl (sym (ap (λ (u : WriteOutcome). u.answer) p) ∙ e) (ap (λ (u : WriteOutcome). u.list) p)
@@ -52,7 +52,7 @@ module _ (ns : List ℕ) (ss : List Float) (ds cs : List ℤ) (a : ℤ) (configu
       last : Check
       last = check (ltb room (length values)) Room room
 
-      go : (v : Verdict) → first_fault (content ++ last ∷ []) ≡ v → (outcome room values v).answer ≡ WriteAnswer.Done n → o.list ≡ (outcome room values v).list
+      go : (v : Verdict) → first_fault (content ++ last ∷ []) ≡ v → (outcome room values v).answer ≡ Done n → o.list ≡ (outcome room values v).list
           → Written ns ss ds cs a (limit_of configured pixels) room n o.list
       go (Fault c q) f e l = let z : ◌≡◌ {A = ℕ} 0 1 = cc in absurd (omega arith)
       go Fine f e l =
@@ -62,7 +62,7 @@ module _ (ns : List ℕ) (ss : List Float) (ds cs : List ℤ) (a : ℤ) (configu
   -- a description that is accepted, with room for its values
   pub accepted : first_fault (content_checks ns ss ds cs (limit_of configured pixels)) ≡ Fine → length (values_of ns ss ds cs a) ≤ room
       → write_of ns ss ds cs a configured pixels room
-      ≡ leaves (WriteAnswer.Done (length (values_of ns ss ds cs a))) (values_of ns ss ds cs a ++ replicate (room - length (values_of ns ss ds cs a)) 0)
+      ≡ leaves (Done (length (values_of ns ss ds cs a))) (values_of ns ss ds cs a ++ replicate (room - length (values_of ns ss ds cs a)) 0)
   unfolding write_of first_fault
   accepted f h =
       let values = values_of ns ss ds cs a in
@@ -73,7 +73,7 @@ module _ (ns : List ℕ) (ss : List Float) (ds cs : List ℤ) (a : ℤ) (configu
 
 -- the description that a list was written from is read from it, every number, with rooms exact or larger
 pub written_then_read : (ns : List ℕ) (ss : List Float) (ds cs : List ℤ) (a : ℤ) (configured pixels room : ℕ) (o : WriteOutcome) (n : ℕ)
-    → Floats ss → o ≡ write_of ns ss ds cs a configured pixels room → o.answer ≡ WriteAnswer.Done n
+    → Floats ss → o ≡ write_of ns ss ds cs a configured pixels room → o.answer ≡ Done n
     → (rooms : ListRooms) → Enough rooms ns ss ds cs → (q : ReadOutcome) → q ≡ read_outcome configured pixels rooms (take n o.list)
     → q ≡ reading.leaves (ReadAnswer.Done (length ns) (points_of ns) a) (padded rooms.counts 0 ns) (padded rooms.starts zero_f32 ss)
     (padded rooms.deltas (pos 0) ds) (padded rooms.coefficients (pos 0) cs)
@@ -138,7 +138,7 @@ done_read configured pixels rooms l q s p a r e =
 pub read_then_written : (configured pixels : ℕ) (rooms : ListRooms) (l : List ℕ) (q : ReadOutcome) (s p : ℕ) (a : ℤ) → q ≡ read_outcome configured pixels rooms l
     → q.answer ≡ ReadAnswer.Done s p a → (room : ℕ) → length l ≤ room → (o : WriteOutcome)
     → o ≡ write_of (take s q.counts) (take (2 * s) q.starts) (take (2 * p) q.deltas) (take (128 * s) q.coefficients) a configured pixels room
-    → o ≡ leaves (WriteAnswer.Done (length l)) (l ++ replicate (room - length l) 0)
+    → o ≡ leaves (Done (length l)) (l ++ replicate (room - length l) 0)
 unfolding values_of
 read_then_written configured pixels rooms l q s p a r e room h o w =
     let t = done_read configured pixels rooms l q s p a r e in
@@ -154,6 +154,6 @@ read_then_written configured pixels rooms l q s p a r e room h o w =
     let values : values_of t.ns ss t.ds t.cs a ≡ l
     = ap (λ (zs : List ℤ). list_of (described a zs t.ns t.ds t.cs)) (wholes_back (length t.ns) true t.zs v.starts v.near) ∙ list in
     let done = accepted t.ns ss t.ds t.cs a configured pixels room (valid_fine limit t.zs t.ns t.ds t.cs v) (omega (arith, ap length values)) in
-    w ∙ rw (ns-is, ss-is, ds-is, cs-is) (done ∙ ap (λ (k : List ℕ). leaves (WriteAnswer.Done (length k)) (k ++ replicate (room - length k) 0)) values)
+    w ∙ rw (ns-is, ss-is, ds-is, cs-is) (done ∙ ap (λ (k : List ℕ). leaves (Done (length k)) (k ++ replicate (room - length k) 0)) values)
 
 -- Assumes nothing.

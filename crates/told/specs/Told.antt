@@ -3,7 +3,7 @@ use Rattle.std.specs.Prelude.{List, [], ◌∷◌, ℕ, ◌^◌, ◌-◌, min, �
 use Rattle.codes.specs.Codes.{number_of}
 use Rattle.codes.specs.declared.Code.{Code}
 use Rattle.read_list.specs.declared.ReadAnswer.{ReadAnswer}
-use Rattle.writer.specs.declared.WriteAnswer.{WriteAnswer}
+use Rattle.writer.specs.WriteAnswer.{WriteAnswer, Done, Refused}
 use Rattle.build_answer.specs.declared.BuildAnswer.{BuildAnswer}
 use Rattle.draw.specs.declared.DrawAnswer.{DrawAnswer}
 use Rattle.hull.specs.declared.ReachAnswer.{ReachAnswer}
@@ -30,8 +30,8 @@ told_read (ReadAnswer.Done s n a) = record { number = 0; place = pos 0; first = 
 told_read (ReadAnswer.Refused c p) = told_refusal c p
 
 abbrev pub told_write : WriteAnswer → Told
-told_write (WriteAnswer.Done n) = record { number = 0; place = pos 0; first = signed_of n; second = pos 0; third = pos 0; fourth = pos 0 }
-told_write (WriteAnswer.Refused c p) = told_refusal c p
+told_write (Done n) = record { number = 0; place = pos 0; first = signed_of n; second = pos 0; third = pos 0; fourth = pos 0 }
+told_write (Refused c p) = told_refusal c p
 
 abbrev pub told_build : BuildAnswer → Told
 told_build (BuildAnswer.Done s n a f) = record { number = 0; place = pos 0; first = pos s; second = pos n; third = signed_of a; fourth = pos f }

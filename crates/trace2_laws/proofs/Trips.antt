@@ -22,7 +22,7 @@ use Rattle.reader.specs.Read as reading
 use Rattle.read_list.specs.declared.ReadAnswer.{ReadAnswer}
 use Rattle.writer.specs.Write.{check, first_fault, whole_of, WriteOutcome, leaves}
 use Rattle.write_judge.specs.Verdict.{Fine}
-use Rattle.writer.specs.declared.WriteAnswer.{WriteAnswer}
+use Rattle.writer.specs.WriteAnswer.{Done}
 use Rattle.write_judge.proofs.Checks.{passes, passed, fine_before, both_fine}
 use Rattle.write_laws.specs.Floats.{Floats}
 use Rattle.roundtrip.specs.Enough.{Enough}
@@ -63,7 +63,7 @@ pub record Held (v e : ℕ) : Type 0 where
   pub header : ℕ
   pub holds : Holds v e header
 
-pub written_holds : (ns : List ℕ) (ss : List Float) (ds cs : List ℤ) (a : ℤ) (v e room : ℕ) (o : WriteOutcome) (n : ℕ) → o ≡ write_file_of ns ss ds cs a v e room → o.answer ≡ WriteAnswer.Done n → Held v e
+pub written_holds : (ns : List ℕ) (ss : List Float) (ds cs : List ℤ) (a : ℤ) (v e room : ℕ) (o : WriteOutcome) (n : ℕ) → o ≡ write_file_of ns ss ds cs a v e room → o.answer ≡ Done n → Held v e
 written_holds ns ss ds cs a v e room o n p d =
     let t = (write_done ns ss ds cs v e room a n).0 (sym (ap (λ (u : WriteOutcome). u.answer) p) ∙ d) in
     record { header = t.header; holds = t.writable.fitting.headable.shaped.holds }
@@ -78,7 +78,7 @@ module _ (ns : List ℕ) (ss : List Float) (ds cs : List ℤ) (a : ℤ) (e : ℕ
   abbrev Nums : List ℕ
   Nums = file_numbers version2 (e ∷ []) Whole
 
-  done_second : (room : ℕ) (o : WriteOutcome) (n : ℕ) → o ≡ write_file_of ns ss ds cs a 2 e room → o.answer ≡ WriteAnswer.Done n → Left (write_checks2 2 e ns ss ds cs) File room n o.list
+  done_second : (room : ℕ) (o : WriteOutcome) (n : ℕ) → o ≡ write_file_of ns ss ds cs a 2 e room → o.answer ≡ Done n → Left (write_checks2 2 e ns ss ds cs) File room n o.list
   unfolding write_file_of
   done_second room = done_left (write_checks2 2 e ns ss ds cs) File (4 * numbers_of 9 (length ns) (points_of ns)) room
 
@@ -144,7 +144,7 @@ says_one rooms bytes s p a d v =
     omega (arith, k, v)
 
 module _ (ns : List ℕ) (ss : List Float) (ds cs : List ℤ) (a : ℤ) (v e room : ℕ) (o : WriteOutcome) (n : ℕ) (nn : Numbers ns) (f : Floats ss) (nc : Signeds cs) (na : mag a < 2 ^ 31)
-    (p : o ≡ write_file_of ns ss ds cs a v e room) (d : o.answer ≡ WriteAnswer.Done n) (rooms : ListRooms) (h : Enough rooms ns ss ds cs) where
+    (p : o ≡ write_file_of ns ss ds cs a v e room) (d : o.answer ≡ Done n) (rooms : ListRooms) (h : Enough rooms ns ss ds cs) where
   abbrev Back : FileOutcome
   Back = record {
     read = reading.leaves (ReadAnswer.Done (length ns) (points_of ns) a) (padded rooms.counts 0 ns) (padded rooms.starts zero_f32 ss) (padded rooms.deltas (pos 0) ds) (padded rooms.coefficients (pos 0) cs);
@@ -169,7 +169,7 @@ module _ (ns : List ℕ) (ss : List Float) (ds cs : List ℤ) (a : ℤ) (v e roo
           z ∙ rw back
 
 -- what is written at version 2 is HEADER to a reader of version 1
-pub written_older : (ns : List ℕ) (ss : List Float) (ds cs : List ℤ) (a : ℤ) (e room : ℕ) (o : WriteOutcome) (n : ℕ) → o ≡ write_file_of ns ss ds cs a 2 e room → o.answer ≡ WriteAnswer.Done n
+pub written_older : (ns : List ℕ) (ss : List Float) (ds cs : List ℤ) (a : ℤ) (e room : ℕ) (o : WriteOutcome) (n : ℕ) → o ≡ write_file_of ns ss ds cs a 2 e room → o.answer ≡ Done n
     → (rooms : ListRooms) → read_trace_of rooms (take n o.list) ≡ reading.outcome rooms (stop Header 0)
 written_older ns ss ds cs a e room o n p d rooms =
     let w = done_second ns ss ds cs a e room o n p d in
@@ -195,7 +195,7 @@ read_so rooms bytes f = rw (judged_fine rooms bytes f)
 
 accepted_second : (e : ℕ) (ns : List ℕ) (ss : List Float) (ds cs : List ℤ) (a : ℤ) (room : ℕ) → first_fault (write_checks2 2 e ns ss ds cs) ≡ Fine → length (file_of version2 (e ∷ []) (described a (map whole_of ss) ns ds cs)) ≤ room
     → write_file_of ns ss ds cs a 2 e room
-    ≡ leaves (WriteAnswer.Done (length (file_of version2 (e ∷ []) (described a (map whole_of ss) ns ds cs))))
+    ≡ leaves (Done (length (file_of version2 (e ∷ []) (described a (map whole_of ss) ns ds cs))))
     (file_of version2 (e ∷ []) (described a (map whole_of ss) ns ds cs) ++ replicate (room - length (file_of version2 (e ∷ []) (described a (map whole_of ss) ns ds cs))) 0)
 unfolding write_file_of
 accepted_second e ns ss ds cs a room f h =
@@ -207,7 +207,7 @@ module _ (rooms : ListRooms) (bytes : List ℕ) (q : FileOutcome) (s p : ℕ) (a
   Again v = write_file_of (take s q.read.counts) (take (2 * s) q.read.starts) (take (2 * p) q.read.deltas) (take (128 * s) q.read.coefficients) a v q.edition room
 
   abbrev Same : WriteOutcome
-  Same = leaves (WriteAnswer.Done (length bytes)) (bytes ++ replicate (room - length bytes) 0)
+  Same = leaves (Done (length bytes)) (bytes ++ replicate (room - length bytes) 0)
 
   nothing_found : first_fault (whole_checks2 rooms bytes) ≡ Fine
   nothing_found = done_fine rooms bytes s p a (sym (ap (λ (u : FileOutcome). u.read.answer) r) ∙ d)
@@ -233,7 +233,7 @@ module _ (rooms : ListRooms) (bytes : List ℕ) (q : FileOutcome) (s p : ℕ) (a
       let g = second_checked e (ns_in 9 bytes) (map f32_of (zs_in 9 bytes)) (ds_in 9 bytes) (cs_in 9 bytes) known-edition (again_fine version2 (e ∷ []) bytes _ _ found b) in
       let file = t.file in
       let z = accepted_second e (ns_in 9 bytes) (map f32_of (zs_in 9 bytes)) (ds_in 9 bytes) (cs_in 9 bytes) a room g (omega (arith, ap length file)) in
-      rw (y, t.counts, t.starts, t.deltas, t.coefficients) (z ∙ ap (λ (w : List ℕ). leaves (WriteAnswer.Done (length w)) (w ++ replicate (room - length w) 0)) file)
+      rw (y, t.counts, t.starts, t.deltas, t.coefficients) (z ∙ ap (λ (w : List ℕ). leaves (Done (length w)) (w ++ replicate (room - length w) 0)) file)
 
   -- the ninth number stands behind the eight
   ninth_front : 36 ≤ length bytes → drop 8 (numbers_in bytes) ≡ (number bytes 8 ∷ []) ++ drop 9 (numbers_in bytes)
@@ -262,7 +262,7 @@ same_file rooms bytes bytes' q s p a b b' r r' d v =
     let x = read_then_written rooms bytes q s p a b r d room (omega arith) (number bytes' 0) v o refl in
     let y = read_then_written rooms bytes' q s p a b' r' d room (omega arith) (number bytes' 0) refl o refl in
     let z = sym x ∙ y in
-    let w : WriteAnswer.Done (length bytes) ≡ WriteAnswer.Done (length bytes') = ap (λ (u : WriteOutcome). u.answer) z in
+    let w : Done (length bytes) ≡ Done (length bytes') = ap (λ (u : WriteOutcome). u.answer) z in
     let k : length bytes ≡ length bytes' = cc in
     same_front bytes bytes' _ _ k (ap (λ (u : WriteOutcome). u.list) z)
 

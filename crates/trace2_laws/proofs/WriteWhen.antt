@@ -17,7 +17,7 @@ use Rattle.list.specs.List.{described}
 use Rattle.writer.specs.Write.{Check, check, first_fault, misshapen, whole_of, WriteOutcome, outcome}
 use Rattle.write_judge.specs.Verdict.{Verdict}
 use Rattle.write_judge.specs.Verdict.{Fine, Fault}
-use Rattle.writer.specs.declared.WriteAnswer.{WriteAnswer}
+use Rattle.writer.specs.WriteAnswer.{Done, Refused}
 use Rattle.write_judge.proofs.Checks.{fails, passes, passed, faults_before, fine_before, both_fine}
 use Rattle.write_laws.specs.Refusals.{WriteRefused}
 use Rattle.trace.specs.Trace.{version1, numbers_of, file_of}
@@ -200,11 +200,11 @@ module _ (ns : List ℕ) (ss : List Float) (ds cs : List ℤ) (v e : ℕ) where
       abbrev File : List ℕ
       File = file_of (layout_of v) (more_of v e) (described a (map whole_of ss) ns ds cs)
 
-      answer_of_lem : (c : Code) (q : ℕ) → (write_file_of ns ss ds cs a v e room).answer ≡ WriteAnswer.Refused c q → first_fault (Content ++ Last) ≡ Fault c q
+      answer_of_lem : (c : Code) (q : ℕ) → (write_file_of ns ss ds cs a v e room).answer ≡ Refused c q → first_fault (Content ++ Last) ≡ Fault c q
       unfolding write_file_of
       answer_of_lem c q f = go (first_fault (Content ++ Last)) refl f
         where
-          go : (x : Verdict) → first_fault (Content ++ Last) ≡ x → (outcome room File x).answer ≡ WriteAnswer.Refused c q → first_fault (Content ++ Last) ≡ Fault c q
+          go : (x : Verdict) → first_fault (Content ++ Last) ≡ x → (outcome room File x).answer ≡ Refused c q → first_fault (Content ++ Last) ≡ Fault c q
           go Fine f e = let z : ◌≡◌ {A = ℕ} 0 1 = cc in absurd (omega arith)
           go (Fault k i) f e =
               let x : k ≡ c = cc in
@@ -216,7 +216,7 @@ module _ (ns : List ℕ) (ss : List Float) (ds cs : List ℤ) (v e : ℕ) where
       refused_so c q r = ap (outcome room File) (told_fault c q r)
 
       -- refused exactly so
-      pub write_exactly : (c : Code) (q : ℕ) → (write_file_of ns ss ds cs a v e room).answer ≡ WriteAnswer.Refused c q ↔ R c q
+      pub write_exactly : (c : Code) (q : ℕ) → (write_file_of ns ss ds cs a v e room).answer ≡ Refused c q ↔ R c q
       write_exactly c q = (λ f. fault_told c q (answer_of_lem c q f), λ r. ap (λ (o : WriteOutcome). o.answer) (refused_so c q r))
 
       pub write_refused : (c : Code) (q : ℕ) (o : WriteOutcome) → o ≡ write_file_of ns ss ds cs a v e room → R c q → WriteRefused room c q o
@@ -236,11 +236,11 @@ module _ (ns : List ℕ) (ss : List Float) (ds cs : List ℤ) (v e : ℕ) where
           go h (told.Holds.second x y) = rw x (file_size_lem version2 (e ∷ []) ns ss ds cs a refl g.starts g.deltas g.coefficients ∙ omega arith)
 
       -- and done exactly where nothing is given
-      done_of : (n : ℕ) → (write_file_of ns ss ds cs a v e room).answer ≡ WriteAnswer.Done n → FileAccepted ns ss ds cs v e room n
+      done_of : (n : ℕ) → (write_file_of ns ss ds cs a v e room).answer ≡ Done n → FileAccepted ns ss ds cs v e room n
       unfolding write_file_of
       done_of n d = go (first_fault (Content ++ Last)) refl d
         where
-          go : (x : Verdict) → first_fault (Content ++ Last) ≡ x → (outcome room File x).answer ≡ WriteAnswer.Done n → FileAccepted ns ss ds cs v e room n
+          go : (x : Verdict) → first_fault (Content ++ Last) ≡ x → (outcome room File x).answer ≡ Done n → FileAccepted ns ss ds cs v e room n
           go (Fault k i) f d = let z : ◌≡◌ {A = ℕ} 0 1 = cc in absurd (omega arith)
           go Fine f d =
               let b = both_fine Content Last f in
@@ -255,15 +255,15 @@ module _ (ns : List ℕ) (ss : List Float) (ds cs : List ℤ) (v e : ℕ) where
                 all = sym k ∙ size_of w.header o;
               }
 
-      of_done : (n : ℕ) → FileAccepted ns ss ds cs v e room n → (write_file_of ns ss ds cs a v e room).answer ≡ WriteAnswer.Done n
+      of_done : (n : ℕ) → FileAccepted ns ss ds cs v e room n → (write_file_of ns ss ds cs a v e room).answer ≡ Done n
       unfolding write_file_of first_fault
       of_done n t =
           let o = t.writable.fitting.headable.shaped in
           let x = fine_before Content Last (writable_fine t.header t.writable) in
           let y = passes (ltb room Due) Room 0 [] (le-ltb room Due (omega (arith, t.held, due_is t.header (holds_free v e t.header o.holds).2))) in
-          ap (λ (r : Verdict). (outcome room File r).answer) (x ∙ y) ∙ ap WriteAnswer.Done (size_of t.header o ∙ sym t.all)
+          ap (λ (r : Verdict). (outcome room File r).answer) (x ∙ y) ∙ ap Done (size_of t.header o ∙ sym t.all)
 
-      pub write_done : (n : ℕ) → (write_file_of ns ss ds cs a v e room).answer ≡ WriteAnswer.Done n ↔ FileAccepted ns ss ds cs v e room n
+      pub write_done : (n : ℕ) → (write_file_of ns ss ds cs a v e room).answer ≡ Done n ↔ FileAccepted ns ss ds cs v e room n
       write_done n = (λ d. done_of n d, λ t. of_done n t)
 
 -- Assumes nothing.

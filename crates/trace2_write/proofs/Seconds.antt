@@ -17,7 +17,6 @@ use Rattle.shape.specs.Shape.{points_of, shaped}
 use Rattle.list.specs.List.{described}
 use Rattle.writer.specs.Write.{Check, first_fault, misshapen, whole_of, leaves}
 use Rattle.write_judge.specs.Verdict.{Fine, Fault}
-use Rattle.writer.specs.declared.WriteAnswer.TheVariants.{Done, Refused}
 use Rattle.write_judge.proofs.Checks.{fails, passes, passed}
 use Rattle.trace.specs.Trace.{numbers_of, file_of}
 use Rattle.trace.specs.Write.{header_checks, value_checks, write_checks, write_trace_of}
@@ -27,6 +26,7 @@ use Rattle.trace2.specs.Write.{barred, write_checks2, write_file_of}
 use Rattle.trace2.proofs.Editions.{known_is, free_first, nine}
 use Rattle.trace2.proofs.Versions.{write_as_before}
 use Rattle.trace2_write.specs.Steps.{plain}
+use Rattle.writer.specs.WriteAnswer.{Done, Refused}
 
 -- ---- version 1 with edition 1
 

@@ -22,7 +22,7 @@ use Rattle.read_list.specs.declared.ReadAnswer.{ReadAnswer}
 use Rattle.writer.specs.Write.{Check, check, first_fault, whole_of, WriteOutcome, leaves, outcome}
 use Rattle.write_judge.specs.Verdict.{Verdict}
 use Rattle.write_judge.specs.Verdict.{Fine, Fault}
-use Rattle.writer.specs.declared.WriteAnswer.{WriteAnswer}
+use Rattle.writer.specs.WriteAnswer.{Done}
 use Rattle.write_judge.proofs.Checks.{passes, fine_before, both_fine}
 use Rattle.write_laws.specs.Floats.{Floats}
 use Rattle.roundtrip.specs.Enough.{Enough}
@@ -46,10 +46,10 @@ module _ (content : List Check) (file : List ℕ) (due room : ℕ) where
   Last = check (ltb room due) Room 0 ∷ []
 
   -- an answer of success tells all
-  pub done_left : (o : WriteOutcome) (n : ℕ) → o ≡ outcome room file (first_fault (content ++ Last)) → o.answer ≡ WriteAnswer.Done n → Left content file room n o.list
+  pub done_left : (o : WriteOutcome) (n : ℕ) → o ≡ outcome room file (first_fault (content ++ Last)) → o.answer ≡ Done n → Left content file room n o.list
   done_left o n p e = go (first_fault (content ++ Last)) refl (sym (ap (λ (u : WriteOutcome). u.answer) p) ∙ e) (ap (λ (u : WriteOutcome). u.list) p)
     where
-      go : (v : Verdict) → first_fault (content ++ Last) ≡ v → (outcome room file v).answer ≡ WriteAnswer.Done n → o.list ≡ (outcome room file v).list
+      go : (v : Verdict) → first_fault (content ++ Last) ≡ v → (outcome room file v).answer ≡ Done n → o.list ≡ (outcome room file v).list
           → Left content file room n o.list
       go (Fault c q) f e l = let z : ◌≡◌ {A = ℕ} 0 1 = cc in absurd (omega arith)
       go Fine f e l =
@@ -58,7 +58,7 @@ module _ (content : List Check) (file : List ℕ) (due room : ℕ) where
 
   -- what is accepted, with room for its file
   pub accepted_left : first_fault content ≡ Fine → length file ≡ due → due ≤ room
-      → outcome room file (first_fault (content ++ Last)) ≡ leaves (WriteAnswer.Done (length file)) (file ++ replicate (room - length file) 0)
+      → outcome room file (first_fault (content ++ Last)) ≡ leaves (Done (length file)) (file ++ replicate (room - length file) 0)
   unfolding first_fault
   accepted_left f size h = rw (fine_before content Last f, passes (ltb room due) Room 0 [] (le-ltb room due h))
 
@@ -67,12 +67,12 @@ module _ (ns : List ℕ) (ss : List Float) (ds cs : List ℤ) (a : ℤ) (room : 
   abbrev File : List ℕ
   File = file_of version1 [] (described a (map whole_of ss) ns ds cs)
 
-  done_written : (o : WriteOutcome) (n : ℕ) → o ≡ write_trace_of ns ss ds cs a room → o.answer ≡ WriteAnswer.Done n → Left (write_checks 8 ns ss ds cs) File room n o.list
+  done_written : (o : WriteOutcome) (n : ℕ) → o ≡ write_trace_of ns ss ds cs a room → o.answer ≡ Done n → Left (write_checks 8 ns ss ds cs) File room n o.list
   unfolding write_trace_of
   done_written = done_left (write_checks 8 ns ss ds cs) File (4 * numbers_of 8 (length ns) (points_of ns)) room
 
   accepted : first_fault (write_checks 8 ns ss ds cs) ≡ Fine → length File ≤ room
-      → write_trace_of ns ss ds cs a room ≡ leaves (WriteAnswer.Done (length File)) (File ++ replicate (room - length File) 0)
+      → write_trace_of ns ss ds cs a room ≡ leaves (Done (length File)) (File ++ replicate (room - length File) 0)
   unfolding write_trace_of
   accepted f h =
       let j = judged 8 ns ss ds cs f in
@@ -83,7 +83,7 @@ module _ (ns : List ℕ) (ss : List Float) (ds cs : List ℤ) (a : ℤ) (room : 
 
 -- the description that a file was written from is read from it, every number, with rooms exact or larger
 pub file_then_read : (ns : List ℕ) (ss : List Float) (ds cs : List ℤ) (a : ℤ) (room : ℕ) (o : WriteOutcome) (n : ℕ)
-    → Numbers ns → Floats ss → Signeds cs → mag a < 2 ^ 31 → o ≡ write_trace_of ns ss ds cs a room → o.answer ≡ WriteAnswer.Done n
+    → Numbers ns → Floats ss → Signeds cs → mag a < 2 ^ 31 → o ≡ write_trace_of ns ss ds cs a room → o.answer ≡ Done n
     → (rooms : ListRooms) → Enough rooms ns ss ds cs → (q : ReadOutcome) → q ≡ read_trace_of rooms (take n o.list)
     → q ≡ reading.leaves (ReadAnswer.Done (length ns) (points_of ns) a) (padded rooms.counts 0 ns) (padded rooms.starts zero_f32 ss)
     (padded rooms.deltas (pos 0) ds) (padded rooms.coefficients (pos 0) cs)
@@ -117,14 +117,14 @@ done_read rooms bytes q s p a r e = go (first_fault (whole_checks rooms bytes)) 
 pub read_then_file : (rooms : ListRooms) (bytes : List ℕ) (q : ReadOutcome) (s p : ℕ) (a : ℤ) → Bytes bytes → q ≡ read_trace_of rooms bytes → q.answer ≡ ReadAnswer.Done s p a
     → (room : ℕ) → length bytes ≤ room → (o : WriteOutcome)
     → o ≡ write_trace_of (take s q.counts) (take (2 * s) q.starts) (take (2 * p) q.deltas) (take (128 * s) q.coefficients) a room
-    → o ≡ leaves (WriteAnswer.Done (length bytes)) (bytes ++ replicate (room - length bytes) 0)
+    → o ≡ leaves (Done (length bytes)) (bytes ++ replicate (room - length bytes) 0)
 read_then_file rooms bytes q s p a b r e room h o w =
     let t = done_read rooms bytes q s p a r e in
     let found = found_first rooms bytes t.fine in
     let k = taken version1 [] bytes _ _ found b rooms q s p a t.is e in
     let file = k.file in
     let done = accepted (ns_in 8 bytes) (map f32_of (zs_in 8 bytes)) (ds_in 8 bytes) (cs_in 8 bytes) a room (again_fine version1 [] bytes _ _ found b) (omega (arith, ap length file)) in
-    w ∙ rw (k.counts, k.starts, k.deltas, k.coefficients) (done ∙ ap (λ (l : List ℕ). leaves (WriteAnswer.Done (length l)) (l ++ replicate (room - length l) 0)) file)
+    w ∙ rw (k.counts, k.starts, k.deltas, k.coefficients) (done ∙ ap (λ (l : List ℕ). leaves (Done (length l)) (l ++ replicate (room - length l) 0)) file)
 
 -- ---- one file a description
 
@@ -140,7 +140,7 @@ same_file rooms bytes bytes' q s p a b b' r r' e =
     let x = read_then_file rooms bytes q s p a b r e room (omega arith) o refl in
     let y = read_then_file rooms bytes' q s p a b' r' e room (omega arith) o refl in
     let z = sym x ∙ y in
-    let w : WriteAnswer.Done (length bytes) ≡ WriteAnswer.Done (length bytes') = ap (λ (u : WriteOutcome). u.answer) z in
+    let w : Done (length bytes) ≡ Done (length bytes') = ap (λ (u : WriteOutcome). u.answer) z in
     let k : length bytes ≡ length bytes' = cc in
     same_front bytes bytes' _ _ k (ap (λ (u : WriteOutcome). u.list) z)
 

@@ -18,7 +18,7 @@ use Rattle.list.specs.List.{described}
 use Rattle.writer.specs.Write.{Check, check, first_fault, misshapen, whole_of, WriteOutcome, outcome}
 use Rattle.write_judge.specs.Verdict.{Verdict}
 use Rattle.write_judge.specs.Verdict.{Fine, Fault}
-use Rattle.writer.specs.declared.WriteAnswer.{WriteAnswer}
+use Rattle.writer.specs.WriteAnswer.{Done, Refused}
 use Rattle.write_judge.proofs.Checks.{fails, passes, passed, faults_before, fine_before, both_fine}
 use Rattle.write_laws.specs.Refusals.{WriteRefused}
 use Rattle.trace.specs.Trace.{version1, numbers_of, file_of}
@@ -133,11 +133,11 @@ module _ (ns : List ℕ) (ss : List Float) (ds cs : List ℤ) where
       abbrev File : List ℕ
       File = file_of version1 [] (described a (map whole_of ss) ns ds cs)
 
-      answer_of_lem : (c : Code) (q : ℕ) → (write_trace_of ns ss ds cs a room).answer ≡ WriteAnswer.Refused c q → first_fault (write_checks 8 ns ss ds cs ++ Last) ≡ Fault c q
+      answer_of_lem : (c : Code) (q : ℕ) → (write_trace_of ns ss ds cs a room).answer ≡ Refused c q → first_fault (write_checks 8 ns ss ds cs ++ Last) ≡ Fault c q
       unfolding write_trace_of
       answer_of_lem c q e = go (first_fault (write_checks 8 ns ss ds cs ++ Last)) refl e
         where
-          go : (v : Verdict) → first_fault (write_checks 8 ns ss ds cs ++ Last) ≡ v → (outcome room File v).answer ≡ WriteAnswer.Refused c q
+          go : (v : Verdict) → first_fault (write_checks 8 ns ss ds cs ++ Last) ≡ v → (outcome room File v).answer ≡ Refused c q
               → first_fault (write_checks 8 ns ss ds cs ++ Last) ≡ Fault c q
           go Fine f e = let z : ◌≡◌ {A = ℕ} 0 1 = cc in absurd (omega arith)
           go (Fault k i) f e =
@@ -150,7 +150,7 @@ module _ (ns : List ℕ) (ss : List Float) (ds cs : List ℤ) where
       refused_so c q r = ap (outcome room File) (told_fault c q r)
 
       -- refused exactly so
-      pub write_exactly : (c : Code) (q : ℕ) → (write_trace_of ns ss ds cs a room).answer ≡ WriteAnswer.Refused c q ↔ R c q
+      pub write_exactly : (c : Code) (q : ℕ) → (write_trace_of ns ss ds cs a room).answer ≡ Refused c q ↔ R c q
       write_exactly c q = (λ e. fault_told c q (answer_of_lem c q e), λ r. ap (λ (o : WriteOutcome). o.answer) (refused_so c q r))
 
       pub write_refused : (c : Code) (q : ℕ) (o : WriteOutcome) → o ≡ write_trace_of ns ss ds cs a room → R c q → WriteRefused room c q o
@@ -159,11 +159,11 @@ module _ (ns : List ℕ) (ss : List Float) (ds cs : List ℤ) where
           record { answer = ap (λ (u : WriteOutcome). u.answer) x; told = ap (λ (u : WriteOutcome). u.told) x; list = ap (λ (u : WriteOutcome). u.list) x }
 
       -- and done exactly where nothing is given
-      done_of : (n : ℕ) → (write_trace_of ns ss ds cs a room).answer ≡ WriteAnswer.Done n → TraceAccepted ns ss ds cs room n
+      done_of : (n : ℕ) → (write_trace_of ns ss ds cs a room).answer ≡ Done n → TraceAccepted ns ss ds cs room n
       unfolding write_trace_of
       done_of n e = go (first_fault (write_checks 8 ns ss ds cs ++ Last)) refl e
         where
-          go : (v : Verdict) → first_fault (write_checks 8 ns ss ds cs ++ Last) ≡ v → (outcome room File v).answer ≡ WriteAnswer.Done n → TraceAccepted ns ss ds cs room n
+          go : (v : Verdict) → first_fault (write_checks 8 ns ss ds cs ++ Last) ≡ v → (outcome room File v).answer ≡ Done n → TraceAccepted ns ss ds cs room n
           go (Fault k i) f e = let z : ◌≡◌ {A = ℕ} 0 1 = cc in absurd (omega arith)
           go Fine f e =
               let b = both_fine (write_checks 8 ns ss ds cs) Last f in
@@ -177,16 +177,16 @@ module _ (ns : List ℕ) (ss : List Float) (ds cs : List ℤ) where
                 all = sym k ∙ file_size_lem version1 [] ns ss ds cs a refl h.starts h.deltas h.coefficients ∙ sym due_is;
               }
 
-      of_done : (n : ℕ) → TraceAccepted ns ss ds cs room n → (write_trace_of ns ss ds cs a room).answer ≡ WriteAnswer.Done n
+      of_done : (n : ℕ) → TraceAccepted ns ss ds cs room n → (write_trace_of ns ss ds cs a room).answer ≡ Done n
       unfolding write_trace_of first_fault
       of_done n t =
           let h = t.writable.fitting.headable.shaped in
           let x = fine_before (write_checks 8 ns ss ds cs) Last (writable_fine t.writable) in
           let y = passes (ltb room (4 * numbers_of 8 s p)) Room 0 [] (le-ltb room (4 * numbers_of 8 s p) (omega (arith, due_is, t.held))) in
           ap (λ (v : Verdict). (outcome room File v).answer) (x ∙ y)
-          ∙ ap WriteAnswer.Done (file_size_lem version1 [] ns ss ds cs a refl h.starts h.deltas h.coefficients ∙ sym due_is ∙ sym t.all)
+          ∙ ap Done (file_size_lem version1 [] ns ss ds cs a refl h.starts h.deltas h.coefficients ∙ sym due_is ∙ sym t.all)
 
-      pub write_done : (n : ℕ) → (write_trace_of ns ss ds cs a room).answer ≡ WriteAnswer.Done n ↔ TraceAccepted ns ss ds cs room n
+      pub write_done : (n : ℕ) → (write_trace_of ns ss ds cs a room).answer ≡ Done n ↔ TraceAccepted ns ss ds cs room n
       write_done n = (λ e. done_of n e, λ t. of_done n t)
 
 -- Assumes nothing.

@@ -15,7 +15,6 @@ use Rattle.shape.specs.Shape.{points_of}
 use Rattle.list.specs.List.{described}
 use Rattle.writer.specs.Write.{Check, check, first_fault, misshapen, whole_of, WriteOutcome, leaves, outcome}
 use Rattle.write_judge.specs.Verdict.{Fine, Fault}
-use Rattle.writer.specs.declared.WriteAnswer.TheVariants.{Done, Refused}
 use Rattle.write_judge.proofs.Checks.{fails, passes, passed, faults_before, fine_before, both_fine, agreed}
 use Rattle.write_steps.proofs.Stores.{zeros_after}
 use Rattle.little.specs.Little.{bytes_of, unsigned_of}
@@ -25,6 +24,7 @@ use Rattle.trace.specs.Write.{misfit, header_checks, value_checks, write_checks,
 use Rattle.trace_fit.proofs.Fits.{header_held}
 use Rattle.trace_put.specs.Steps.{start_number, part_numbers}
 use Rattle.trace_put.proofs.Puts.{put_behind}
+use Rattle.writer.specs.WriteAnswer.{Done, Refused}
 
 -- ---- the whole file
 

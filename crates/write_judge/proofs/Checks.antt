@@ -4,9 +4,6 @@ use lib.Ieee.{Float, nan}
 use borrow.Author.Tests.{eqb-false, not-false}
 use Rattle.codes.specs.declared.Code.{Code}
 use Rattle.codes.specs.declared.Code.TheVariants.{Splines, Coord, Points, Delta, Shape}
-use Rattle.std.specs.Prelude.{Result, Ok, Err}
-use Rattle.std.specs.Result.{IsErrAnd}
-use Rattle.codes.specs.Refusal.{Refusal}
 use Rattle.shape.proofs.Shape.{is_shaped, shaped_is}
 use Rattle.shape.specs.Shape.{points_of}
 use Rattle.list.specs.List.{delta_limit, beyond}
@@ -17,11 +14,6 @@ use Rattle.write_judge.specs.Verdict.{Fine, Fault}
 pub neither : (a b : Bool) → (a || b) ≡ false → (a ≡ false) × (b ≡ false)
 neither true b e = absurd (subst T e tt)
 neither false b e = (refl, e)
-
--- what `?` returns is the refusal that it was given
-pub passed_on : {A : Type 0} (r : Result A Refusal) (e : Refusal) (o : Result A Refusal) → IsErrAnd r (λ y. y ≡ e) → o ≡ Err e → r ≡ o
-passed_on (Ok x) e o is h = absurd is
-passed_on (Err y) e o is h = ap Err is ∙ sym h
 
 -- a check that fails, and one that passes
 pub fails : (b : Bool) (c : Code) (p : ℕ) (rest : List Check) → b ≡ true → first_fault (check b c p ∷ rest) ≡ Fault c p

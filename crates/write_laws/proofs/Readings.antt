@@ -9,8 +9,7 @@ use lib.Ieee.{Float, nan, fin, lt, of_bits, to_signed}
 use Rattle.codes.specs.declared.Code.TheVariants.{Splines, Coord, Points, Delta, Room, Shape}
 use Rattle.shape.specs.Shape.{shaped}
 use Rattle.writer.specs.Write.{first_fault, misshapen, miscounted, unfit, unfit_as, start_checks, delta_checks, spline_checks, content_checks, values_of, leaves, write_of}
-use Rattle.writer.specs.declared.WriteAnswer.{WriteAnswer}
-use Rattle.writer.specs.declared.WriteAnswer.TheVariants.{Done, Refused}
+use Rattle.writer.specs.WriteAnswer.{WriteAnswer, Done, Refused}
 
 -- zeros for the coefficients of n splines
 abbrev plain : ℕ → List ℤ

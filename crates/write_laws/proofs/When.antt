@@ -19,11 +19,12 @@ use Rattle.list.specs.List.{delta_limit, beyond, limit_of, Tame}
 use Rattle.writer.specs.Write.{Check, check, first_fault, misshapen, miscounted, unfit_as, start_checks, delta_checks, spline_checks, content_checks, values_of, outcome, write_of}
 use Rattle.write_judge.specs.Verdict.{Verdict}
 use Rattle.write_judge.specs.Verdict.{Fine, Fault}
-use Rattle.writer.specs.declared.WriteAnswer.TheVariants.{Done, Refused}
 use Rattle.write_judge.proofs.Checks.{fails, passes, passed, faults_before, fine_before, both_fine, agreed, content_shape, content_count, content_start, content_rest, content_fine}
 use Rattle.write_laws.specs.Refusals.{points_before}
 use Rattle.write_laws.proofs.Table.{unfit_pair, FitPairs, wild_pair, values_before, SplineRefusal, points, delta, Refusing, shape, splines, coord, spline, room, Passed}
 use Rattle.write_laws.proofs.Accepts.{fine_tame, tame_fine, fine_splines, splines_fine}
+use Rattle.codes.proofs.Refusals.{same_refusal, refused_alike}
+use Rattle.writer.specs.WriteAnswer.{Done, Refused}
 
 none : first_fault [] ≡ Fine
 unfolding first_fault
@@ -48,9 +49,8 @@ starts_to first p (x ∷ y ∷ ss) c q e = go (λ d. starts_to false (p + 2) ss 
     go : (first_fault (start_checks false (p + 2) ss) ≡ Fault c q → StartAt false (p + 2) ss c q)
         → (b : Bool) → (unfit_as first x || unfit_as first y) ≡ b → first_fault (check b Coord p ∷ start_checks false (p + 2) ss) ≡ Fault c q → StartAt first p (x ∷ y ∷ ss) c q
     go ih true u e =
-        let is : Coord ≡ c = cc in
-        let at : p ≡ q = cc in
-        record { k = 0; code = sym is; place = sym at ∙ omega arith; fit = tt; unfit = u }
+        let same = same_refusal e in
+        record { k = 0; code = sym same.0; place = sym same.1 ∙ omega arith; fit = tt; unfit = u }
     go ih false u e =
         let t = ih e in
         record { k = suc t.k; code = t.code; place = t.place ∙ omega arith; fit = (u, t.fit); unfit = t.unfit }
@@ -101,9 +101,8 @@ deltas_to p (x ∷ y ∷ ds) c q e = go (λ d. deltas_to (p + 2) ds c q d) (beyo
   where
     go : (first_fault (delta_checks (p + 2) ds) ≡ Fault c q → DeltaAt (p + 2) ds c q) → (b : Bool) → beyond delta_limit x y ≡ b → first_fault (check b Delta p ∷ delta_checks (p + 2) ds) ≡ Fault c q → DeltaAt p (x ∷ y ∷ ds) c q
     go ih true u e =
-        let is : Delta ≡ c = cc in
-        let at : p ≡ q = cc in
-        record { j = 0; code = sym is; place = sym at ∙ omega arith; within = omega arith; tame = tt; wild = u }
+        let same = same_refusal e in
+        record { j = 0; code = sym same.0; place = sym same.1 ∙ omega arith; within = omega arith; tame = tt; wild = u }
     go ih false u e =
         let t = ih e in
         record {
@@ -219,15 +218,13 @@ module _ (limit : ℕ) where
       after under ih Fine f e = spline_behind total place n ns ds (omega arith) (fine_tame (place + 1) (take (2 * n) ds) f) c q (ih (sym (fine_before mine others f) ∙ e))
       after under ih (Fault d r) f e =
           let same = sym (faults_before mine others d r f) ∙ e in
-          let d-is : d ≡ c = cc in
-          let r-is : r ≡ q = cc in
           spline_here total place n ns ds u (omega arith) c q under (deltas_to (place + 1) (take (2 * n) ds) c q (f ∙ same))
 
       go : (total + n ≤ limit → first_fault others ≡ Fault c q → SplineRefusal limit (total + n) (place + (2 * n + 129)) ns (drop (2 * n) ds) c q)
           → (b : Bool) → ltb limit (total + n) ≡ b → first_fault (check b Points place ∷ (mine ++ others)) ≡ Fault c q → SplineRefusal limit total place (n ∷ ns) ds c q
       go ih true b e =
-          let c-is : Points ≡ c = cc in
-          let q-is : place ≡ q = cc in
+          let c-is : Points ≡ c = (same_refusal e).0 in
+          let q-is : place ≡ q = (same_refusal e).1 in
           let at : place + values_before 0 (n ∷ ns) ≡ q = omega (arith, q-is) in
           subst (λ (m : ℕ). SplineRefusal limit total place (n ∷ ns) ds c m) at
           (rw (← c-is) (points 0 (omega arith) (omega arith) (omega (arith, ltb-true limit (total + n) b)) tt))
@@ -281,9 +278,8 @@ module _ (ns : List ℕ) (ss : List Float) (ds cs : List ℤ) (limit size rooms 
 
   moved : {c d : Code} {p q : ℕ} → Fault c p ≡ Fault d q → Here c p → Here d q
   moved {c} {d} {p} {q} e g =
-      let x : c ≡ d = cc in
-      let y : p ≡ q = cc in
-      subst (λ (k : ℕ). Here d k) y (subst (λ (k : Code). Here k p) x g)
+      let same = same_refusal e in
+      subst (λ (k : ℕ). Here d k) same.1 (subst (λ (k : Code). Here k p) same.0 g)
 
   module _ (shaped : misshapen ns ss ds cs ≡ false) (few : miscounted limit (length ns) ≡ false) where
     after_count : (c : Code) (p : ℕ) → first_fault (content ++ last) ≡ Fault c p
@@ -368,10 +364,7 @@ module _ (ns : List ℕ) (ss : List Float) (ds cs : List ℤ) (a : ℤ) (configu
     where
       told : (v : Verdict) → (outcome rooms (values_of ns ss ds cs a) v).answer ≡ Refused c p → v ≡ Fault c p
       told Fine e = cc
-      told (Fault d q) e =
-          let x : d ≡ c = cc in
-          let y : q ≡ p = cc in
-          cc
+      told (Fault d q) e = refused_alike e
 
   -- and it writes so many values exactly when nothing is given
   pub done_by_tests : (n : ℕ) → (write_of ns ss ds cs a configured pixels rooms).answer ≡ Done n ↔ Passed ns ss ds cs (limit_of configured pixels) size rooms n

@@ -20,7 +20,6 @@ use Rattle.list.specs.List.{delta_limit, beyond, limit_of, Tame}
 use Rattle.writer.specs.Write.{check, first_fault, content_checks, misshapen, miscounted, unfit, unfit_as, values_of, WriteOutcome, outcome, write_of}
 use Rattle.write_judge.specs.Verdict.{Verdict}
 use Rattle.write_judge.specs.Verdict.{Fine, Fault}
-use Rattle.writer.specs.declared.WriteAnswer.TheVariants.{Done, Refused}
 use Rattle.write_judge.proofs.Checks.{agree, agreed, none_counted, many_counted, well_counted, counted}
 use Rattle.write_judge.proofs.Starts.{unfit_any}
 use Rattle.write_steps.proofs.Stores.{list_length}
@@ -29,6 +28,8 @@ use Rattle.write_laws.specs.Refusals as words
 use Rattle.write_laws.proofs.Table.{unfit_pair, FitPairs, wild_pair, SplineRefusal, Refusing, Passed}
 use Rattle.write_laws.proofs.Table as tests
 use Rattle.write_laws.proofs.When.{refused_by_tests, done_by_tests}
+use Rattle.codes.proofs.Refusals.{same_refusal}
+use Rattle.writer.specs.WriteAnswer.{Done, Refused}
 
 -- ---- a test and the words that it stands for
 
@@ -371,9 +372,8 @@ module _ (ns : List ℕ) (ss : List Float) (ds cs : List ℤ) (a : ℤ) (configu
           absurd (omega arith)
       go (Fault d q) f =
           let g = sym (ap (λ (u : WriteOutcome). u.answer) f) ∙ e in
-          let x : d ≡ c = cc in
-          let y : q ≡ p = cc in
-          rw (f, x, y) (record { answer = refl; told = refl; list = refl })
+          let same = same_refusal g in
+          rw (f, same.0, same.1) (record { answer = refl; told = refl; list = refl })
 
   -- and a list of so many values, exactly when it has none
   pub done_exactly_when : (n : ℕ) → (write_of ns ss ds cs a configured pixels room).answer ≡ Done n ↔ WriteAccepted ns ss ds cs (limit_of configured pixels) room n

@@ -8,7 +8,7 @@ use Rattle.codes.specs.declared.Code.{Code}
 use Rattle.codes.specs.declared.Code.TheVariants.{Splines, Coord, Points, Delta, Room, Shape}
 use Rattle.shape.specs.Shape.{points_of, Shaped}
 use Rattle.writer.specs.Write.{WriteTold, WriteOutcome}
-use Rattle.writer.specs.declared.WriteAnswer.{WriteAnswer}
+use Rattle.writer.specs.WriteAnswer.{Refused}
 
 -- a number that can't be written as a start, which may be the first; `fin s m e` has the magnitude m * up e / down e, and is negative where s is true
 pub data Unfit (first : Bool) : Float → Type 0 where
@@ -83,6 +83,6 @@ pub record WriteAccepted (ns : List ℕ) (ss : List Float) (ds cs : List ℤ) (l
 
 -- an outcome of a refusal: the code's number, its place, no values, and nothing but zeros
 pub record WriteRefused (room : ℕ) (c : Code) (p : ℕ) (o : WriteOutcome) : Type 0 where
-  pub answer : o.answer ≡ WriteAnswer.Refused c p
+  pub answer : o.answer ≡ Refused c p
   pub told : ◌≡◌ {A = WriteTold} o.told (record { number = number_of c; place = p; values = 0 })
   pub list : o.list ≡ replicate room 0

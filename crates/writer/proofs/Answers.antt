@@ -15,9 +15,9 @@ use Rattle.list.specs.List.{limit_of}
 use Rattle.writer.specs.Write.{check, first_fault, content_checks, values_of, leaves, write_of}
 use Rattle.write_judge.specs.Verdict.{Fine, Fault}
 use Rattle.write_steps.specs.Steps.{Writable}
-use Rattle.writer.specs.declared.WriteAnswer.TheVariants.{Done, Refused}
 use Rattle.write_judge.proofs.Checks.{fails, passes, faults_before, fine_before, agreed, counted, content_fine}
 use Rattle.write_steps.proofs.Stores.{list_length, zeros_after}
+use Rattle.writer.specs.WriteAnswer.{Done, Refused}
 
 module _ (ns : List ℕ) (ss : List Float) (ds cs : List ℤ) (limit : ℕ) where
   -- a description in which no fault was found, and a list with room for it

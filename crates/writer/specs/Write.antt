@@ -2,6 +2,7 @@
 use Rattle.std.specs.Prelude.{List, [], ◌∷◌, ◌++◌, ℕ, ◌-◌, ltb, length, replicate, ℤ, Float}
 use Rattle.codes.specs.Codes.{number_of}
 use Rattle.codes.specs.declared.Code.TheVariants.{Room}
+use Rattle.shape.specs.Description.{Description}
 use Rattle.list.specs.List.{limit_of}
 use Rattle.write_judge.specs.Verdict.{Verdict}
 use Rattle.write_judge.specs.Verdict.{Fine, Fault}
@@ -9,8 +10,7 @@ pub use Rattle.write_judge.specs.Judge.{Check, check}
 unfoldable pub use Rattle.write_judge.specs.Judge.{first_fault, misshapen, miscounted, unfit, unfit_as, start_checks, delta_checks, spline_checks, content_checks}
 pub use Rattle.write_steps.specs.Steps.{whole_of}
 unfoldable pub use Rattle.write_steps.specs.Steps.{values_of}
-use Rattle.writer.specs.declared.WriteAnswer.{WriteAnswer}
-use Rattle.writer.specs.declared.WriteAnswer.TheVariants.{Done, Refused}
+use Rattle.writer.specs.WriteAnswer.{WriteAnswer, Done, Refused}
 
 -- an answer in the terms of the table of codes: the code's number, the place, and how many values were written
 pub record WriteTold : Type 0 where
@@ -43,3 +43,6 @@ write_of counts starts deltas coefficients adjustment configured pixels room =
     let values = values_of counts starts deltas coefficients adjustment in
     outcome room values
     (first_fault (content_checks counts starts deltas coefficients (limit_of configured pixels) ++ check (ltb room (length values)) Room room ∷ []))
+
+abbrev pub write_in : Description → ℤ → ℕ → ℕ → ℕ → WriteOutcome
+write_in d adjustment configured pixels room = write_of d.counts d.starts d.deltas d.coefficients adjustment configured pixels room

@@ -2,51 +2,34 @@
 #![tactic(auto)]
 
 ghost use Rattle.std.specs.Prelude.{◌≡◌, length};
-ghost use Rattle.writer.specs.Write.{leaves, write_of};
+ghost use Rattle.shape.specs.Description.{description_in};
+ghost use Rattle.writer.specs.Write.{leaves, write_in};
 
-use buffers::clear_u32;
-use codes::Code;
+use buffers::clear;
+use codes::{Code, Refusal};
 use list::limit;
-use write_judge::{Verdict, judge};
+use shape::Description;
+use write_judge::judge;
 use write_steps::put_list;
-
-#[derive(Clone, Copy)]
-pub enum WriteAnswer {
-    Done(usize),
-    Refused(Code, usize),
-}
 
 // Writes the list of a description, or says what can't be written and where.
 pub fn write(
-    counts: &[u32],
-    starts: &[f32],
-    deltas: &[i32],
-    coefficients: &[i32],
+    description: &Description<'_>,
     adjustment: i32,
     configured: u32,
     pixels: u32,
     list: &mut [u32],
-) -> WriteAnswer
+) -> Result<usize, Refusal>
     ensures { leaves result list.new
-        ≡ write_of counts.now starts.now deltas.now coefficients.now adjustment configured pixels (length list.old) }
+        ≡ write_in (description_in description.now) adjustment configured pixels (length list.old) }
 {
-    clear_u32(list);
-    match judge(
-        counts,
-        starts,
-        deltas,
-        coefficients,
-        limit(configured, pixels),
-    ) {
-        Verdict::Fault(c, p) => WriteAnswer::Refused(c, p),
-        Verdict::Fine => {
-            let room = list.len();
-            let values = 131 * counts.len() + deltas.len() + 2;
-            if room < values {
-                return WriteAnswer::Refused(Code::Room, room);
-            }
-            put_list(counts, starts, deltas, coefficients, adjustment, list);
-            WriteAnswer::Done(values)
-        }
+    clear(list);
+    judge(description, limit(configured, pixels))?;
+    let room = list.len();
+    let values = 131 * description.counts.len() + description.deltas.len() + 2;
+    if room < values {
+        return Err((Code::Room, room));
     }
+    put_list(description, adjustment, list);
+    Ok(values)
 }

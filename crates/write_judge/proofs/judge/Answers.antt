@@ -1,7 +1,8 @@
 -- `write_judge::judge` meets its contract: each test and each call is the next of the checks.
 use Rattle.std.proofs.Common.{length, not, sym, ap, ◌∙◌, arith}
+use Rattle.codes.proofs.Refusals.{passed_on}
 use Rattle.write_judge.specs.Judge.{misshapen}
-use Rattle.write_judge.proofs.Checks.{passed_on, agreed, none_counted, many_counted, well_counted, content_shape, content_count, content_start, content_rest}
+use Rattle.write_judge.proofs.Checks.{agreed, none_counted, many_counted, well_counted, content_shape, content_count, content_start, content_rest}
 use Rattle.write_judge.proofs.judge.Goals as goal
 use Rattle.write_judge.proofs.judge.Goals.{then-splines-eq0-via-then-splines-eq0, then-splines-eq0-via-else-splines-eq0+then-limit-splines}
 

@@ -1,6 +1,7 @@
 use Rattle.std.proofs.Common.{◌≡◌, ◌-◌, ◌*◌, get_or, drop, sym, refl, ◌∙◌, arith}
 use Rattle.shape.proofs.Shape.{sum_turn}
-use Rattle.write_judge.proofs.Checks.{passed_on, length_part, spline_over, spline_wild, spline_pass, splines_end}
+use Rattle.codes.proofs.Refusals.{passed_on}
+use Rattle.write_judge.proofs.Checks.{length_part, spline_over, spline_wild, spline_pass, splines_end}
 use Rattle.write_judge.proofs.judge_splines.Goals as goal
 
 pub loop-i-init : goal.loop-i-init

@@ -3,7 +3,7 @@ use mathlib.Core.Path.{◌≡◌}
 use mathlib.Core.List.{List}
 use lib.IntN.{ℤ}
 use lib.Ieee.{Float}
-use Rattle.writer.specs.declared.WriteAnswer.{WriteAnswer}
+use Rattle.writer.specs.WriteAnswer.{WriteAnswer}
 use Rattle.polyline.specs.Read.{PointsOutcome, leaves}
 use Rattle.told.specs.Told.{told_write, told_in}
 use Rattle.told.specs.declared.Told.{Told}
