@@ -7,7 +7,7 @@ use lib.ListN.{length, take, get_or}
 use lib.Seq.{get_or-take}
 use lib.Ieee.{Float, nan}
 use Rattle.buffers.proofs.Fronts.{take_onto}
-use Rattle.walk.specs.declared.Walked.TheVariants.{Points, Room}
+use Rattle.walk.specs.Walked.{Points, Room}
 use Rattle.walk.specs.Walk.{PointToDraw, Walk, More, Ended, walk_in, last_multiplier, flat, to_draw_at, walked_of, WalkedOn}
 use Rattle.walk.proofs.Walking.{length_flat}
 use Rattle.walk.proofs.Fuel.{walk_within, walk_two}
@@ -25,7 +25,7 @@ pub walked-got : (room : ℕ) (path o e : List Float) (n : ℕ) → Points n ≡
 walked-got room path o e n a b = go (walk_in room path) refl a b
   where
     go : (w : Walk) → walk_in room path ≡ w → Points n ≡ walked_of w → WalkedOn w o e → Taken room path e n
-    go More h a b = absurd (let z : ◌≡◌ {A = ℕ} 0 1 = cc in omega arith)
+    go More h a b = absurd (cc)
     go (Ended xs) h a b =
         let k : n ≡ length xs = cc in
         let l : length (flat xs) ≡ 3 * n = length_flat xs ∙ ap (λ (i : ℕ). 3 * i) (sym k) in
@@ -43,7 +43,7 @@ walked_none room path a = go (walk_in room path) a
   where
     go : (w : Walk) → Room ≡ walked_of w → w ≡ More
     go More a = refl
-    go (Ended xs) a = absurd (let z : ◌≡◌ {A = ℕ} 0 1 = cc in omega arith)
+    go (Ended xs) a = absurd (cc)
 
 -- ---- point by point
 

@@ -16,7 +16,7 @@ use Rattle.walk.specs.Walk.{point_at, stretch_of, PointToDraw, to_draw, Walk, Mo
 
 -- no walk needs more points and has ended
 never : {A : Type 0} {xs : List PointToDraw} → More ≡ Ended xs → A
-never e = absurd (let z : ◌≡◌ {A = ℕ} 0 1 = cc in omega arith)
+never e = absurd (cc)
 
 -- a walk that ends after one point ends with the rest of it
 record Rest (q : Point) (m : Float) (xs : List PointToDraw) (w : Walk) : Type 0 where

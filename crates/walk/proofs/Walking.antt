@@ -12,8 +12,7 @@ use Rattle.buffers.proofs.Fronts.{onto_none, onto_over, sets_onto}
 use Rattle.curve.specs.declared.Point.{Point}
 use Rattle.walk.specs.declared.Stretch.{Stretch}
 use Rattle.walk.specs.declared.Stretch.TheVariants.{Ends, Emits}
-use Rattle.walk.specs.declared.Walked.{Walked}
-use Rattle.walk.specs.declared.Walked.TheVariants.{Points, Room}
+use Rattle.walk.specs.Walked.{Walked, Points, Room}
 use Rattle.walk.specs.Walk.{point_at, stretch_of, PointToDraw, to_draw, Walk, More, Ended, before, walk_from, walk_in, flat, walked_of, WalkedOn}
 
 -- ---- three numbers a point

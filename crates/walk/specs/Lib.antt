@@ -1,2 +1,3 @@
 -- The definitions of the crate `walk`.
+pub mod Walked
 pub mod Walk

@@ -10,8 +10,7 @@ use Rattle.curve.specs.declared.Point.{Point}
 use Rattle.curve.specs.Points.{add_point, sub_point, mul_point}
 use Rattle.walk.specs.declared.Stretch.{Stretch}
 use Rattle.walk.specs.declared.Stretch.TheVariants.{Ends, Emits}
-use Rattle.walk.specs.declared.Walked.{Walked}
-use Rattle.walk.specs.declared.Walked.TheVariants.{Points, Room}
+use Rattle.walk.specs.Walked.{Walked, Points, Room}
 
 -- ---- one unit of length
 

@@ -7,17 +7,10 @@ ghost use Rattle.walk.specs.Walk.{distance_of, point_at, stretch_of, walk_in, wa
 use curve::Point;
 
 // Where a unit of length leads: to the path's end with what was walked until there, or to a point before the path's point at the index.
-#[derive(Clone, Copy)]
+#[derive(Clone, Copy, Debug, PartialEq)]
 enum Stretch {
     Ends(Point, f32),
     Emits(Point, usize),
-}
-
-// The points of a walk, three numbers each, or that there is no room for them.
-#[derive(Clone, Copy)]
-pub enum Walked {
-    Points(usize),
-    Room,
 }
 
 // The length of a difference.
@@ -42,20 +35,17 @@ fn point_at(path: &[f32], i: usize) -> Point
 fn onward(path: &[f32], next: usize, from: Point) -> Stretch
     ensures { result ≡ stretch_of path.now next from }
 {
-    let n = path.len() / 2;
-    let mut i = next;
     let mut previous = from;
     let mut walked = 0.0;
-    while i < n {
+    for i in next..path.len() / 2 {
         let q = point_at(path, i);
-        let delta = q.sub(previous);
+        let delta = q - previous;
         let l = distance(delta);
         if walked + l >= 1.0 {
-            return Stretch::Emits(previous.add(delta.scale((1.0 - walked) / l)), i);
+            return Stretch::Emits(previous + delta * ((1.0 - walked) / l), i);
         }
-        walked = walked + l;
+        walked += l;
         previous = q;
-        i += 1;
     }
     Stretch::Ends(previous, walked)
 }
@@ -64,39 +54,37 @@ fn onward(path: &[f32], next: usize, from: Point) -> Stretch
 fn walk_room(len: usize) -> usize
     ensures { result ≡ walk_room len }
 {
-    let n = len / 3;
-    if n <= 8388608 { n } else { 8388608 }
+    (len / 3).min(8388608)
 }
 
-// The walk along a path of one point or more, on the front of out.
-pub fn walk(path: &[f32], out: &mut [f32]) -> Walked
+// The walk along a path of one point or more, on the front of out, three numbers a point: how many points it has, or None, where there is no
+// room for them.
+pub fn walk(path: &[f32], out: &mut [f32]) -> Option<usize>
     requires { 2 ≤ length path.now }
     ensures { (result ≡ walked_of (walk_in (walk_room (length out.old)) path.now))
         × WalkedOn (walk_in (walk_room (length out.old)) path.now) out.old out.new }
 {
     let room = walk_room(out.len());
     if room == 0 {
-        return Walked::Room;
+        return None;
     }
     let mut current = point_at(path, 0);
-    buffers::put3(out, 0, current.x, current.y, 1.0);
+    buffers::put(out, 0, &[current.x, current.y, 1.0]);
     let mut next = 0;
-    let mut n = 1;
-    while n < room {
+    for n in 1..room {
         match onward(path, next, current) {
             Stretch::Ends(q, d) => {
-                buffers::put3(out, 3 * n, q.x, q.y, d);
-                return Walked::Points(n + 1);
+                buffers::put(out, 3 * n, &[q.x, q.y, d]);
+                return Some(n + 1);
             }
             Stretch::Emits(q, i) => {
-                buffers::put3(out, 3 * n, q.x, q.y, 1.0);
+                buffers::put(out, 3 * n, &[q.x, q.y, 1.0]);
                 current = q;
                 next = i;
-                n += 1;
             }
         }
     }
-    Walked::Room
+    None
 }
 
 // The length of a walk of n points, by the last one's multiplier.

@@ -5,28 +5,23 @@ use Rattle.walk.proofs.Reaches.{reach_end, reach_emit, reach_pass}
 use Rattle.walk.proofs.onward.Goals as goal
 
 pub loop-i-init : goal.loop-i-init
-loop-i-init c = (refl, omega arith, refl)
+unfolding stretch_of
+loop-i-init c = refl
 
 pub returns-then-walked-l : goal.returns-then-walked-l
-unfolding stretch_of
 returns-then-walked-l c =
     let l = c.loop-i in
     sym
-    (l.invariant.2
+    (l.invariant
     ∙ reach_emit _ _ l.i l.previous l.walked c.point_at-q.ensures c.sub-delta.ensures
-    c.distance-l.ensures (omega arith) c.scale.ensures c.add.ensures c.if-walked-l.true)
+    c.distance-l.ensures (omega arith) c.mul.ensures c.add.ensures c.if-walked-l.true)
 
 pub loop-i-preserved : goal.loop-i-preserved
 loop-i-preserved c =
-    let l = c.loop-i in (
-      refl,
-      omega arith,
-      l.invariant.2
-          ∙ reach_pass _ _ l.i l.previous l.walked c.point_at-q.ensures c.sub-delta.ensures c.distance-l.ensures (omega arith) c.if-walked-l.false,
-    )
+    let l = c.loop-i in
+    l.invariant ∙ reach_pass _ _ l.i l.previous l.walked c.point_at-q.ensures c.sub-delta.ensures c.distance-l.ensures (omega arith) c.if-walked-l.false
 
 pub returns : goal.returns
-unfolding stretch_of
 returns c =
     let l = c.loop-i in
-    sym (l.invariant.2 ∙ reach_end _ _ l.i l.previous l.walked (omega arith))
+    sym (l.invariant ∙ reach_end _ _ l.i l.previous l.walked (omega arith))

@@ -17,11 +17,8 @@ pub loop-n-init : goal.loop-n-init
 loop-n-init c =
     let a = c.args in
     let room = c.walk_room-room in (
-      omega (arith, c.if-room-eq0.false),
-      omega (arith, room.ensures, c.put3.auto.out),
-      omega (arith, c.well_formed, c.put3.auto.out),
       refl,
-      walking_begin room.result a.path.now a.out.now c.point_at-current.ensures c.if-room-eq0.false (omega arith) c.put3.ensures,
+      walking_begin room.result a.path.now a.out.now c.point_at-current.ensures c.if-room-eq0.false (omega arith) c.put.ensures,
     )
 
 pub returns-in-Ends : goal.returns-in-Ends
@@ -33,8 +30,8 @@ returns-in-Ends c =
     walk_ends room.result l.n a.path.now l.next l.current (omega (arith, c.loop-n-test)) _ _ c.onward.ensures
     c.in-Ends.is in
     rw (← room.ensures)
-    (walking_over room.result a.path.now a.out.now c.point_at-current.ensures c.if-room-eq0.false (omega arith) c.put3.ensures _ _
-    (rw c.put3-in-Ends.ensures (walking_end _ _ (rw e at l.invariant.4) (omega (arith, l.invariant, c.loop-n-test)))))
+    (walking_over room.result a.path.now a.out.now c.point_at-current.ensures c.if-room-eq0.false (omega arith) c.put.ensures _ _
+    (rw c.put-in-Ends.ensures (walking_end _ _ (rw e at l.invariant.1) (omega (arith, l.invariant, c.loop-n-test)))))
 
 pub loop-n-preserved : goal.loop-n-preserved
 loop-n-preserved c =
@@ -44,11 +41,8 @@ loop-n-preserved c =
     let e : walk_from (room.result - l.n) a.path.now l.next l.current ≡ _ =
     walk_emits room.result l.n a.path.now l.next l.current (omega (arith, c.loop-n-test)) _ _ c.onward.ensures
     c.in-Emits.is in (
-      omega (arith, c.loop-n-test),
-      omega arith,
-      omega arith,
-      omega (arith, c.put3-in-Emits.auto.out),
-      rw c.put3-in-Emits.ensures (walking_more _ 1·0 _ (rw e at l.invariant.4) (omega (arith, l.invariant, c.loop-n-test))),
+      omega (arith, c.put-in-Emits.auto.out),
+      rw c.put-in-Emits.ensures (walking_more _ 1·0 _ (rw e at l.invariant.1) (omega (arith, l.invariant, c.loop-n-test))),
     )
 
 pub returns : goal.returns
@@ -58,5 +52,5 @@ returns c =
     let room = c.walk_room-room in
     let e : walk_from (room.result - l.n) a.path.now l.next l.current ≡ _ = walk_none room.result l.n a.path.now l.next l.current (omega arith) in
     rw (← room.ensures)
-    (walking_over room.result a.path.now a.out.now c.point_at-current.ensures c.if-room-eq0.false (omega arith) c.put3.ensures _ _
-    (walking_room _ (rw e at l.invariant.4)))
+    (walking_over room.result a.path.now a.out.now c.point_at-current.ensures c.if-room-eq0.false (omega arith) c.put.ensures _ _
+    (walking_room _ (rw e at l.invariant.1)))
