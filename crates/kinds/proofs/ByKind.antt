@@ -5,11 +5,8 @@ use lib.Dec.{nleb→lt, not_T}
 use lib.Arith.{lt→nleb, le→nltb, lt_of_le-ne}
 use lib.Ieee.{Float, nan, inf, fin, binary32, up, down, lt, eq, le, fits, to_signed, to_unsigned}
 use lib.Ieee.Fits.{down_pos, and_l, eq→eqb}
-use Rattle.kinds.specs.declared.KindI64.{KindI64}
-use Rattle.kinds.specs.declared.KindI64.TheVariants as I64
-use Rattle.kinds.specs.declared.KindI32.{KindI32}
-use Rattle.kinds.specs.declared.KindI32.TheVariants as I32
-use Rattle.kinds.specs.declared.KindU64.TheVariants as U64
+use Rattle.kinds.specs.declared.Kind.{Kind}
+use Rattle.kinds.specs.declared.Kind.TheVariants.{Exact, NotNumber, Below, Above}
 use Rattle.kinds.specs.Kind.{kind_by, cut_i64, cut_i32, cut_u64, within_i32, saturated_i64, saturated_i32, saturated_u64}
 use Rattle.numbers.proofs.Zero.{null, two_to, minus_two_to, under, not_under}
 use Rattle.wholes.proofs.Wholes.{no_fraction}
@@ -264,26 +261,26 @@ unsigned_is w (fin false m e) = go (m * up e / down e) (2 ^ w) (ltb (m * up e / 
     go n p false f g = let l = g tt in omega arith
 
 pub saturated_i64_lem : (x : Float) → saturated_i64 (cut_i64 x) ≡ to_signed 63 x
-saturated_i64_lem x = ap saturated_i64 (sym (signed_one I64.Exact I64.NotNumber I64.Below I64.Above 63 x)) ∙ signed_fold saturated_i64 I64.Exact I64.NotNumber I64.Below I64.Above 63 x ∙ signed_is 63 x
+saturated_i64_lem x = ap saturated_i64 (sym (signed_one Exact NotNumber Below Above 63 x)) ∙ signed_fold saturated_i64 Exact NotNumber Below Above 63 x ∙ signed_is 63 x
 
 pub saturated_i32_lem : (x : Float) → saturated_i32 (cut_i32 x) ≡ to_signed 31 x
-saturated_i32_lem x = ap saturated_i32 (sym (signed_one I32.Exact I32.NotNumber I32.Below I32.Above 31 x)) ∙ signed_fold saturated_i32 I32.Exact I32.NotNumber I32.Below I32.Above 31 x ∙ signed_is 31 x
+saturated_i32_lem x = ap saturated_i32 (sym (signed_one Exact NotNumber Below Above 31 x)) ∙ signed_fold saturated_i32 Exact NotNumber Below Above 31 x ∙ signed_is 31 x
 
 pub saturated_u64_lem : (x : Float) → saturated_u64 (cut_u64 x) ≡ to_unsigned 64 x
-saturated_u64_lem x = ap saturated_u64 (sym (unsigned_one U64.Exact U64.NotNumber U64.Below U64.Above 64 x)) ∙ unsigned_fold saturated_u64 U64.Exact U64.NotNumber U64.Below U64.Above 64 x ∙ unsigned_is 64 x
+saturated_u64_lem x = ap saturated_u64 (sym (unsigned_one Exact NotNumber Below Above 64 x)) ∙ unsigned_fold saturated_u64 Exact NotNumber Below Above 64 x ∙ unsigned_is 64 x
 
 -- ---- the kind for an i32 is that for an i64, held against the smaller range
-abbrev pub narrowed : KindI64 → KindI32
-narrowed (I64.Exact z) = within_i32 z
-narrowed I64.NotNumber = I32.NotNumber
-narrowed I64.Below = I32.Below
-narrowed I64.Above = I32.Above
+abbrev pub narrowed : Kind ℤ → Kind ℤ
+narrowed (Exact z) = within_i32 z
+narrowed NotNumber = NotNumber
+narrowed Below = Below
+narrowed Above = Above
 
-within_plus : (n : ℕ) → cond (ltb n (2 ^ 63)) (within_i32 (pos n)) I32.Above ≡ cond (ltb n (2 ^ 31)) (I32.Exact (pos n)) I32.Above
+within_plus : (n : ℕ) → cond (ltb n (2 ^ 63)) (within_i32 (pos n)) Above ≡ cond (ltb n (2 ^ 31)) (Exact (pos n)) Above
 within_plus n = go (ltb n (2 ^ 63)) (ltb 2147483647 n) (ltb n (2 ^ 31)) (nltb→le n (2 ^ 63)) (ltb→lt 2147483647 n) (nltb→le 2147483647 n) (ltb→lt n (2 ^ 31)) (nltb→le n (2 ^ 31))
   where
     go : (a b d : Bool) → (T (not a) → 2 ^ 63 ≤ n) → (T b → 2147483647 < n) → (T (not b) → n ≤ 2147483647) → (T d → n < 2 ^ 31) → (T (not d) → 2 ^ 31 ≤ n)
-        → cond a (cond b I32.Above (I32.Exact (pos n))) I32.Above ≡ cond d (I32.Exact (pos n)) I32.Above
+        → cond a (cond b Above (Exact (pos n))) Above ≡ cond d (Exact (pos n)) Above
     go true true true p q r s u = let i = q tt in let j = s tt in absurd (omega arith)
     go true true false p q r s u = refl
     go true false true p q r s u = refl
@@ -291,12 +288,12 @@ within_plus n = go (ltb n (2 ^ 63)) (ltb 2147483647 n) (ltb n (2 ^ 31)) (nltb→
     go false b true p q r s u = let i = p tt in let j = s tt in absurd (omega arith)
     go false b false p q r s u = refl
 
-within_minus : (n : ℕ) → cond (leb n (2 ^ 63)) (within_i32 (neg_ℤ (pos n))) I32.Below ≡ cond (leb n (2 ^ 31)) (I32.Exact (neg_ℤ (pos n))) I32.Below
+within_minus : (n : ℕ) → cond (leb n (2 ^ 63)) (within_i32 (neg_ℤ (pos n))) Below ≡ cond (leb n (2 ^ 31)) (Exact (neg_ℤ (pos n))) Below
 within_minus zero = refl
 within_minus (suc n) = go (leb (suc n) (2 ^ 63)) (ltb 2147483647 n) (leb (suc n) (2 ^ 31)) (nleb→lt (suc n) (2 ^ 63)) (ltb→lt 2147483647 n) (nltb→le 2147483647 n) (leb→le (suc n) (2 ^ 31)) (nleb→lt (suc n) (2 ^ 31))
   where
     go : (a b d : Bool) → (T (not a) → 2 ^ 63 < suc n) → (T b → 2147483647 < n) → (T (not b) → n ≤ 2147483647) → (T d → suc n ≤ 2 ^ 31) → (T (not d) → 2 ^ 31 < suc n)
-        → cond a (cond b I32.Below (I32.Exact (negsuc n))) I32.Below ≡ cond d (I32.Exact (negsuc n)) I32.Below
+        → cond a (cond b Below (Exact (negsuc n))) Below ≡ cond d (Exact (negsuc n)) Below
     go true true true p q r s u = let i = q tt in let j = s tt in absurd (omega arith)
     go true true false p q r s u = refl
     go true false true p q r s u = refl
@@ -304,7 +301,7 @@ within_minus (suc n) = go (leb (suc n) (2 ^ 63)) (ltb 2147483647 n) (leb (suc n)
     go false b true p q r s u = let i = p tt in let j = s tt in absurd (omega arith)
     go false b false p q r s u = refl
 
-narrow_is : (x : Float) → signed_kind (λ z. within_i32 z) I32.NotNumber I32.Below I32.Above 63 x ≡ signed_kind I32.Exact I32.NotNumber I32.Below I32.Above 31 x
+narrow_is : (x : Float) → signed_kind (λ z. within_i32 z) NotNumber Below Above 63 x ≡ signed_kind Exact NotNumber Below Above 31 x
 unfolding signed_kind
 narrow_is nan = refl
 narrow_is (inf s) = refl
@@ -312,6 +309,6 @@ narrow_is (fin true m e) = within_minus (m * up e / down e)
 narrow_is (fin false m e) = within_plus (m * up e / down e)
 
 pub narrowed_is : (x : Float) → narrowed (cut_i64 x) ≡ cut_i32 x
-narrowed_is x = ap narrowed (sym (signed_one I64.Exact I64.NotNumber I64.Below I64.Above 63 x)) ∙ signed_fold narrowed I64.Exact I64.NotNumber I64.Below I64.Above 63 x ∙ narrow_is x ∙ signed_one I32.Exact I32.NotNumber I32.Below I32.Above 31 x
+narrowed_is x = ap narrowed (sym (signed_one Exact NotNumber Below Above 63 x)) ∙ signed_fold narrowed Exact NotNumber Below Above 63 x ∙ narrow_is x ∙ signed_one Exact NotNumber Below Above 31 x
 
 -- Assumes nothing.

@@ -7,14 +7,14 @@ use native.Mathlib.Omega.{arith}
 use lib.IntN.{ℤ, pos, negsuc}
 use lib.Dec.{T, T_not, eqb, leb, ltb, ltb→lt, nltb→le}
 use lib.Pow.{pow-add, pow_pos, pow_mono, shl_lt}
-use lib.Ieee.{Float, nan, inf, fin, Format, binary32, prec, emax, low, up, down, round, neg, lt, of_int, fits}
+use lib.Ieee.{Float, nan, inf, fin, Format, binary32, prec, emax, low, up, down, round, neg, lt, of_int, fits, of_bits}
 use lib.Ieee.Fits.{down_pos, and_l, and_r, round-fits}
 use lib.Ieee.Exact.{HasValue, round_exact}
 use lib.Ieee.Back.{round_whole, whole_unique}
 use lib.Ieee.Positive.{num, den, positive, den_pos, own_value}
 use Rattle.wholes.specs.Small.{Small}
 use Rattle.wholes.specs.Whole.{cut, raised, half, whole_by, downward, upward, away}
-use Rattle.numbers.proofs.Zero.{two_to, null, over, under, not_under, above}
+use Rattle.numbers.proofs.Zero.{yes, two_to, null, over, under, not_under, above}
 use Rattle.numbers.proofs.Units.{of_int_is, neg_round}
 use Rattle.numbers.proofs.Order.{lt_yes}
 
@@ -79,7 +79,11 @@ module _ (n d : ℕ) (D : 0 < d) where
       let a = lo in let b = hi in let o = odd_t in let c = two_t in let c1 = two_t1 in
       div-eq_of_lt-le (2 * d) (omega arith) (omega arith)
 
--- ---- a small value
+-- ---- a small value, by the code's two comparisons
+pub small_by : {x : Float} → lt (of_bits binary32 0) x ≡ true → lt x (of_bits binary32 1258291200) ≡ true → Small x
+unfolding of_bits
+small_by p q = record { over = yes p; under = yes q }
+
 pub small_above : (x : Float) → Small x → T (positive x)
 small_above x s = above x (two_to 23) s.over s.under
 
