@@ -4,10 +4,8 @@ use Rattle.std.specs.Prelude.{ℕ, suc, ◌^◌, min, ℤ, pos, negsuc, Float}
 use Rattle.std.specs.Float.{binary32}
 use Rattle.wholes.specs.Whole.{round_of}
 use Rattle.kinds.specs.Kind.{cut_i64, cut_u64}
-use Rattle.kinds.specs.declared.KindI64.{KindI64}
-use Rattle.kinds.specs.declared.KindI64.TheVariants as I64
-use Rattle.kinds.specs.declared.KindU64.{KindU64}
-use Rattle.kinds.specs.declared.KindU64.TheVariants as U64
+use Rattle.kinds.specs.declared.Kind.{Kind}
+use Rattle.kinds.specs.declared.Kind.TheVariants.{Exact, NotNumber, Below, Above}
 
 abbrev pub clip : ℤ → ℕ
 clip (pos n) = min n (2 ^ 24)
@@ -17,29 +15,29 @@ abbrev pub clip_past : ℤ → ℕ
 clip_past (pos n) = suc (min n (2 ^ 24))
 clip_past (negsuc n) = 0
 
-abbrev pub row_first_by : KindI64 → ℕ
-row_first_by (I64.Exact z) = clip z
-row_first_by I64.NotNumber = 0
-row_first_by I64.Below = 0
-row_first_by I64.Above = 2 ^ 24
+abbrev pub row_first_by : Kind ℤ → ℕ
+row_first_by (Exact z) = clip z
+row_first_by NotNumber = 0
+row_first_by Below = 0
+row_first_by Above = 2 ^ 24
 
-abbrev pub row_past_by : KindI64 → ℕ
-row_past_by (I64.Exact z) = clip_past z
-row_past_by I64.NotNumber = 1
-row_past_by I64.Below = 0
-row_past_by I64.Above = 0
+abbrev pub row_past_by : Kind ℤ → ℕ
+row_past_by (Exact z) = clip_past z
+row_past_by NotNumber = 1
+row_past_by Below = 0
+row_past_by Above = 0
 
-abbrev pub column_first_by : KindU64 → ℕ
-column_first_by (U64.Exact n) = min n (2 ^ 24)
-column_first_by U64.NotNumber = 0
-column_first_by U64.Below = 0
-column_first_by U64.Above = 2 ^ 24
+abbrev pub column_first_by : Kind ℕ → ℕ
+column_first_by (Exact n) = min n (2 ^ 24)
+column_first_by NotNumber = 0
+column_first_by Below = 0
+column_first_by Above = 2 ^ 24
 
-abbrev pub column_past_by : KindU64 → ℕ
-column_past_by (U64.Exact n) = suc (min n (2 ^ 24))
-column_past_by U64.NotNumber = 1
-column_past_by U64.Below = 1
-column_past_by U64.Above = 0
+abbrev pub column_past_by : Kind ℕ → ℕ
+column_past_by (Exact n) = suc (min n (2 ^ 24))
+column_past_by NotNumber = 1
+column_past_by Below = 1
+column_past_by Above = 0
 
 unfoldable pub row_first_of : Float → ℕ
 row_first_of x = row_first_by (cut_i64 (round_of binary32 x))
