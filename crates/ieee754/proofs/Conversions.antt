@@ -13,12 +13,8 @@ use lib.Ieee.Bits.{is_false}
 use lib.Ieee.Fits.{down_pos}
 use Rattle.to_f32.specs.Narrow.{narrow}
 use Rattle.kinds.specs.Kind.{cut_i64, cut_i32, cut_u64, saturated_i64, saturated_i32, saturated_u64}
-use Rattle.kinds.specs.declared.KindI64.{KindI64}
-use Rattle.kinds.specs.declared.KindI64.TheVariants as I64
-use Rattle.kinds.specs.declared.KindI32.{KindI32}
-use Rattle.kinds.specs.declared.KindI32.TheVariants as I32
-use Rattle.kinds.specs.declared.KindU64.{KindU64}
-use Rattle.kinds.specs.declared.KindU64.TheVariants as U64
+use Rattle.kinds.specs.declared.Kind.{Kind}
+use Rattle.kinds.specs.declared.Kind.TheVariants.{Exact, NotNumber, Below, Above}
 use Rattle.kinds.proofs.OneKind.{signed_kind, unsigned_kind, signed_one, unsigned_one}
 use Rattle.kinds.proofs.ByKind.{saturated_i64_lem, saturated_i32_lem, saturated_u64_lem}
 use Rattle.ieee754.specs.Ieee754.{Cut, ToSigned, ToUnsigned, Conversions, NearestFraction, too_large}
@@ -95,14 +91,14 @@ module _ {K L : Type 0} (g : K → L) (t : Float → L) where
     no_number = sym (e nan) ∙ ap g s.no_number;
   }
 
-kind_i64 : ToSigned I64.Exact I64.NotNumber I64.Below I64.Above 63 cut_i64
-kind_i64 = signed_told (λ (k : KindI64). k) cut_i64 I64.Exact I64.NotNumber I64.Below I64.Above 63 (signed_kind I64.Exact I64.NotNumber I64.Below I64.Above 63) (signed_one I64.Exact I64.NotNumber I64.Below I64.Above 63) (signed_kind_lem I64.Exact I64.NotNumber I64.Below I64.Above 63)
+kind_i64 : ToSigned Exact NotNumber Below Above 63 cut_i64
+kind_i64 = signed_told (λ (k : Kind ℤ). k) cut_i64 Exact NotNumber Below Above 63 (signed_kind Exact NotNumber Below Above 63) (signed_one Exact NotNumber Below Above 63) (signed_kind_lem Exact NotNumber Below Above 63)
 
-kind_i32 : ToSigned I32.Exact I32.NotNumber I32.Below I32.Above 31 cut_i32
-kind_i32 = signed_told (λ (k : KindI32). k) cut_i32 I32.Exact I32.NotNumber I32.Below I32.Above 31 (signed_kind I32.Exact I32.NotNumber I32.Below I32.Above 31) (signed_one I32.Exact I32.NotNumber I32.Below I32.Above 31) (signed_kind_lem I32.Exact I32.NotNumber I32.Below I32.Above 31)
+kind_i32 : ToSigned Exact NotNumber Below Above 31 cut_i32
+kind_i32 = signed_told (λ (k : Kind ℤ). k) cut_i32 Exact NotNumber Below Above 31 (signed_kind Exact NotNumber Below Above 31) (signed_one Exact NotNumber Below Above 31) (signed_kind_lem Exact NotNumber Below Above 31)
 
-kind_u64 : ToUnsigned U64.Exact U64.NotNumber U64.Below U64.Above 64 cut_u64
-kind_u64 = unsigned_told (λ (k : KindU64). k) cut_u64 U64.Exact U64.NotNumber U64.Below U64.Above 64 (unsigned_kind U64.Exact U64.NotNumber U64.Below U64.Above 64) (unsigned_one U64.Exact U64.NotNumber U64.Below U64.Above 64) (unsigned_kind_lem U64.Exact U64.NotNumber U64.Below U64.Above 64)
+kind_u64 : ToUnsigned Exact NotNumber Below Above 64 cut_u64
+kind_u64 = unsigned_told (λ (k : Kind ℕ). k) cut_u64 Exact NotNumber Below Above 64 (unsigned_kind Exact NotNumber Below Above 64) (unsigned_one Exact NotNumber Below Above 64) (unsigned_kind_lem Exact NotNumber Below Above 64)
 
 -- ---- to floats
 in_64 : (f : Format) (n : ℕ) → n ≤ 2 ^ 64 → n < too_large f * 1
@@ -128,9 +124,9 @@ conversions = record {
   narrowed_large = λ f s m e l. round_infinite f s (m * up e) (down e) (down_pos e) l;
   narrowed_infinity = λ f s. refl;
   narrowed_no_number = λ f. refl;
-  as_i64_lem = signed_told saturated_i64 (to_signed 63) I64.Exact I64.NotNumber I64.Below I64.Above 63 cut_i64 saturated_i64_lem kind_i64;
-  as_i32 = signed_told saturated_i32 (to_signed 31) I32.Exact I32.NotNumber I32.Below I32.Above 31 cut_i32 saturated_i32_lem kind_i32;
-  as_u64 = unsigned_told saturated_u64 (to_unsigned 64) U64.Exact U64.NotNumber U64.Below U64.Above 64 cut_u64 saturated_u64_lem kind_u64;
+  as_i64_lem = signed_told saturated_i64 (to_signed 63) Exact NotNumber Below Above 63 cut_i64 saturated_i64_lem kind_i64;
+  as_i32 = signed_told saturated_i32 (to_signed 31) Exact NotNumber Below Above 31 cut_i32 saturated_i32_lem kind_i32;
+  as_u64 = unsigned_told saturated_u64 (to_unsigned 64) Exact NotNumber Below Above 64 cut_u64 saturated_u64_lem kind_u64;
   kind_i64 = kind_i64;
   kind_i32 = kind_i32;
   kind_u64 = kind_u64;

@@ -11,9 +11,7 @@ use Rattle.roots.specs.Length.{squares, length_of}
 use Rattle.wholes.specs.Whole.{floor_of, ceil_of, round_of}
 use Rattle.to_f32.specs.Narrow.{narrow}
 use Rattle.kinds.specs.Kind.{cut_i64, cut_i32, cut_u64}
-use Rattle.kinds.specs.declared.KindI64.TheVariants as I64
-use Rattle.kinds.specs.declared.KindI32.TheVariants as I32
-use Rattle.kinds.specs.declared.KindU64.TheVariants as U64
+use Rattle.kinds.specs.declared.Kind.TheVariants.{Exact, NotNumber, Below, Above}
 
 -- ---- the nearest value, a tie to the even one
 
@@ -140,9 +138,9 @@ pub record Conversions : Type 0 where
   pub as_i64_lem : ToSigned (λ (z : ℤ). z) (pos 0) (neg_ℤ (pos (2 ^ 63))) (pos (2 ^ 63 - 1)) 63 (to_signed 63)
   pub as_i32 : ToSigned (λ (z : ℤ). z) (pos 0) (neg_ℤ (pos (2 ^ 31))) (pos (2 ^ 31 - 1)) 31 (to_signed 31)
   pub as_u64 : ToUnsigned (λ (n : ℕ). n) 0 0 (2 ^ 64 - 1) 64 (to_unsigned 64)
-  pub kind_i64 : ToSigned I64.Exact I64.NotNumber I64.Below I64.Above 63 cut_i64
-  pub kind_i32 : ToSigned I32.Exact I32.NotNumber I32.Below I32.Above 31 cut_i32
-  pub kind_u64 : ToUnsigned U64.Exact U64.NotNumber U64.Below U64.Above 64 cut_u64
+  pub kind_i64 : ToSigned Exact NotNumber Below Above 63 cut_i64
+  pub kind_i32 : ToSigned Exact NotNumber Below Above 31 cut_i32
+  pub kind_u64 : ToUnsigned Exact NotNumber Below Above 64 cut_u64
 
 -- ---- all of it
 pub record Ieee754 : Type 0 where

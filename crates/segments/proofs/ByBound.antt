@@ -14,10 +14,8 @@ use lib.Ieee.Exact.{HasValue}
 use Rattle.numbers.specs.Arith.{◌⊕◌, ◌⊖◌}
 use Rattle.wholes.specs.Whole.{half, whole_by, round_of}
 use Rattle.kinds.specs.Kind.{within, kind_by, cut_i64, cut_u64}
-use Rattle.kinds.specs.declared.KindI64.{KindI64}
-use Rattle.kinds.specs.declared.KindI64.TheVariants as I64
-use Rattle.kinds.specs.declared.KindU64.{KindU64}
-use Rattle.kinds.specs.declared.KindU64.TheVariants as U64
+use Rattle.kinds.specs.declared.Kind.{Kind}
+use Rattle.kinds.specs.declared.Kind.TheVariants.{Exact, Below, Above}
 use Rattle.wholes.proofs.Quotients.{round_value}
 use Rattle.segments.specs.Ranges.{row_begins, row_lasts, column_begins, column_lasts, has_row, has_column}
 use Rattle.segments.specs.Bounds.{Bound, under, at, over, rounded, or_zero, begins_by, lasts_to, RowsByKind, ColumnsByKind}
@@ -64,8 +62,8 @@ below_limit limit over y t = absurd t
 
 -- ---- a whole number held to the range
 
-abbrev row_at : ℤ → KindI64
-row_at z = within I64.Exact I64.Below I64.Above (negsuc 9223372036854775807) (pos 9223372036854775807) z
+abbrev row_at : ℤ → Kind ℤ
+row_at z = within Exact Below Above (negsuc 9223372036854775807) (pos 9223372036854775807) z
 
 row_lasts_at : (z : ℤ) (y : ℕ) → row_lasts (row_at z) y ≡ lasts_to 9223372036854775808 (at z) y
 row_lasts_at (pos n) y = go (ltb 9223372036854775807 n) (ltb→lt 9223372036854775807 n) (nltb→le 9223372036854775807 n)
@@ -76,12 +74,12 @@ row_lasts_at (pos n) y = go (ltb 9223372036854775807 n) (ltb→lt 92233720368547
     inside : n ≤ 9223372036854775807 → n < 9223372036854775808
     inside h = omega arith
 
-    go : (t : Bool) → (T t → 9223372036854775807 < n) → (T (not t) → n ≤ 9223372036854775807) → row_lasts (cond t I64.Above (I64.Exact (pos n))) y ≡ ltb n 9223372036854775808 && leb y n
+    go : (t : Bool) → (T t → 9223372036854775807 < n) → (T (not t) → n ≤ 9223372036854775807) → row_lasts (cond t Above (Exact (pos n))) y ≡ ltb n 9223372036854775808 && leb y n
     go true f g = ap (λ (b : Bool). b && leb y n) (sym (is_false (ltb n 9223372036854775808) (le→nltb n 9223372036854775808 (beyond (f tt)))))
     go false f g = ap (λ (b : Bool). b && leb y n) (sym (is_true (ltb n 9223372036854775808) (lt→ltb n 9223372036854775808 (inside (g tt)))))
 row_lasts_at (negsuc n) y = go (ltb 9223372036854775807 n)
   where
-    go : (t : Bool) → row_lasts (cond t I64.Below (I64.Exact (negsuc n))) y ≡ false
+    go : (t : Bool) → row_lasts (cond t Below (Exact (negsuc n))) y ≡ false
     go true = refl
     go false = refl
 
@@ -91,17 +89,17 @@ row_begins_at (pos n) y h = go (ltb 9223372036854775807 n) (ltb→lt 92233720368
     beyond : 9223372036854775807 < n → y < n
     beyond k = omega arith
 
-    go : (t : Bool) → (T t → 9223372036854775807 < n) → row_begins (cond t I64.Above (I64.Exact (pos n))) y ≡ leb n y
+    go : (t : Bool) → (T t → 9223372036854775807 < n) → row_begins (cond t Above (Exact (pos n))) y ≡ leb n y
     go true f = sym (is_false (leb n y) (lt→nleb n y (beyond (f tt))))
     go false f = refl
 row_begins_at (negsuc n) y h = go (ltb 9223372036854775807 n)
   where
-    go : (t : Bool) → row_begins (cond t I64.Below (I64.Exact (negsuc n))) y ≡ true
+    go : (t : Bool) → row_begins (cond t Below (Exact (negsuc n))) y ≡ true
     go true = refl
     go false = refl
 
-abbrev column_at : ℤ → KindU64
-column_at z = within (λ (v : ℤ). U64.Exact (nat_abs v)) U64.Below U64.Above (pos 0) (pos 18446744073709551615) z
+abbrev column_at : ℤ → Kind ℕ
+column_at z = within (λ (v : ℤ). Exact (nat_abs v)) Below Above (pos 0) (pos 18446744073709551615) z
 
 column_lasts_at : (z : ℤ) (x : ℕ) → column_lasts (column_at z) x ≡ lasts_to 18446744073709551616 (or_zero (at z)) x
 column_lasts_at (pos n) x = go (ltb 18446744073709551615 n) (ltb n 0) (ltb→lt 18446744073709551615 n) (nltb→le 18446744073709551615 n) (ltb→lt n 0)
@@ -116,7 +114,7 @@ column_lasts_at (pos n) x = go (ltb 18446744073709551615 n) (ltb n 0) (ltb→lt 
     none h = omega arith
 
     go : (t u : Bool) → (T t → 18446744073709551615 < n) → (T (not t) → n ≤ 18446744073709551615) → (T u → n < 0)
-        → column_lasts (cond t U64.Above (cond u U64.Below (U64.Exact n))) x ≡ ltb n 18446744073709551616 && leb x n
+        → column_lasts (cond t Above (cond u Below (Exact n))) x ≡ ltb n 18446744073709551616 && leb x n
     go true u f g e = ap (λ (b : Bool). b && leb x n) (sym (is_false (ltb n 18446744073709551616) (le→nltb n 18446744073709551616 (beyond (f tt)))))
     go false true f g e = absurd (none (e tt))
     go false false f g e = ap (λ (b : Bool). b && leb x n) (sym (is_true (ltb n 18446744073709551616) (lt→ltb n 18446744073709551616 (inside (g tt)))))
@@ -131,7 +129,7 @@ column_begins_at (pos n) x h = go (ltb 18446744073709551615 n) (ltb n 0) (ltb→
     none : n < 0 → ⊥
     none k = omega arith
 
-    go : (t u : Bool) → (T t → 18446744073709551615 < n) → (T u → n < 0) → column_begins (cond t U64.Above (cond u U64.Below (U64.Exact n))) x ≡ leb n x
+    go : (t u : Bool) → (T t → 18446744073709551615 < n) → (T u → n < 0) → column_begins (cond t Above (cond u Below (Exact n))) x ≡ leb n x
     go true u f e = sym (is_false (leb n x) (lt→nleb n x (beyond (f tt))))
     go false true f e = absurd (none (e tt))
     go false false f e = refl

@@ -3,15 +3,13 @@ use mathlib.Core.Path.{◌≡◌, refl, sym, ap, ◌∙◌}
 use mathlib.Core.Bool.{Bool, true, false, ◌&&◌}
 use Prim.Native.Nat.{ℕ, suc, ◌^◌, ◌≤◌, ◌<◌, min}
 use native.Mathlib.Omega.{arith}
-use lib.IntN.{pos, negsuc}
+use lib.IntN.{ℤ, pos, negsuc}
 use lib.Dec.{T, leb, ltb, leb→le, le→leb, leb-zero, leb-suc-zero}
 use lib.Arith.{lt→nleb}
 use lib.Ieee.Bits.{is_false}
 use Rattle.numbers.specs.Arith.{◌⊕◌, ◌⊖◌}
-use Rattle.kinds.specs.declared.KindI64.{KindI64}
-use Rattle.kinds.specs.declared.KindI64.TheVariants as I64
-use Rattle.kinds.specs.declared.KindU64.{KindU64}
-use Rattle.kinds.specs.declared.KindU64.TheVariants as U64
+use Rattle.kinds.specs.declared.Kind.{Kind}
+use Rattle.kinds.specs.declared.Kind.TheVariants.{Exact, NotNumber, Below, Above}
 use Rattle.ends.specs.Ends.{row_first_by, row_past_by, column_first_by, column_past_by, row_first_of, row_past_of, column_first_of, column_past_of}
 use Rattle.segments.specs.Ranges.{row_end, column_end, row_begins, row_lasts, column_begins, column_lasts, has_row, has_column, row_first, row_past, column_first, column_past}
 use Rattle.segments.specs.declared.Segment.{Segment}
@@ -38,33 +36,33 @@ past_all y h = sym (is_false (leb 16777216 y) (lt→nleb 16777216 y h))
 
 -- ---- rows
 
-row_begins_lem : (k : KindI64) (y : ℕ) → y < 2 ^ 24 → row_begins k y ≡ leb (row_first_by k) y
-row_begins_lem (I64.Exact (pos n)) y h = begins_cut n y h
-row_begins_lem (I64.Exact (negsuc n)) y h = sym (leb-zero y)
-row_begins_lem I64.NotNumber y h = refl
-row_begins_lem I64.Below y h = sym (leb-zero y)
-row_begins_lem I64.Above y h = past_all y h
+row_begins_lem : (k : Kind ℤ) (y : ℕ) → y < 2 ^ 24 → row_begins k y ≡ leb (row_first_by k) y
+row_begins_lem (Exact (pos n)) y h = begins_cut n y h
+row_begins_lem (Exact (negsuc n)) y h = sym (leb-zero y)
+row_begins_lem NotNumber y h = refl
+row_begins_lem Below y h = sym (leb-zero y)
+row_begins_lem Above y h = past_all y h
 
-row_lasts_lem : (k : KindI64) (y : ℕ) → y < 2 ^ 24 → row_lasts k y ≡ ltb y (row_past_by k)
-row_lasts_lem (I64.Exact (pos n)) y h = lasts_cut n y h
-row_lasts_lem (I64.Exact (negsuc n)) y h = sym (leb-suc-zero y)
-row_lasts_lem I64.NotNumber y h = lasts_cut 0 y h
-row_lasts_lem I64.Below y h = sym (leb-suc-zero y)
-row_lasts_lem I64.Above y h = sym (leb-suc-zero y)
+row_lasts_lem : (k : Kind ℤ) (y : ℕ) → y < 2 ^ 24 → row_lasts k y ≡ ltb y (row_past_by k)
+row_lasts_lem (Exact (pos n)) y h = lasts_cut n y h
+row_lasts_lem (Exact (negsuc n)) y h = sym (leb-suc-zero y)
+row_lasts_lem NotNumber y h = lasts_cut 0 y h
+row_lasts_lem Below y h = sym (leb-suc-zero y)
+row_lasts_lem Above y h = sym (leb-suc-zero y)
 
 -- ---- columns
 
-column_begins_lem : (k : KindU64) (x : ℕ) → x < 2 ^ 24 → column_begins k x ≡ leb (column_first_by k) x
-column_begins_lem (U64.Exact n) x h = begins_cut n x h
-column_begins_lem U64.NotNumber x h = refl
-column_begins_lem U64.Below x h = refl
-column_begins_lem U64.Above x h = past_all x h
+column_begins_lem : (k : Kind ℕ) (x : ℕ) → x < 2 ^ 24 → column_begins k x ≡ leb (column_first_by k) x
+column_begins_lem (Exact n) x h = begins_cut n x h
+column_begins_lem NotNumber x h = refl
+column_begins_lem Below x h = refl
+column_begins_lem Above x h = past_all x h
 
-column_lasts_lem : (k : KindU64) (x : ℕ) → x < 2 ^ 24 → column_lasts k x ≡ ltb x (column_past_by k)
-column_lasts_lem (U64.Exact n) x h = lasts_cut n x h
-column_lasts_lem U64.NotNumber x h = lasts_cut 0 x h
-column_lasts_lem U64.Below x h = lasts_cut 0 x h
-column_lasts_lem U64.Above x h = sym (leb-suc-zero x)
+column_lasts_lem : (k : Kind ℕ) (x : ℕ) → x < 2 ^ 24 → column_lasts k x ≡ ltb x (column_past_by k)
+column_lasts_lem (Exact n) x h = lasts_cut n x h
+column_lasts_lem NotNumber x h = lasts_cut 0 x h
+column_lasts_lem Below x h = lasts_cut 0 x h
+column_lasts_lem Above x h = sym (leb-suc-zero x)
 
 -- ---- a segment
 

@@ -1,58 +1,56 @@
 -- The rows and columns of a segment: from R(c - d) through R(c + d), by the centre c and the distance d. Definitions only.
 -- R rounds half away from zero. Each of the four ends is told by its kind: an exact number, no number, or below or above the range of the conversion, which is an i64's for rows and a u64's for columns.
-use Rattle.std.specs.Prelude.{Bool, true, false, ◌&&◌, ℕ, leb, pos, negsuc, Float}
+use Rattle.std.specs.Prelude.{Bool, true, false, ◌&&◌, ℕ, leb, ℤ, pos, negsuc, Float}
 use Rattle.std.specs.Float.{binary32}
 use Rattle.numbers.specs.Arith.{◌⊕◌, ◌⊖◌}
 use Rattle.wholes.specs.Whole.{round_of}
 use Rattle.kinds.specs.Kind.{cut_i64, cut_u64}
-use Rattle.kinds.specs.declared.KindI64.{KindI64}
-use Rattle.kinds.specs.declared.KindI64.TheVariants as I64
-use Rattle.kinds.specs.declared.KindU64.{KindU64}
-use Rattle.kinds.specs.declared.KindU64.TheVariants as U64
+use Rattle.kinds.specs.declared.Kind.{Kind}
+use Rattle.kinds.specs.declared.Kind.TheVariants.{Exact, NotNumber, Below, Above}
 use Rattle.ends.specs.Ends.{row_first_of, row_past_of, column_first_of, column_past_of}
 use Rattle.segments.specs.declared.Segment.{Segment}
 use Rattle.segments.specs.declared.Range.{Range}
 
 -- ---- the ends, by the float that is one
 
-abbrev pub row_end : Float → KindI64
+abbrev pub row_end : Float → Kind ℤ
 row_end x = cut_i64 (round_of binary32 x)
 
-abbrev pub column_end : Float → KindU64
+abbrev pub column_end : Float → Kind ℕ
 column_end x = cut_u64 (round_of binary32 x)
 
 -- ---- rows: no number counts 0, and a last row that is negative or above the range leaves none
 
-abbrev pub row_begins : KindI64 → ℕ → Bool
-row_begins (I64.Exact (pos n)) y = leb n y
-row_begins (I64.Exact (negsuc n)) y = true
-row_begins I64.NotNumber y = leb 0 y
-row_begins I64.Below y = true
-row_begins I64.Above y = false
+abbrev pub row_begins : Kind ℤ → ℕ → Bool
+row_begins (Exact (pos n)) y = leb n y
+row_begins (Exact (negsuc n)) y = true
+row_begins NotNumber y = leb 0 y
+row_begins Below y = true
+row_begins Above y = false
 
-abbrev pub row_lasts : KindI64 → ℕ → Bool
-row_lasts (I64.Exact (pos n)) y = leb y n
-row_lasts (I64.Exact (negsuc n)) y = false
-row_lasts I64.NotNumber y = leb y 0
-row_lasts I64.Below y = false
-row_lasts I64.Above y = false
+abbrev pub row_lasts : Kind ℤ → ℕ → Bool
+row_lasts (Exact (pos n)) y = leb y n
+row_lasts (Exact (negsuc n)) y = false
+row_lasts NotNumber y = leb y 0
+row_lasts Below y = false
+row_lasts Above y = false
 
 unfoldable pub has_row : Segment → ℕ → Bool
 has_row s y = row_begins (row_end (s.center_y ⊖ s.maximum_distance)) y && row_lasts (row_end (s.center_y ⊕ s.maximum_distance)) y
 
 -- ---- columns: no number, and what is below the range, counts 0 at either end; a last column above the range leaves none
 
-abbrev pub column_begins : KindU64 → ℕ → Bool
-column_begins (U64.Exact n) x = leb n x
-column_begins U64.NotNumber x = leb 0 x
-column_begins U64.Below x = leb 0 x
-column_begins U64.Above x = false
+abbrev pub column_begins : Kind ℕ → ℕ → Bool
+column_begins (Exact n) x = leb n x
+column_begins NotNumber x = leb 0 x
+column_begins Below x = leb 0 x
+column_begins Above x = false
 
-abbrev pub column_lasts : KindU64 → ℕ → Bool
-column_lasts (U64.Exact n) x = leb x n
-column_lasts U64.NotNumber x = leb x 0
-column_lasts U64.Below x = leb x 0
-column_lasts U64.Above x = false
+abbrev pub column_lasts : Kind ℕ → ℕ → Bool
+column_lasts (Exact n) x = leb x n
+column_lasts NotNumber x = leb x 0
+column_lasts Below x = leb x 0
+column_lasts Above x = false
 
 unfoldable pub has_column : Segment → ℕ → Bool
 has_column s x = column_begins (column_end (s.center_x ⊖ s.maximum_distance)) x && column_lasts (column_end (s.center_x ⊕ s.maximum_distance)) x

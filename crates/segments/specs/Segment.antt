@@ -1,5 +1,5 @@
 -- `add_segment`: which points of the walk make a segment, and its eight floats. Definitions only.
-use Rattle.std.specs.Prelude.{Bool, true, false, ◌||◌, List, [], ◌∷◌, ℕ, ◌+◌, ◌*◌, get_or, Float}
+use Rattle.std.specs.Prelude.{Bool, true, false, ◌||◌, List, [], ◌∷◌, ℕ, ◌+◌, ◌*◌, get_or, Option, None, Some, Float}
 use Rattle.std.specs.Float.{nan, binary32}
 use Rattle.std.specs.Float.Ieee.{neg, eq}
 use Rattle.numbers.specs.Arith.{f, 0·0, 0·25, 1·0, ◌⊖◌, ◌⊗◌, ◌⊘◌}
@@ -7,8 +7,6 @@ use Rattle.numbers.specs.Magnitude.{abs_of, top_of, is_infinite}
 use Rattle.roots.specs.Root.{sqrt_of}
 use Rattle.approximations.specs.Ln.{ln_of}
 use Rattle.segments.specs.declared.Segment.{Segment}
-use Rattle.segments.specs.declared.Added.{Added}
-use Rattle.segments.specs.declared.Added.TheVariants.{Made, Nothing}
 
 -- the Rust's literals
 abbrev 0·01 : Float
@@ -56,11 +54,11 @@ segment_of cx cy intensity c0 c1 c2 sigma high = record {
   color2 = c2;
 }
 
-abbrev pub unless : Bool → Segment → Added
-unless true s = Nothing
-unless false s = Made s
+abbrev pub unless : Bool → Segment → Option Segment
+unless true s = None
+unless false s = Some s
 
-unfoldable pub add_segment : Float → Float → Float → Float → Float → Float → Float → Bool → Added
+unfoldable pub add_segment : Float → Float → Float → Float → Float → Float → Float → Bool → Option Segment
 add_segment cx cy intensity c0 c1 c2 sigma high = unless (skipped intensity sigma) (segment_of cx cy intensity c0 c1 c2 sigma high)
 
 -- number j of segment i of a flat list

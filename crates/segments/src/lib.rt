@@ -8,7 +8,7 @@ ghost use Rattle.segments.specs.Ranges.{rows_of, columns_of};
 
 pub use ends::{column_first, column_past};
 
-#[derive(Clone, Copy)]
+#[derive(Clone, Copy, Debug, PartialEq)]
 pub struct Segment {
     pub center_x: f32,
     pub center_y: f32,
@@ -20,37 +20,26 @@ pub struct Segment {
     pub color2: f32,
 }
 
-// What a point of the walk makes.
-#[derive(Clone, Copy)]
-pub enum Added {
-    Made(Segment),
-    Nothing,
-}
-
 // Rows or columns: from the first up to, not including, the one past the last.
-#[derive(Clone, Copy)]
+#[derive(Clone, Copy, Debug, PartialEq, Eq)]
 pub struct Range {
     pub first: u32,
     pub past: u32,
 }
 
 // Whether a point makes no segment.
+#[tactic(auto, unfolding(crate::specs::Segment::skipped))]
 fn skipped(intensity: f32, sigma: f32) -> bool
     ensures { result ≡ skipped intensity sigma }
 {
-    if numbers::is_infinite(sigma) {
-        return true;
-    }
-    if sigma == 0.0 {
-        return true;
-    }
-    if numbers::is_infinite(1.0 / sigma) {
-        return true;
-    }
-    numbers::is_infinite(intensity)
+    numbers::is_infinite(sigma)
+        || sigma == 0.0
+        || numbers::is_infinite(1.0 / sigma)
+        || numbers::is_infinite(intensity)
 }
 
 // The greatest magnitude of 0.01 and the colours, each times the intensity.
+#[tactic(auto, unfolding(crate::specs::Segment::max_color))]
 fn max_color(intensity: f32, c0: f32, c1: f32, c2: f32) -> f32
     ensures { result ≡ max_color intensity c0 c1 c2 }
 {
@@ -74,6 +63,8 @@ fn max_distance(sigma: f32, max_color: f32, high_precision: bool) -> f32
     roots::root(-2.0 * sigma * sigma * (faintest - approximations::ln(max_color)))
 }
 
+// The segment that a point of the walk makes, if it makes one.
+#[tactic(auto, unfolding(crate::specs::Segment::add_segment))]
 pub fn add_segment(
     center_x: f32,
     center_y: f32,
@@ -83,14 +74,14 @@ pub fn add_segment(
     c2: f32,
     sigma: f32,
     high_precision: bool,
-) -> Added
+) -> Option<Segment>
     ensures { result ≡ add_segment center_x center_y intensity c0 c1 c2 sigma high_precision }
 {
     if skipped(intensity, sigma) {
-        return Added::Nothing;
+        return None;
     }
     let distance = max_distance(sigma, max_color(intensity, c0, c1, c2), high_precision);
-    Added::Made(Segment {
+    Some(Segment {
         center_x,
         center_y,
         maximum_distance: distance,
@@ -103,6 +94,7 @@ pub fn add_segment(
 }
 
 impl Segment {
+    #[tactic(auto, unfolding(crate::specs::Ranges::rows_of))]
     pub fn rows(self) -> Range
         ensures { result ≡ rows_of self }
     {
@@ -111,6 +103,7 @@ impl Segment {
         Range { first, past }
     }
 
+    #[tactic(auto, unfolding(crate::specs::Ranges::columns_of))]
     pub fn columns(self) -> Range
         ensures { result ≡ columns_of self }
     {
@@ -120,6 +113,7 @@ impl Segment {
     }
 
     // The segment i of a flat slice.
+    #[tactic(auto, unfolding(crate::specs::Segment::segment_at))]
     pub fn at(segments: &[f32], i: usize) -> Segment
         requires { 8 * i + 8 ≤ length segments.now }
         ensures { result ≡ segment_at segments.now i }
@@ -142,13 +136,19 @@ impl Segment {
         requires { k + 8 ≤ length out.old }
         ensures { out.new ≡ sets out.old k (eight_of self) }
     {
-        out[k] = self.center_x;
-        out[k + 1] = self.center_y;
-        out[k + 2] = self.maximum_distance;
-        out[k + 3] = self.inv_sigma;
-        out[k + 4] = self.sigma_over_4_times_intensity;
-        out[k + 5] = self.color0;
-        out[k + 6] = self.color1;
-        out[k + 7] = self.color2;
+        buffers::put(
+            out,
+            k,
+            &[
+                self.center_x,
+                self.center_y,
+                self.maximum_distance,
+                self.inv_sigma,
+                self.sigma_over_4_times_intensity,
+                self.color0,
+                self.color1,
+                self.color2,
+            ],
+        );
     }
 }
