@@ -1,32 +1,24 @@
 -- Judging all splines: AREA and COINCIDE exactly when, the first refusal exactly where, and what an accepted description has for every spline.
-use Rattle.std.proofs.Common.{◌≡◌, ℕ, zero, suc, ◌+◌, ◌-◌, ◌<◌, ◌≤◌, Bool, true, false, cond, eqb, leb, ◌⊎◌, ◌↔◌, length, sym, refl, ap, ◌∙◌, subst, inl, inr, eq-or-lt_of_le, arith, eqb-true, le-leb, leb-false, leb-true}
+use Rattle.std.proofs.Common.{◌≡◌, Result, Ok, Err, ℕ, zero, suc, ◌+◌, ◌-◌, ◌<◌, ◌≤◌, Bool, true, false, cond, leb, ◌⊎◌, ◌↔◌, length, sym, refl, ap, ◌∙◌, subst, inl, inr, eq-or-lt_of_le, arith, le-leb, leb-false, leb-true}
 use borrow.Author.Tests.{lt-leb}
-use Rattle.codes.specs.Codes.{number_of}
 use Rattle.codes.specs.declared.Code.{Code}
-use Rattle.codes.specs.declared.Code.TheVariants.{Done, Area, Coincide}
-use Rattle.codes.proofs.Codes.{number_of_injective}
+use Rattle.codes.specs.declared.Code.TheVariants.{Area, Coincide}
 use Rattle.numbers.specs.Saturating.{sat_add}
 use Rattle.estimate.specs.Estimate.{sat_sum}
-use Rattle.dequantize.specs.Judge.{Description, start_x, start_y, deltas_of, coefficients_of, spline_of, total_of, settle_of, onward, judge_from, judge_of}
+use Rattle.dequantize.specs.Judge.{Description, start_x, start_y, deltas_of, coefficients_of, answer_of, spline_of, total_of, settle_of, onward, judge_from, judge_of}
 use Rattle.dequantize.specs.declared.Given.{Given}
 use Rattle.dequantize.specs.declared.Spline.{Spline}
-use Rattle.dequantize.specs.declared.judge.Settled.{Settled}
-use Rattle.dequantize.specs.declared.judge.Settled.TheVariants.{Total, Stop}
-use Rattle.dequantize.specs.declared.judge.Judged.{Judged}
-use Rattle.dequantize.specs.declared.judge.Judged.TheVariants.{Fine, Refused}
+use Rattle.dequantize.specs.Answers.{Settled, Total, Stop, Judged, Fine, Refused}
+use Rattle.dequantize.specs.Dequantize.{spline_in}
 use Rattle.dequantize.specs.Asked.{SplineAccepted}
 use Rattle.dequantize.proofs.Accepted.{accepted_exactly}
 
 -- ---- one spline that was dequantized
 
-module _ (total : ℕ) (s : Spline) (limit : ℕ) (d : s.code ≡ Done) where
+module _ (total : ℕ) (s : Spline) (limit : ℕ) where
   -- the sum with its estimate
   abbrev more : ℕ
   more = sat_add total s.estimate
-
-  done_is : settle_of total s limit ≡ cond (leb (sat_add total s.estimate) limit) (cond s.coincide (Stop Coincide) (Total (sat_add total s.estimate))) (Stop Area)
-  unfolding settle_of
-  done_is = rw d
 
   settled_by : (a b : Bool) (n : ℕ) (t : Settled) → cond a (cond b (Stop Coincide) (Total n)) (Stop Area) ≡ t
       → (t ≡ Stop Area → a ≡ false) × (t ≡ Stop Coincide → (a ≡ true) × (b ≡ true)) × ((m : ℕ) → t ≡ Total m → (a ≡ true) × (b ≡ false) × (n ≡ m))
@@ -34,44 +26,41 @@ module _ (total : ℕ) (s : Spline) (limit : ℕ) (d : s.code ≡ Done) where
   settled_by true true n t e = (λ h. absurd (let z : ◌≡◌ {A = ℕ} 0 1 = cc in omega arith), λ h. (refl, refl), λ m h. absurd (let z : ◌≡◌ {A = ℕ} 0 1 = cc in omega arith))
   settled_by true false n t e = (λ h. absurd (let z : ◌≡◌ {A = ℕ} 0 1 = cc in omega arith), λ h. absurd (let z : ◌≡◌ {A = ℕ} 0 1 = cc in omega arith), λ m h. (refl, refl, cc))
 
-  pub area_exactly : (settle_of total s limit ≡ Stop Area) ↔ (limit < sat_add total s.estimate)
-  area_exactly = (
-    λ h. leb-false more limit ((settled_by (leb more limit) s.coincide more (settle_of total s limit) (sym done_is)).0 h),
-    λ h. done_is ∙ rw (lt-leb more limit h),
-  )
+  pub area_exactly : (settle_of total (Ok s) limit ≡ Stop Area) ↔ (limit < sat_add total s.estimate)
+  unfolding settle_of
+  area_exactly = (λ h. leb-false more limit ((settled_by (leb more limit) s.coincide more _ refl).0 h), λ h. rw (lt-leb more limit h))
 
-  pub coincide_exactly : (settle_of total s limit ≡ Stop Coincide) ↔ ((sat_add total s.estimate ≤ limit) × (s.coincide ≡ true))
+  pub coincide_exactly : (settle_of total (Ok s) limit ≡ Stop Coincide) ↔ ((sat_add total s.estimate ≤ limit) × (s.coincide ≡ true))
+  unfolding settle_of
   coincide_exactly = (
-    λ h. let k = (settled_by (leb more limit) s.coincide more (settle_of total s limit) (sym done_is)).1 h in (leb-true more limit k.0, k.1),
-    λ k. done_is ∙ rw (le-leb more limit k.0, k.1),
+    λ h. let k = (settled_by (leb more limit) s.coincide more _ refl).1 h in (leb-true more limit k.0, k.1),
+    λ k. rw (le-leb more limit k.0, k.1),
   )
 
-  pub total_exactly : (n : ℕ) → (settle_of total s limit ≡ Total n) ↔ ((sat_add total s.estimate ≤ limit) × (s.coincide ≡ false) × (sat_add total s.estimate ≡ n))
+  pub total_exactly : (n : ℕ) → (settle_of total (Ok s) limit ≡ Total n) ↔ ((sat_add total s.estimate ≤ limit) × (s.coincide ≡ false) × (sat_add total s.estimate ≡ n))
+  unfolding settle_of
   total_exactly n = (
-    λ h. let k = (settled_by (leb more limit) s.coincide more (settle_of total s limit) (sym done_is)).2 n h in (leb-true more limit k.0, k.1, k.2),
-    λ k. done_is ∙ rw (le-leb more limit k.0, k.1, k.2),
+    λ h. let k = (settled_by (leb more limit) s.coincide more _ refl).2 n h in (leb-true more limit k.0, k.1, k.2),
+    λ k. rw (le-leb more limit k.0, k.1, k.2),
   )
 
 -- a spline that goes on was not refused
-pub settled_done : (total : ℕ) (s : Spline) (limit n : ℕ) → settle_of total s limit ≡ Total n → s.code ≡ Done
+pub settled_done : (total : ℕ) (r : Result Spline Code) (limit n : ℕ) → settle_of total r limit ≡ Total n → r ≡ Ok (spline_in r)
 unfolding settle_of
-settled_done total s limit n h = number_of_injective s.code Done (eqb-true (number_of s.code) 0 (go (eqb (number_of s.code) 0) (cond (leb (sat_add total s.estimate) limit) (cond s.coincide (Stop Coincide) (Total (sat_add total s.estimate))) (Stop Area)) h))
-  where
-    go : (b : Bool) (t : Settled) → cond b t (Stop s.code) ≡ Total n → b ≡ true
-    go true t e = refl
-    go false t e = absurd (let z : ◌≡◌ {A = ℕ} 0 1 = cc in omega arith)
+settled_done total (Ok s) limit n h = refl
+settled_done total (Err code) limit n h = absurd (let z : ◌≡◌ {A = ℕ} 0 1 = cc in omega arith)
 
 -- ---- all splines
 
 -- the spline k is neither refused nor over the limit nor coinciding
 abbrev pub Passes : Description → Given → ℕ → Type 0
-Passes d g k = settle_of (total_of d g k) (spline_of d g k) g.limit ≡ Total (total_of d g (suc k))
+Passes d g k = settle_of (total_of d g k) (answer_of d g k) g.limit ≡ Total (total_of d g (suc k))
 
 -- the splines before k pass, and the spline k stops with the code
 pub record Refusal (d : Description) (g : Given) (code : Code) (k : ℕ) : Type 0 where
   pub inside : k < length d.counts
   pub before : (i : ℕ) → i < k → Passes d g i
-  pub stops : settle_of (total_of d g k) (spline_of d g k) g.limit ≡ Stop code
+  pub stops : settle_of (total_of d g k) (answer_of d g k) g.limit ≡ Stop code
 
 module _ (d : Description) (g : Given) where
   -- all from k up to but not including e pass
@@ -86,10 +75,10 @@ module _ (d : Description) (g : Given) where
   unfolding total_of sat_sum
   total_more k = refl
 
-  passes : (k n : ℕ) → settle_of (total_of d g k) (spline_of d g k) g.limit ≡ Total n → n ≡ total_of d g (suc k)
+  passes : (k n : ℕ) → settle_of (total_of d g k) (answer_of d g k) g.limit ≡ Total n → n ≡ total_of d g (suc k)
+  unfolding spline_of
   passes k n h =
-      let s = spline_of d g k in
-      let e = (total_exactly (total_of d g k) s g.limit (settled_done (total_of d g k) s g.limit n h) n).0 h in
+      let e = (total_exactly (total_of d g k) (spline_in (answer_of d g k)) g.limit n).0 (rw (settled_done (total_of d g k) (answer_of d g k) g.limit n h) at h) in
       sym e.2 ∙ sym (total_more k)
 
   one_more : (k e : ℕ) → Passes d g k → Pass (suc k) e → Pass k e
@@ -111,7 +100,7 @@ module _ (d : Description) (g : Given) where
   -- ---- Fine
 
   fine_at : (n k t : ℕ) → (judge_from d g n (suc k) (total_of d g (suc k)) ≡ Fine t → Pass (suc k) (suc k + n) × (total_of d g (suc k + n) ≡ t))
-      → (q : Settled) → settle_of (total_of d g k) (spline_of d g k) g.limit ≡ q → onward q k (λ u. judge_from d g n (suc k) u) ≡ Fine t
+      → (q : Settled) → settle_of (total_of d g k) (answer_of d g k) g.limit ≡ q → onward q k (λ u. judge_from d g n (suc k) u) ≡ Fine t
       → Pass k (k + suc n) × (total_of d g (k + suc n) ≡ t)
   fine_at n k t rest (Stop code) e h = absurd (let z : ◌≡◌ {A = ℕ} 0 1 = cc in omega arith)
   fine_at n k t rest (Total u) e h =
@@ -126,7 +115,7 @@ module _ (d : Description) (g : Given) where
       let e : k + 0 ≡ k = omega arith in
       let w : total_of d g k ≡ t = cc in
       (λ i a b. absurd (omega arith), rw e w)
-  fine_from (suc n) k t h = fine_at n k t (fine_from n (suc k) t) (settle_of (total_of d g k) (spline_of d g k) g.limit) refl h
+  fine_from (suc n) k t h = fine_at n k t (fine_from n (suc k) t) (settle_of (total_of d g k) (answer_of d g k) g.limit) refl h
 
   -- all pass, and the answer is the sum of all estimates
   pub fine_exactly : (t : ℕ) → (judge_of d g ≡ Fine t) ↔ (((i : ℕ) → i < length d.counts → Passes d g i) × (total_of d g (length d.counts) ≡ t))
@@ -150,14 +139,15 @@ module _ (d : Description) (g : Given) where
 
   -- of the n splines from k on the spline j is the first that stops
   abbrev Stops : ℕ → ℕ → Code → ℕ → Type 0
-  Stops n k code j = (k ≤ j) × (j < k + n) × Pass k j × (settle_of (total_of d g j) (spline_of d g j) g.limit ≡ Stop code)
+  Stops n k code j = (k ≤ j) × (j < k + n) × Pass k j × (settle_of (total_of d g j) (answer_of d g j) g.limit ≡ Stop code)
 
   refused_at : (n k : ℕ) (code : Code) (j : ℕ) → (judge_from d g n (suc k) (total_of d g (suc k)) ≡ Refused code j → Stops n (suc k) code j)
-      → (q : Settled) → settle_of (total_of d g k) (spline_of d g k) g.limit ≡ q → onward q k (λ u. judge_from d g n (suc k) u) ≡ Refused code j → Stops (suc n) k code j
+      → (q : Settled) → settle_of (total_of d g k) (answer_of d g k) g.limit ≡ q → onward q k (λ u. judge_from d g n (suc k) u) ≡ Refused code j → Stops (suc n) k code j
   refused_at n k code j rest (Stop other) e h =
-      let w : k ≡ j = cc in
-      let v : other ≡ code = cc in
-      (omega arith, omega arith, λ i a b. absurd (omega arith), subst (λ (i : ℕ). settle_of (total_of d g i) (spline_of d g i) g.limit ≡ Stop code) w (e ∙ ap Stop v))
+      let p : ◌≡◌ {A = Code × ℕ} (other, k) (code, j) = cc in
+      let w : k ≡ j = ap (λ (r : Code × ℕ). r.1) p in
+      let v : other ≡ code = ap (λ (r : Code × ℕ). r.0) p in
+      (omega arith, omega arith, λ i a b. absurd (omega arith), subst (λ (i : ℕ). settle_of (total_of d g i) (answer_of d g i) g.limit ≡ Stop code) w (e ∙ ap Stop v))
   refused_at n k code j rest (Total u) e h =
       let w : u ≡ total_of d g (suc k) = passes k u e in
       let r = rest (rw w at h) in
@@ -166,7 +156,7 @@ module _ (d : Description) (g : Given) where
   refused_from : (n k : ℕ) (code : Code) (j : ℕ) → judge_from d g n k (total_of d g k) ≡ Refused code j → Stops n k code j
   unfolding judge_from
   refused_from zero k code j h = absurd (let z : ◌≡◌ {A = ℕ} 0 1 = cc in omega arith)
-  refused_from (suc n) k code j h = refused_at n k code j (refused_from n (suc k) code j) (settle_of (total_of d g k) (spline_of d g k) g.limit) refl h
+  refused_from (suc n) k code j h = refused_at n k code j (refused_from n (suc k) code j) (settle_of (total_of d g k) (answer_of d g k) g.limit) refl h
 
   pub refused_exactly : (code : Code) (k : ℕ) → (judge_of d g ≡ Refused code k) ↔ Refusal d g code k
   unfolding judge_of judge_from
@@ -176,7 +166,7 @@ module _ (d : Description) (g : Given) where
     λ r. back r.inside r.before r.stops,
   )
     where
-      back : k < length d.counts → ((i : ℕ) → i < k → Passes d g i) → settle_of (total_of d g k) (spline_of d g k) g.limit ≡ Stop code → judge_from d g (length d.counts) 0 0 ≡ Refused code k
+      back : k < length d.counts → ((i : ℕ) → i < k → Passes d g i) → settle_of (total_of d g k) (answer_of d g k) g.limit ≡ Stop code → judge_from d g (length d.counts) 0 0 ≡ Refused code k
       back h p e =
           let m = length d.counts - suc k in
           let n : k + suc m ≡ length d.counts = omega arith in
@@ -188,10 +178,9 @@ module _ (d : Description) (g : Given) where
 
   -- every spline of an accepted description was accepted
   pub fine_accepted : (t : ℕ) → judge_of d g ≡ Fine t → (k : ℕ) → k < length d.counts → SplineAccepted (start_x d k) (start_y d k) (deltas_of d k) (coefficients_of d k) g
-  unfolding spline_of
   fine_accepted t h k b =
       let p = ((fine_exactly t).0 h).0 k b in
-      (accepted_exactly (start_x d k) (start_y d k) (deltas_of d k) (coefficients_of d k) g).0 (settled_done (total_of d g k) (spline_of d g k) g.limit (total_of d g (suc k)) p)
+      (accepted_exactly (start_x d k) (start_y d k) (deltas_of d k) (coefficients_of d k) g).0 (settled_done (total_of d g k) (answer_of d g k) g.limit (total_of d g (suc k)) p)
 
   -- any two outcomes of the contract are equal
   pub judge_one_outcome : (r s : Judged) → r ≡ judge_of d g → s ≡ judge_of d g → r ≡ s

@@ -1,15 +1,13 @@
 -- A run over the splines: k of them are judged, at numbers of the double deltas are used, total is the sum, and what is left gives what the whole gives.
-use Rattle.std.proofs.Common.{◌≡◌, ℕ, zero, suc, ◌+◌, ◌-◌, ◌*◌, ◌<◌, ◌≤◌, List, [], ◌∷◌, length, get_or, take, drop, sym, refl, ◌∙◌, add-one, arith}
+use Rattle.std.proofs.Common.{◌≡◌, Result, ℕ, zero, suc, ◌+◌, ◌-◌, ◌*◌, ◌<◌, ◌≤◌, List, [], ◌∷◌, length, get_or, take, drop, sym, refl, ◌∙◌, add-one, arith}
 use lib.Ieee.{nan}
 use Rattle.codes.specs.declared.Code.{Code}
 use Rattle.shape.specs.Shape.{points_of}
 use Rattle.dequantize.specs.Dequantize.{dequantize_of}
-use Rattle.dequantize.specs.Judge.{Description, Shaped, start_x, start_y, deltas_at, deltas_of, coefficients_of, spline_of, settle_of, judge_from, judge_of}
+use Rattle.dequantize.specs.Judge.{Description, Shaped, start_x, start_y, deltas_at, deltas_of, coefficients_of, answer_of, settle_of, judge_from, judge_of}
 use Rattle.dequantize.specs.declared.Given.{Given}
 use Rattle.dequantize.specs.declared.Spline.{Spline}
-use Rattle.dequantize.specs.declared.judge.Settled.{Settled}
-use Rattle.dequantize.specs.declared.judge.Settled.TheVariants.{Total, Stop}
-use Rattle.dequantize.specs.declared.judge.Judged.TheVariants.{Fine, Refused}
+use Rattle.dequantize.specs.Answers.{Settled, Total, Stop, Fine, Refused}
 
 -- ---- sums of counts
 
@@ -56,21 +54,21 @@ module _ (d : Description) (g : Given) (k at total : ℕ) (u : Under d g k at to
     one_left = omega arith
 
     -- the spline that the code judged
-    module _ {s : Spline} (e : s ≡ dequantize_of (get_or d.starts (2 * k) nan) (get_or d.starts (2 * k + 1) nan) (take (at + 2 * n - at) (drop at d.deltas)) (take 128 (drop (128 * k) d.coefficients)) g) where
-      spline_is : s ≡ spline_of d g k
-      unfolding spline_of start_x start_y deltas_of coefficients_of
-      spline_is = let r : at + 2 * n - at ≡ 2 * n = omega arith in rw (r, w, u.used) at e
+    module _ {s : Result Spline Code} (e : s ≡ dequantize_of (get_or d.starts (2 * k) nan) (get_or d.starts (2 * k + 1) nan) (take (at + 2 * n - at) (drop at d.deltas)) (take 128 (drop (128 * k) d.coefficients)) g) where
+      answer_is : s ≡ answer_of d g k
+      unfolding start_x start_y deltas_of coefficients_of
+      answer_is = let r : at + 2 * n - at ≡ 2 * n = omega arith in rw (r, w, u.used) at e
 
       module _ {t : Settled} (q : t ≡ settle_of total s g.limit) where
         pub under_stop : {code : Code} → t ≡ Stop code → Refused code k ≡ judge_of d g
         unfolding judge_from
-        under_stop z = sym (u.left ∙ rw (one_left, ← spline_is, ← q, z))
+        under_stop z = sym (u.left ∙ rw (one_left, ← answer_is, ← q, z))
 
         pub under_more : {more : ℕ} → t ≡ Total more → Under d g (k + 1) (at + 2 * n) more
         unfolding judge_from
         under_more z = record {
           used = rw (w, u.used) (sym (deltas_more d k h));
-          left = u.left ∙ rw (one_left, ← spline_is, ← q, z, add-one k);
+          left = u.left ∙ rw (one_left, ← answer_is, ← q, z, add-one k);
         }
 
 -- Assumes nothing.

@@ -1,25 +1,22 @@
 -- The codes of judging exactly when: a spline passes where its statements hold, and is refused by the first that fails; all splines pass, or one is the first refused.
-use Rattle.std.proofs.Common.{◌≡◌, ℕ, zero, suc, ◌<◌, ◌≤◌, Bool, true, false, cond, leb, ◌↔◌, List, [], ◌∷◌, length, get_or, sym, refl, ◌∙◌, subst, inl, inr, true≢false, arith, leb-false, leb-true}
+use Rattle.std.proofs.Common.{◌≡◌, Ok, ℕ, zero, suc, ◌<◌, ◌≤◌, Bool, true, false, cond, leb, ◌↔◌, List, [], ◌∷◌, length, get_or, sym, refl, ◌∙◌, subst, true≢false, arith, leb-false, leb-true}
 use Rattle.codes.specs.declared.Code.{Code}
-use Rattle.codes.specs.declared.Code.TheVariants.{Done, Position}
+use Rattle.codes.specs.declared.Code.TheVariants.{Area, Coincide}
 use Rattle.control_points.specs.ControlPoints.{starting_point, trace_of, control_points, valid_point_pos, same_point, coincide_from, adjacent_coincide}
-use Rattle.dequantize.specs.Dequantize.{refused_of, finished_of, dequantize_of}
-use Rattle.dequantize.specs.Judge.{Description, start_x, start_y, deltas_of, coefficients_of, spline_of, total_of, settle_of, judge_of}
+use Rattle.dequantize.specs.Dequantize.{finished_of, dequantize_of}
+use Rattle.numbers.specs.Saturating.{sat_add}
+use Rattle.dequantize.specs.Judge.{Description, start_x, start_y, deltas_of, coefficients_of, answer_of, spline_of, total_of, settle_of, judge_of}
 use Rattle.control_points.specs.Refusals.{nowhere, Adjacent}
 use Rattle.dequantize.specs.Refusals.{Traces, SplinePasses, SplineRefusal, start_strays, pair_refused, area_above, points_meet, AllPass, FirstRefused, EstimateIs}
 use Rattle.dequantize.specs.declared.Given.{Given}
 use Rattle.control_points.specs.declared.Pair.{Pair}
 use Rattle.control_points.specs.declared.Run.{Run}
-use Rattle.control_points.specs.declared.Start.{Start}
-use Rattle.control_points.specs.declared.Start.TheVariants.{At, Out}
-use Rattle.control_points.specs.declared.Traced.{Traced}
-use Rattle.control_points.specs.declared.Traced.TheVariants as T
-use Rattle.dequantize.specs.declared.judge.Settled.TheVariants.{Stop}
-use Rattle.dequantize.specs.declared.judge.Judged.TheVariants.{Fine, Refused}
+use Rattle.control_points.specs.Answers.{Start, At, Out, Traced}
+use Rattle.control_points.specs.Answers as T
+use Rattle.dequantize.specs.Answers.{Total, Stop, Fine, Refused}
 use Rattle.codes.proofs.Decides.{both}
 use Rattle.control_points.proofs.Coincide.{same_point_lem}
 use Rattle.control_points.proofs.Walks.{all_in_range, points_in_range}
-use Rattle.control_points.proofs.Exactly.{OfTrace, trace_code}
 use Rattle.dequantize.proofs.Accepted.{start_refused, trace_refused, trace_accepted, accepted_exactly}
 use Rattle.dequantize.proofs.Judgement.{area_exactly, coincide_exactly, total_exactly, settled_done, Passes, total_more, fine_exactly, refused_exactly}
 use Rattle.control_points.proofs.Ranges.{starts_at, starting_at, starts_out, starting_out}
@@ -58,17 +55,21 @@ meeting p (q ∷ l) (suc j) v h e = go (same_point p q) (meeting q l j (in_range
 
 -- ---- one spline
 
--- a spline that was refused before AREA stops with its own code
-settle_refused : (total limit : ℕ) (c : Code) → OfTrace c → settle_of total (refused_of c) limit ≡ Stop c
-unfolding settle_of refused_of
-settle_refused total limit c (inl e) = rw e
-settle_refused total limit c (inr (inl e)) = rw e
-settle_refused total limit c (inr (inr e)) = rw e
-
 module _ (d : Description) (g : Given) (k : ℕ) where
+  -- what settles a spline that was not refused
+  module _ (done : answer_of d g k ≡ Ok (spline_of d g k)) where
+    area_at : (settle_of (total_of d g k) (answer_of d g k) g.limit ≡ Stop Area) ↔ (g.limit < sat_add (total_of d g k) (spline_of d g k).estimate)
+    area_at = rw done (area_exactly (total_of d g k) (spline_of d g k) g.limit)
+
+    coincide_at : (settle_of (total_of d g k) (answer_of d g k) g.limit ≡ Stop Coincide) ↔ ((sat_add (total_of d g k) (spline_of d g k).estimate ≤ g.limit) × ((spline_of d g k).coincide ≡ true))
+    coincide_at = rw done (coincide_exactly (total_of d g k) (spline_of d g k) g.limit)
+
+    total_at : (n : ℕ) → (settle_of (total_of d g k) (answer_of d g k) g.limit ≡ Total n) ↔ ((sat_add (total_of d g k) (spline_of d g k).estimate ≤ g.limit) × ((spline_of d g k).coincide ≡ false) × (sat_add (total_of d g k) (spline_of d g k).estimate ≡ n))
+    total_at n = rw done (total_exactly (total_of d g k) (spline_of d g k) g.limit n)
+
   -- what is known of a spline whose start is a place and whose trace ends well
   record Known (start : Pair) : Type 0 where
-    done : (spline_of d g k).code ≡ Done
+    done : answer_of d g k ≡ Ok (spline_of d g k)
     meet : (spline_of d g k).coincide ≡ true → Adjacent (control_points start (deltas_of d k))
     met : Adjacent (control_points start (deltas_of d k)) → (spline_of d g k).coincide ≡ true
 
@@ -100,12 +101,12 @@ module _ (d : Description) (g : Given) (k : ℕ) where
   -- ---- it passes
 
   abbrev Settles : Code → Type 0
-  Settles c = settle_of (total_of d g k) (spline_of d g k) g.limit ≡ Stop c
+  Settles c = settle_of (total_of d g k) (answer_of d g k) g.limit ≡ Stop c
 
   pub passes_is : SplinePasses d g k → Passes d g k
   passes_is p =
       let w = traces_known p.traces in
-      (total_exactly (total_of d g k) (spline_of d g k) g.limit w.done (total_of d g (suc k))).1
+      (total_at w.done (total_of d g (suc k))).1
       (rw (← total_more d g k) p.area, not_true (spline_of d g k).coincide (λ h. p.apart (w.meet h)), sym (total_more d g k))
     where
       not_true : (b : Bool) → (b ≡ true → ⊥) → b ≡ false
@@ -115,9 +116,9 @@ module _ (d : Description) (g : Given) (k : ℕ) where
   pub is_passes : Passes d g k → SplinePasses d g k
   unfolding spline_of
   is_passes h =
-      let done = settled_done (total_of d g k) (spline_of d g k) g.limit (total_of d g (suc k)) h in
+      let done = settled_done (total_of d g k) (answer_of d g k) g.limit (total_of d g (suc k)) h in
       let a = (accepted_exactly (start_x d k) (start_y d k) (deltas_of d k) (coefficients_of d k) g).0 done in
-      let e = (total_exactly (total_of d g k) (spline_of d g k) g.limit done (total_of d g (suc k))).0 h in
+      let e = (total_at done (total_of d g (suc k))).0 h in
       let w = known a.start a.begins a.run a.traced in
       record {
         traces = record {
@@ -133,18 +134,17 @@ module _ (d : Description) (g : Given) (k : ℕ) where
   -- ---- it is refused
 
   pub refusal_is : {c : Code} → SplineRefusal d g k c → Settles c
-  unfolding spline_of
+  unfolding settle_of
   refusal_is (start_strays s) =
-      rw (start_refused (start_x d k) (start_y d k) (deltas_of d k) (coefficients_of d k) g (starting_out (start_x d k) (start_y d k) s)) (settle_refused (total_of d g k) g.limit Position (inr (inl refl)))
+      rw (start_refused (start_x d k) (start_y d k) (deltas_of d k) (coefficients_of d k) g (starting_out (start_x d k) (start_y d k) s))
   refusal_is (pair_refused {c = c} start x y j h p w) =
       let b = starting_at (start_x d k) (start_y d k) start x y in
       let t = refused_stops g.limit start (deltas_of d k) c j h p w in
       rw (trace_refused (start_x d k) (start_y d k) (deltas_of d k) (coefficients_of d k) g start b c t)
-      (settle_refused (total_of d g k) g.limit c (trace_code g.limit start (deltas_of d k) c t))
   refusal_is (area_above t h) =
-      (area_exactly (total_of d g k) (spline_of d g k) g.limit (traces_known t).done).1 (rw (← total_more d g k) h)
+      (area_at (traces_known t).done).1 (rw (← total_more d g k) h)
   refusal_is (points_meet t h m) =
-      (coincide_exactly (total_of d g k) (spline_of d g k) g.limit (traces_known t).done).1 (rw (← total_more d g k) h, (traces_known t).met m)
+      (coincide_at (traces_known t).done).1 (rw (← total_more d g k) h, (traces_known t).met m)
 
   same_code : {a b : Code} → Stop a ≡ Stop b → a ≡ b
   same_code e = cc
@@ -162,7 +162,7 @@ module _ (d : Description) (g : Given) (k : ℕ) where
     settled_late r true false p q =
         let l : total_of d g (suc k) ≤ g.limit = leb-true (total_of d g (suc k)) g.limit p in
         let w = traces_known r in
-        let e = (total_exactly (total_of d g k) (spline_of d g k) g.limit w.done (total_of d g (suc k))).1 (rw (← total_more d g k) l, q, sym (total_more d g k)) in
+        let e = (total_at w.done (total_of d g (suc k))).1 (rw (← total_more d g k) l, q, sym (total_more d g k)) in
         absurd (let z : ◌≡◌ {A = ℕ} 0 1 = cc (sym e ∙ h) in omega arith)
 
     settled_trace : (start : Pair) → starting_point (start_x d k) (start_y d k) ≡ At start → (t : Traced) → trace_of g.limit start (deltas_of d k) ≡ t → SplineRefusal d g k c

@@ -10,6 +10,7 @@ pub struct Rows {
     pub sigma: [f32; 32],
 }
 
+#[tactic(auto, unfolding(crate::specs::Coefficients::inv_adjusted_quant))]
 pub fn inv_adjusted_quant(adjustment: i32) -> f32
     ensures { result ≡ inv_adjusted_quant adjustment }
 {
@@ -22,6 +23,7 @@ pub fn inv_adjusted_quant(adjustment: i32) -> f32
 }
 
 // The coefficient i of the row that begins at c[from].
+#[tactic(auto, unfolding(crate::specs::Coefficients::coefficient_at))]
 fn coefficient(c: &[i32], from: usize, i: usize, weight: f32, quant: f32) -> f32
     requires { from + i < length c.now }
     ensures { result ≡ coefficient_at c.now from weight quant i }
@@ -39,10 +41,8 @@ fn row(c: &[i32], from: usize, weight: f32, quant: f32) -> [f32; 32]
     ensures { result ≡ coefficient_row c.now from weight quant }
 {
     let mut out = [0.0; 32];
-    let mut i = 0;
-    while i < 32 {
+    for i in 0..32 {
         out[i] = coefficient(c, from, i, weight, quant);
-        i += 1;
     }
     out
 }
@@ -52,14 +52,13 @@ fn gained(x: [f32; 32], k: f32, y: [f32; 32]) -> [f32; 32]
     ensures { result ≡ gained_of x k y }
 {
     let mut out = [0.0; 32];
-    let mut i = 0;
-    while i < 32 {
+    for i in 0..32 {
         out[i] = x[i] + k * y[i];
-        i += 1;
     }
     out
 }
 
+#[tactic(auto, unfolding(crate::specs::Coefficients::gained_rows))]
 pub fn gained_rows(c: &[i32], quant: f32, y_to_x: f32, y_to_b: f32) -> Rows
     requires { 128 ≤ length c.now }
     ensures { result ≡ gained_rows c.now quant y_to_x y_to_b }

@@ -2,41 +2,26 @@
 ghost use Rattle.std.specs.Prelude.{◌≡◌, ◌+◌, ◌*◌, ◌≤◌, length, take, drop, slice_index_or};
 ghost use Rattle.std.specs.Float.{nan};
 ghost use Rattle.dequantize.specs.Dequantize.{dequantize_of};
-ghost use Rattle.dequantize.specs.Judge.{description_of, Shaped, settle_of, judge_of};
+ghost use Rattle.dequantize.specs.Judge.{description_in, Shaped, settle_of, judge_of};
 
 use crate::{Given, Spline};
-use codes::Code;
+use codes::{Code, Refusal};
+use shape::Description;
 
-// The sum with a spline's estimate, or the spline's refusal.
-#[derive(Clone, Copy)]
-pub enum Settled {
-    Total(u64),
-    Stop(Code),
-}
-
-// The sum of all estimates, or the first refusal and the number of its spline.
-#[derive(Clone, Copy)]
-pub enum Judged {
-    Fine(u64),
-    Refused(Code, usize),
-}
-
-// AREA, then COINCIDE.
-fn settle(total: u64, s: Spline, limit: u64) -> Settled
-    ensures { result ≡ settle_of total s limit }
+// The sum with a spline's estimate, or its refusal: its own, then AREA, then COINCIDE.
+#[tactic(auto, unfolding(crate::specs::Judge::settle_of))]
+fn settle(total: u64, spline: Result<Spline, Code>, limit: u64) -> Result<u64, Code>
+    ensures { result ≡ settle_of total spline limit }
 {
-    let code = s.code;
-    if codes::number_of(code) != 0 {
-        return Settled::Stop(code);
-    }
-    let more = numbers::saturating_add(total, s.estimate);
+    let spline = spline?;
+    let more = numbers::saturating_add(total, spline.estimate);
     if more > limit {
-        return Settled::Stop(Code::Area);
+        return Err(Code::Area);
     }
-    if s.coincide {
-        return Settled::Stop(Code::Coincide);
+    if spline.coincide {
+        return Err(Code::Coincide);
     }
-    Settled::Total(more)
+    Ok(more)
 }
 
 // The spline k of a description, whose double deltas are given.
@@ -46,49 +31,42 @@ pub fn spline_at(
     coefficients: &[i32],
     k: usize,
     given: Given,
-) -> Spline
+) -> Result<Spline, Code>
     requires { (2 * k + 2 ≤ length starts.now) × (128 * k + 128 ≤ length coefficients.now) }
     ensures { result ≡ dequantize_of (slice_index_or starts.now (2 * k) nan) (slice_index_or starts.now (2 * k + 1) nan) deltas.now (take 128 (drop (128 * k) coefficients.now)) given }
 {
-    let x = starts[2 * k];
-    let y = starts[2 * k + 1];
     let from = 128 * k;
-    let to = 128 * k + 128;
-    crate::dequantize(x, y, deltas, &coefficients[from..to], given)
+    crate::dequantize(
+        starts[2 * k],
+        starts[2 * k + 1],
+        deltas,
+        &coefficients[from..from + 128],
+        given,
+    )
 }
 
-fn wide(x: u32) -> usize
-    ensures { result ≡ x }
+// The sum of all estimates, or the first refusal and the number of its spline.
+pub fn judge(description: &Description<'_>, given: Given) -> Result<u64, Refusal>
+    requires { Shaped (description_in description.now) }
+    ensures { result ≡ judge_of (description_in description.now) given }
 {
-    x as usize
-}
-
-pub fn judge(
-    counts: &[u32],
-    starts: &[f32],
-    deltas: &[i32],
-    coefficients: &[i32],
-    given: Given,
-) -> Judged
-    requires { Shaped (description_of counts.now starts.now deltas.now coefficients.now) }
-    ensures { result ≡ judge_of (description_of counts.now starts.now deltas.now coefficients.now) given }
-{
-    let mut k = 0;
     let mut at = 0;
     let mut total = 0;
-    while k < counts.len() {
-        let end = at + 2 * wide(counts[k]);
-        let s = spline_at(starts, &deltas[at..end], coefficients, k, given);
-        match settle(total, s, given.limit) {
-            Settled::Stop(code) => {
-                return Judged::Refused(code, k);
-            }
-            Settled::Total(more) => {
-                total = more;
-            }
+    for (k, n) in description.counts.iter().enumerate() {
+        let end = at + 2 * *n as usize;
+        let deltas = &description.deltas[at..end];
+        let spline = spline_at(
+            description.starts,
+            deltas,
+            description.coefficients,
+            k,
+            given,
+        );
+        match settle(total, spline, given.limit) {
+            Ok(more) => total = more,
+            Err(code) => return Err((code, k)),
         }
         at = end;
-        k += 1;
     }
-    Judged::Fine(total)
+    Ok(total)
 }

@@ -2,17 +2,16 @@
 #![tactic(auto)]
 
 ghost use Rattle.std.specs.Prelude.{◌≡◌, ◌≤◌, length};
-ghost use Rattle.dequantize.specs.Dequantize.{refused_of, finished_of, dequantize_of};
+ghost use Rattle.dequantize.specs.Dequantize.{finished_of, dequantize_of};
 
 use codes::Code;
-use control_points::{Start, Traced};
 
 pub mod coefficients;
 pub mod judge;
 pub mod limits;
 
 // What all splines of an image share; limit is the area limit.
-#[derive(Clone, Copy)]
+#[derive(Clone, Copy, Debug, PartialEq)]
 pub struct Given {
     pub adjustment: i32,
     pub y_to_x: f32,
@@ -20,10 +19,9 @@ pub struct Given {
     pub limit: u64,
 }
 
-// Four rows of coefficients, the estimate, and whether two adjacent control points are the same. After a refusal all but the code is zero.
+// Four rows of coefficients, the estimate, and whether two adjacent control points are the same.
 #[derive(Clone, Copy)]
 pub struct Spline {
-    pub code: Code,
     pub x: [f32; 32],
     pub y: [f32; 32],
     pub b: [f32; 32],
@@ -32,21 +30,8 @@ pub struct Spline {
     pub coincide: bool,
 }
 
-fn refused(code: Code) -> Spline
-    ensures { result ≡ refused_of code }
-{
-    Spline {
-        code,
-        x: [0.0; 32],
-        y: [0.0; 32],
-        b: [0.0; 32],
-        sigma: [0.0; 32],
-        estimate: 0,
-        coincide: false,
-    }
-}
-
 // The rows come last: while the estimate is made, none of them takes stack.
+#[tactic(auto, unfolding(crate::specs::Dequantize::finished_of))]
 fn finished(c: &[i32], given: Given, manhattan: u64, coincide: bool) -> Spline
     requires { 128 ≤ length c.now }
     ensures { result ≡ finished_of c.now given manhattan coincide }
@@ -66,7 +51,6 @@ fn finished(c: &[i32], given: Given, manhattan: u64, coincide: bool) -> Spline
     let b = rows.b;
     let sigma = rows.sigma;
     Spline {
-        code: Code::Done,
         x,
         y,
         b,
@@ -76,15 +60,17 @@ fn finished(c: &[i32], given: Given, manhattan: u64, coincide: bool) -> Spline
     }
 }
 
-pub fn dequantize(start_x: f32, start_y: f32, deltas: &[i32], c: &[i32], given: Given) -> Spline
+pub fn dequantize(
+    start_x: f32,
+    start_y: f32,
+    deltas: &[i32],
+    c: &[i32],
+    given: Given,
+) -> Result<Spline, Code>
     requires { 128 ≤ length c.now }
     ensures { result ≡ dequantize_of start_x start_y deltas.now c.now given }
 {
-    match control_points::starting_point(start_x, start_y) {
-        Start::Out => refused(Code::Position),
-        Start::At(start) => match control_points::trace(start, deltas, given.limit) {
-            Traced::Stop(code) => refused(code),
-            Traced::On(run) => finished(c, given, run.manhattan, run.coincide),
-        },
-    }
+    let start = control_points::starting_point(start_x, start_y).ok_or(Code::Position)?;
+    let run = control_points::trace(start, deltas, given.limit)?;
+    Ok(finished(c, given, run.manhattan, run.coincide))
 }
