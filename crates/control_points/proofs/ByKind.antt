@@ -9,13 +9,13 @@ use lib.Ieee.{Float, nan, inf, fin, Format, binary32, prec, emax, low, up, down,
 use lib.Ieee.Fits.{round_is}
 use Rattle.wholes.specs.Whole.{half, whole_by}
 use Rattle.kinds.specs.Kind.{kind_by, cut_i32, saturated_i32}
-use Rattle.kinds.specs.declared.KindI32.TheVariants as I32
+use Rattle.kinds.specs.declared.Kind.TheVariants as K
 use Rattle.kinds.proofs.ByKind.{saturated_i32_lem}
 use Rattle.control_points.specs.ControlPoints.{coordinate_by, rounded_of}
 use Rattle.control_points.specs.ByKind.{taken, StartByKind}
 
 -- a number that is held to the range of an i32 is no coordinate where that changed it
-by_tests : (a b : Bool) (z : ℤ) → coordinate_by (cond a I32.Above (cond b I32.Below (I32.Exact z))) ≡ taken (saturated_i32 (cond a I32.Above (cond b I32.Below (I32.Exact z))))
+by_tests : (a b : Bool) (z : ℤ) → coordinate_by (cond a K.Above (cond b K.Below (K.Exact z))) ≡ taken (saturated_i32 (cond a K.Above (cond b K.Below (K.Exact z))))
 by_tests true b z = refl
 by_tests false true z = refl
 by_tests false false z = refl

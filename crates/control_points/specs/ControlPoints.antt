@@ -7,8 +7,8 @@ use Rattle.std.specs.Float.Ieee.{lt, of_int}
 use Rattle.numbers.specs.Arith.{f, ◌⊖◌}
 use Rattle.wholes.specs.Whole.{round_of}
 use Rattle.kinds.specs.Kind.{cut_i32}
-use Rattle.kinds.specs.declared.KindI32.{KindI32}
-use Rattle.kinds.specs.declared.KindI32.TheVariants as I32
+use Rattle.kinds.specs.declared.Kind.{Kind}
+use Rattle.kinds.specs.declared.Kind.TheVariants as K
 use Rattle.numbers.specs.Magnitude.{abs_of}
 use Rattle.codes.specs.declared.Code.{Code}
 use Rattle.codes.specs.declared.Code.TheVariants.{Delta, Position, Distance}
@@ -50,11 +50,11 @@ pair_at l k = record { x = get_or l (2 * k) (pos 0); y = get_or l (2 * k + 1) (p
 -- ---- the start
 
 -- a coordinate by its kind: an exact number in the range is one
-abbrev pub coordinate_by : KindI32 → Coordinate
-coordinate_by (I32.Exact z) = cond (in_range z) (At z) Out
-coordinate_by I32.NotNumber = Out
-coordinate_by I32.Below = Out
-coordinate_by I32.Above = Out
+abbrev pub coordinate_by : Kind ℤ → Coordinate
+coordinate_by (K.Exact z) = cond (in_range z) (At z) Out
+coordinate_by K.NotNumber = Out
+coordinate_by K.Below = Out
+coordinate_by K.Above = Out
 
 -- `x.round()` as an i32, where it is in the range; a NaN is not
 unfoldable pub rounded_of : Float → Coordinate

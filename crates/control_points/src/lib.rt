@@ -6,7 +6,7 @@ ghost use Rattle.control_points.specs.ControlPoints.{in_range, below_delta_limit
 ghost use Rattle.control_points.specs.Asked.{Fine, Held, Moves};
 
 use codes::Code;
-use kinds::KindI32;
+use kinds::Kind;
 use std::ops::Add;
 
 // A double delta, a delta or a point, of whole numbers.
@@ -57,7 +57,7 @@ fn rounded(x: f32) -> Option<i32>
     ensures { result ≡ rounded_of x }
 {
     match kinds::rounded_to_i32(x) {
-        KindI32::Exact(z) => in_range(z).then_some(z),
+        Kind::Exact(z) => in_range(z).then_some(z),
         _ => None,
     }
 }

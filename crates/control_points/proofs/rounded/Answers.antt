@@ -10,14 +10,14 @@ use mir.Val.{SFits, to_z, of_z}
 use mir.Facts.{to_z-of_z}
 use Rattle.wholes.specs.Whole.{round_of}
 use Rattle.kinds.specs.Kind.{cut_i32, saturated_i32}
-use Rattle.kinds.specs.declared.KindI32.{KindI32}
-use Rattle.kinds.specs.declared.KindI32.TheVariants as I32
+use Rattle.kinds.specs.declared.Kind.{Kind}
+use Rattle.kinds.specs.declared.Kind.TheVariants as K
 use Rattle.kinds.proofs.ByKind.{saturated_i32_lem}
 use Rattle.control_points.specs.ControlPoints.{coordinate_by, in_range, rounded_of}
 use Rattle.control_points.specs.Answers.{Coordinate, At, Out}
 use Rattle.control_points.proofs.rounded.Goals as goal
 
-fitting : (x : Float) (z : ℤ) → I32.Exact z ≡ cut_i32 (round_of binary32 x) → to_z w32 (of_z w32 z) ≡ z
+fitting : (x : Float) (z : ℤ) → K.Exact z ≡ cut_i32 (round_of binary32 x) → to_z w32 (of_z w32 z) ≡ z
 fitting x z kind =
     to_z-of_z {w = w32} {z = z} (subst (SFits w32) (sym (ap saturated_i32 kind ∙ saturated_i32_lem (round_of binary32 x))) (record { sfits = to_signed_in 31 (round_of binary32 x) }))
 
@@ -26,11 +26,11 @@ tested true z = refl
 tested false z = refl
 
 -- any other kind is none
-other : (k : KindI32) → ((z : ℤ) → k ≡ I32.Exact z → ⊥) → ◌≡◌ {A = Coordinate} Out (coordinate_by k)
-other (I32.Exact z) not_exact = absurd (not_exact z refl)
-other I32.NotNumber h = refl
-other I32.Below h = refl
-other I32.Above h = refl
+other : (k : Kind ℤ) → ((z : ℤ) → k ≡ K.Exact z → ⊥) → ◌≡◌ {A = Coordinate} Out (coordinate_by k)
+other (K.Exact z) not_exact = absurd (not_exact z refl)
+other K.NotNumber h = refl
+other K.Below h = refl
+other K.Above h = refl
 
 pub returns-in-Exact : goal.returns-in-Exact
 unfolding rounded_of
