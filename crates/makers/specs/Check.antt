@@ -4,8 +4,9 @@ use Rattle.std.specs.Prelude.{◌≡◌, Bool, true, false, cond, ◌&&◌, List
 use Rattle.codes.specs.Codes.{number_of}
 use Rattle.codes.specs.declared.Code.{Code}
 use Rattle.rows.specs.Rows.{listed, entries_between, in_row}
-use Rattle.makers.specs.declared.CheckAnswer.{CheckAnswer}
-use Rattle.makers.specs.declared.CheckAnswer.TheVariants.{Done, Refused}
+use Rattle.checks.specs.Tables.{Table}
+use Rattle.makers.specs.CheckAnswer.{CheckAnswer}
+use Rattle.makers.specs.CheckAnswer.{Done, Refused}
 
 -- ---- a row
 
@@ -57,6 +58,10 @@ check_of segs S H starts entries n =
     (or_refuse (offered_counts_good segs S entries n) Code.Table
     (or_refuse (eqb (get_or starts 0 0) 0) Code.Table
     (by_rows H (get_or starts H 0) n (wrong_from (row_right (in_row segs) S starts entries n) 0 H)))))
+
+-- of a table that is offered
+abbrev pub check_in : Table → CheckAnswer
+check_in t = check_of t.segments t.segment_count t.height t.row_starts t.entries t.entry_count
 
 -- an answer in the terms of the table of codes: the code's number, the place and the entries
 pub record CheckTold : Type 0 where

@@ -1,7 +1,13 @@
 -- What the steps of a check tell: cited by contracts of private functions. Definitions only.
-use Rattle.std.specs.Prelude.{◌≡◌, Bool, true, ◌&&◌, List, [], ◌∷◌, ℕ, suc, ◌≤◌, ◌<◌, leb, ltb, get_or, length}
+use Rattle.std.specs.Prelude.{◌≡◌, Bool, true, ◌&&◌, List, [], ◌∷◌, ℕ, suc, ◌≤◌, ◌<◌, ◌*◌, ◌^◌, leb, ltb, get_or, length}
 use Rattle.rows.specs.Rows.{entries_between}
+use Rattle.checks.specs.declared.Table.{Table}
 use Rattle.makers.specs.Check.{starts_good}
+
+-- the floats hold the segments that are counted, which are at most 2^24
+pub record HasSegments (t : Table) : Type 0 where
+  pub stored : 8 * t.segment_count ≤ length t.segments.now
+  pub few : t.segment_count ≤ 2 ^ 24
 
 -- the numbers are at least `least`, ascend, and each names a segment below S that passes the test
 unfoldable pub rising : (ℕ → Bool) → ℕ → ℕ → List ℕ → Bool

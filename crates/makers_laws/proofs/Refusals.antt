@@ -12,8 +12,8 @@ use borrow.Author.Tests.{le-leb, eqb-true, eqb-false}
 use Rattle.codes.specs.declared.Code.{Code}
 use Rattle.rows.specs.Rows.{in_row}
 use Rattle.rows.proofs.Counts.{split}
-use Rattle.makers.specs.declared.CheckAnswer.{CheckAnswer}
-use Rattle.makers.specs.declared.CheckAnswer.TheVariants.{Done, Refused}
+use Rattle.makers.specs.CheckAnswer.{CheckAnswer}
+use Rattle.makers.specs.CheckAnswer.{Done, Refused}
 use Rattle.makers.specs.Check.{row_right, RowRight, wrong_from, offered_counts_good, check_of}
 use Rattle.makers.specs.Refusals.{OfferedCountsFit, OfferedOverrun, many_segments, segments_short, many_entries, entries_short, Fits, RowGood, FirstWrong, wrong_row, first_start, left_over, CheckAccepted, CheckRefusal, size, shape, counts, row}
 use Rattle.makers.proofs.Rows.{first_is, first_one, is_false, true_or_false, false_not_true, right_facts, right_made}

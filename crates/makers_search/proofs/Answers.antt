@@ -9,7 +9,7 @@ use lib.ListN.{length, get_or}
 use borrow.Author.Tests.{le-leb, lt-leb, leb-true, eq-eqb, ne_eqb}
 use Rattle.codes.specs.declared.Code.{Code}
 use Rattle.rows.specs.Rows.{in_row}
-use Rattle.makers.specs.declared.CheckAnswer.TheVariants.{Done, Refused}
+use Rattle.makers.specs.CheckAnswer.{Done, Refused}
 use Rattle.makers.specs.Check.{row_right, wrong_from, offered_counts_good, by_rows, check_of}
 use Rattle.makers.specs.Refusals.{OfferedCountsFit}
 use Rattle.makers.proofs.Rows.{and_left, and_right}

@@ -5,12 +5,11 @@ use Rattle.segments.specs.Ranges.{rows_of}
 use Rattle.makers.proofs.Rows.{has_by}
 use Rattle.makers.proofs.has_row.Goals as goal
 
-pub returns-then-y-range : goal.returns-then-y-range
-returns-then-y-range c =
-    let r = c.rows-range in
-    sym (has_by _ _ (r.ensures ∙ ap rows_of c.at-segment.ensures) c.requires.y_bound ∙ rw (lt-leb _ _ c.if-y-range.true))
+pub returns-then-rows-y : goal.returns-then-rows-y
+returns-then-rows-y c =
+    sym (has_by _ _ (c.rows-rows.ensures ∙ ap rows_of c.at.ensures) c.requires.y_bound ∙ rw (le-leb _ _ c.if-rows-y.true))
 
-pub returns : goal.returns
-returns c =
-    let r = c.rows-range in
-    sym (has_by _ _ (r.ensures ∙ ap rows_of c.at-segment.ensures) c.requires.y_bound ∙ rw (le-leb _ _ c.if-y-range.false))
+pub returns-else-rows-y : goal.returns-else-rows-y
+returns-else-rows-y c =
+    let late = lt-leb _ _ c.if-rows-y.false in
+    late ∙ sym (has_by _ _ (c.rows-rows.ensures ∙ ap rows_of c.at.ensures) c.requires.y_bound ∙ rw late)

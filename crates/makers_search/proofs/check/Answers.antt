@@ -11,58 +11,58 @@ use Rattle.makers.proofs.Rows.{first_is}
 use Rattle.makers_search.proofs.Answers.{counts_facts, at_size, at-shape, at-counts, at_first, at_row, at-end, at_done}
 use Rattle.makers_search.proofs.check.Goals as goal
 
-pub returns-then-height-gt8388608 : goal.returns-then-height-gt8388608
-returns-then-height-gt8388608 c =
+pub returns-then-table-gt8388608 : goal.returns-then-table-gt8388608
+returns-then-table-gt8388608 c =
     let A = c.args in
-    at_size A.segments.now A.segment_count A.height A.row_starts.now A.entries.now A.entry_count c.if-height-gt8388608.true
+    at_size A.table.now.segments.now A.table.now.segment_count A.table.now.height A.table.now.row_starts.now A.table.now.entries.now A.table.now.entry_count c.if-table-gt8388608.true
 
-pub returns-then-row_starts-rows : goal.returns-then-row_starts-rows
-returns-then-row_starts-rows c =
+pub returns-then-table-rows : goal.returns-then-table-rows
+returns-then-table-rows c =
     let A = c.args in
-    at-shape A.segments.now A.segment_count A.height A.row_starts.now A.entries.now A.entry_count c.if-height-gt8388608.false (λ e. c.if-row_starts-rows.true (e ∙ sym (add-one A.height)))
+    at-shape A.table.now.segments.now A.table.now.segment_count A.table.now.height A.table.now.row_starts.now A.table.now.entries.now A.table.now.entry_count c.if-table-gt8388608.false (λ e. c.if-table-rows.true (e ∙ sym (add-one A.table.now.height)))
 
 pub returns-then-not-counts_good : goal.returns-then-not-counts_good
 returns-then-not-counts_good c =
     let A = c.args in
-    let t : length A.row_starts.now ≡ suc A.height = c.if-row_starts-rows.false ∙ add-one A.height in
-    at-counts A.segments.now A.segment_count A.height A.row_starts.now A.entries.now A.entry_count c.if-height-gt8388608.false t (sym c.counts_good.ensures ∙ c.if-not-counts_good.true)
+    let t : length A.table.now.row_starts.now ≡ suc A.table.now.height = c.if-table-rows.false ∙ add-one A.table.now.height in
+    at-counts A.table.now.segments.now A.table.now.segment_count A.table.now.height A.table.now.row_starts.now A.table.now.entries.now A.table.now.entry_count c.if-table-gt8388608.false t (sym c.counts_good.ensures ∙ c.if-not-counts_good.true)
 
-pub returns-then-row_starts-ne0 : goal.returns-then-row_starts-ne0
-returns-then-row_starts-ne0 c =
+pub returns-then-table-ne0 : goal.returns-then-table-ne0
+returns-then-table-ne0 c =
     let A = c.args in
-    let t : length A.row_starts.now ≡ suc A.height = c.if-row_starts-rows.false ∙ add-one A.height in
-    let g : offered_counts_good A.segments.now A.segment_count A.entries.now A.entry_count ≡ true = sym c.counts_good.ensures ∙ c.if-not-counts_good.false in
-    at_first A.segments.now A.segment_count A.height A.row_starts.now A.entries.now A.entry_count c.if-height-gt8388608.false t g c.if-row_starts-ne0.true
+    let t : length A.table.now.row_starts.now ≡ suc A.table.now.height = c.if-table-rows.false ∙ add-one A.table.now.height in
+    let g : offered_counts_good A.table.now.segments.now A.table.now.segment_count A.table.now.entries.now A.table.now.entry_count ≡ true = sym c.counts_good.ensures ∙ c.if-not-counts_good.false in
+    at_first A.table.now.segments.now A.table.now.segment_count A.table.now.height A.table.now.row_starts.now A.table.now.entries.now A.table.now.entry_count c.if-table-gt8388608.false t g c.if-table-ne0.true
 
 pub first_wrong-wrong-requires : goal.first_wrong-wrong-requires
 first_wrong-wrong-requires c =
     let A = c.args in
-    let t : length A.row_starts.now ≡ suc A.height = c.if-row_starts-rows.false ∙ add-one A.height in
-    let g : offered_counts_good A.segments.now A.segment_count A.entries.now A.entry_count ≡ true = sym c.counts_good.ensures ∙ c.if-not-counts_good.false in
-    let f = counts_facts A.segments.now A.segment_count A.entries.now A.entry_count g in
+    let t : length A.table.now.row_starts.now ≡ suc A.table.now.height = c.if-table-rows.false ∙ add-one A.table.now.height in
+    let g : offered_counts_good A.table.now.segments.now A.table.now.segment_count A.table.now.entries.now A.table.now.entry_count ≡ true = sym c.counts_good.ensures ∙ c.if-not-counts_good.false in
+    let f = counts_facts A.table.now.segments.now A.table.now.segment_count A.table.now.entries.now A.table.now.entry_count g in
     record {
-      segment_count_in_bounds = (f.segments_fit, f.few_segments);
-      entry_count_in_bounds = (f.entries_fit, omega (arith, t), c.if-height-gt8388608.false);
-      row_starts_value = c.if-row_starts-ne0.false;
+      segments = record { stored = f.segments_fit; few = f.few_segments };
+      entries = (f.entries_fit, omega (arith, t), c.if-table-gt8388608.false);
+      row_starts_value = c.if-table-ne0.false;
     }
 
 pub returns-then-wrong-rows : goal.returns-then-wrong-rows
 returns-then-wrong-rows c =
     let A = c.args in
-    let t : length A.row_starts.now ≡ suc A.height = c.if-row_starts-rows.false ∙ add-one A.height in
-    let g : offered_counts_good A.segments.now A.segment_count A.entries.now A.entry_count ≡ true = sym c.counts_good.ensures ∙ c.if-not-counts_good.false in
-    at_row A.segments.now A.segment_count A.height A.row_starts.now A.entries.now A.entry_count c.if-height-gt8388608.false t g c.if-row_starts-ne0.false c.first_wrong-wrong.ensures (omega arith)
+    let t : length A.table.now.row_starts.now ≡ suc A.table.now.height = c.if-table-rows.false ∙ add-one A.table.now.height in
+    let g : offered_counts_good A.table.now.segments.now A.table.now.segment_count A.table.now.entries.now A.table.now.entry_count ≡ true = sym c.counts_good.ensures ∙ c.if-not-counts_good.false in
+    at_row A.table.now.segments.now A.table.now.segment_count A.table.now.height A.table.now.row_starts.now A.table.now.entries.now A.table.now.entry_count c.if-table-gt8388608.false t g c.if-table-ne0.false c.first_wrong-wrong.ensures (omega arith)
 
-pub returns-then-row_starts-rows-2 : goal.returns-then-row_starts-rows-2
-returns-then-row_starts-rows-2 c =
+pub returns-then-table-rows-2 : goal.returns-then-table-rows-2
+returns-then-table-rows-2 c =
     let A = c.args in
-    let t : length A.row_starts.now ≡ suc A.height = c.if-row_starts-rows.false ∙ add-one A.height in
-    let g : offered_counts_good A.segments.now A.segment_count A.entries.now A.entry_count ≡ true = sym c.counts_good.ensures ∙ c.if-not-counts_good.false in
-    at-end A.segments.now A.segment_count A.height A.row_starts.now A.entries.now A.entry_count c.if-height-gt8388608.false t g c.if-row_starts-ne0.false c.first_wrong-wrong.ensures (omega (arith, c.first_wrong-wrong.ensures, (first_is (row_right (in_row A.segments.now) A.segment_count A.row_starts.now A.entries.now A.entry_count) 0 A.height).within)) (λ e. omega (arith, e))
+    let t : length A.table.now.row_starts.now ≡ suc A.table.now.height = c.if-table-rows.false ∙ add-one A.table.now.height in
+    let g : offered_counts_good A.table.now.segments.now A.table.now.segment_count A.table.now.entries.now A.table.now.entry_count ≡ true = sym c.counts_good.ensures ∙ c.if-not-counts_good.false in
+    at-end A.table.now.segments.now A.table.now.segment_count A.table.now.height A.table.now.row_starts.now A.table.now.entries.now A.table.now.entry_count c.if-table-gt8388608.false t g c.if-table-ne0.false c.first_wrong-wrong.ensures (omega (arith, c.first_wrong-wrong.ensures, (first_is (row_right (in_row A.table.now.segments.now) A.table.now.segment_count A.table.now.row_starts.now A.table.now.entries.now A.table.now.entry_count) 0 A.table.now.height).within)) (λ e. omega (arith, e))
 
 pub returns : goal.returns
 returns c =
     let A = c.args in
-    let t : length A.row_starts.now ≡ suc A.height = c.if-row_starts-rows.false ∙ add-one A.height in
-    let g : offered_counts_good A.segments.now A.segment_count A.entries.now A.entry_count ≡ true = sym c.counts_good.ensures ∙ c.if-not-counts_good.false in
-    at_done A.segments.now A.segment_count A.height A.row_starts.now A.entries.now A.entry_count c.if-height-gt8388608.false t g c.if-row_starts-ne0.false c.first_wrong-wrong.ensures (omega arith) (omega arith)
+    let t : length A.table.now.row_starts.now ≡ suc A.table.now.height = c.if-table-rows.false ∙ add-one A.table.now.height in
+    let g : offered_counts_good A.table.now.segments.now A.table.now.segment_count A.table.now.entries.now A.table.now.entry_count ≡ true = sym c.counts_good.ensures ∙ c.if-not-counts_good.false in
+    at_done A.table.now.segments.now A.table.now.segment_count A.table.now.height A.table.now.row_starts.now A.table.now.entries.now A.table.now.entry_count c.if-table-gt8388608.false t g c.if-table-ne0.false c.first_wrong-wrong.ensures (omega arith) (omega arith)

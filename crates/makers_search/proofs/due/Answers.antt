@@ -26,6 +26,6 @@ pub returns : goal.returns
 returns c =
     let s = c.args in
     let e : c.loop-i.i ≡ s.count = omega arith in
-    c.loop-i.invariant.1
+    c.loop-i.invariant.0
     ∙ ap (heights (first_of s.segments.now) (past_of s.segments.now s.n)) e
     ∙ due_is s.segments.now s.count s.n c.requires.n_bound

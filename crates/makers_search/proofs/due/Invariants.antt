@@ -1,12 +1,8 @@
 -- `due`: the sum is that of the segments below i, each at most n.
 use mathlib.Core.Path.{◌≡◌}
-use Prim.Native.Nat.{◌*◌, ◌≤◌, ◌-◌}
+use Prim.Native.Nat.{◌*◌, ◌≤◌}
 use Rattle.rows.specs.Steps.{heights, first_of, past_of}
 use Rattle.makers_search.proofs.due.Given as goal
 
 abbrev pub invariant-loop-i : goal.invariant-loop-i
-invariant-loop-i l =
-    (l.i ≤ l.count) × (l.sum ≡ heights (first_of l.segments) (past_of l.segments l.n) l.i) × (l.sum ≤ l.i * 8388608)
-
-abbrev pub decreases-loop-i : goal.decreases-loop-i
-decreases-loop-i l = l.count - l.i
+invariant-loop-i l = (l.sum ≡ heights (first_of l.segments) (past_of l.segments l.n) l.i) × (l.sum ≤ l.i * 8388608)

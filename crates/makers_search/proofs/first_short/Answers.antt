@@ -15,11 +15,11 @@ pub loop-low-init : goal.loop-low-init
 loop-low-init c =
     let A = c.args in
     let f = c.requires.fitting in
-    let s : get_or A.row_starts.now A.bad 0 < start_of (in_row A.segments.now) A.segment_count A.bad =
+    let s : get_or A.table.now.row_starts.now A.bad 0 < start_of (in_row A.table.now.segments.now) A.table.now.segment_count A.bad =
     ltb-true _ _ (sym c.short_before.ensures ∙ c.if-not-short_before.false) in (
-      some_rows (in_row A.segments.now) A.segment_count A.row_starts.now f.begins A.bad s,
+      some_rows (in_row A.table.now.segments.now) A.table.now.segment_count A.table.now.row_starts.now f.begins A.bad s,
       omega arith,
-      begin_full (in_row A.segments.now) A.segment_count A.row_starts.now f.begins,
+      begin_full (in_row A.table.now.segments.now) A.table.now.segment_count A.table.now.row_starts.now f.begins,
       s,
     )
 

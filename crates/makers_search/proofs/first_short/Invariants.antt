@@ -8,8 +8,8 @@ abbrev pub invariant-loop-low : goal.invariant-loop-low
 invariant-loop-low l =
     (l.low < l.high)
     × (l.high ≤ l.bad)
-    × (start_of (in_row l.segments) l.segment_count l.low ≤ get_or l.row_starts l.low 0)
-    × (get_or l.row_starts l.high 0 < start_of (in_row l.segments) l.segment_count l.high)
+    × (start_of (in_row l.table.segments.now) l.table.segment_count l.low ≤ get_or l.table.row_starts.now l.low 0)
+    × (get_or l.table.row_starts.now l.high 0 < start_of (in_row l.table.segments.now) l.table.segment_count l.high)
 
 abbrev pub decreases-loop-low : goal.decreases-loop-low
 decreases-loop-low l = l.high - l.low

@@ -13,13 +13,13 @@ first_short-requires c =
     let A = c.args in
     let P = c.requires in
     let e = c.first_unfit-bad.ensures in
-    let w = (first_is (row_fits (in_row A.segments.now) A.segment_count A.row_starts.now A.entries.now A.entry_count) 0 A.height).within in
+    let w = (first_is (row_fits (in_row A.table.now.segments.now) A.table.now.segment_count A.table.now.row_starts.now A.table.now.entries.now A.table.now.entry_count) 0 A.height).within in
     record {
-      segment_count_in_bounds = P.segment_count_in_bounds;
-      bad_bound = (omega (arith, e, w, P.entry_count_in_bounds), omega (arith, e, w, P.entry_count_in_bounds));
+      segments = P.segments;
+      bad_bound = (omega (arith, e, w, P.entries), omega (arith, e, w, P.entries));
       fitting =
-          subst (λ (bad : ℕ). Fitting (in_row A.segments.now) A.segment_count A.row_starts.now A.entries.now A.entry_count bad) (sym e)
-          (fitting (in_row A.segments.now) A.segment_count A.row_starts.now A.entries.now A.entry_count A.height P.row_starts_value P.entry_count_in_bounds.0);
+          subst (λ (bad : ℕ). Fitting (in_row A.table.now.segments.now) A.table.now.segment_count A.table.now.row_starts.now A.table.now.entries.now A.table.now.entry_count bad) (sym e)
+          (fitting (in_row A.table.now.segments.now) A.table.now.segment_count A.table.now.row_starts.now A.table.now.entries.now A.table.now.entry_count A.height P.row_starts_value P.entries.0);
     }
 
 pub returns : goal.returns
