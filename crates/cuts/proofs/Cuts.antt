@@ -44,7 +44,7 @@ cut_between first past a e x0 n k p q h =
 
 -- none of the columns
 pub cuts_none : (r : Range) (p : ℕ → Bool) (x0 n : ℕ) → r.first ≡ x0 → r.past ≡ x0 → ((k : ℕ) → k < n → p (x0 + k) ≡ false) → Cuts r p x0 n
-cuts_none r p x0 n a e h = (omega arith, omega arith, omega arith, λ k l. between_none r.first r.past (x0 + k) (omega arith) ∙ sym (h k l))
+cuts_none r p x0 n a e h = record { begins = omega arith; ascends = omega arith; ends = omega arith; passes = λ k l. between_none r.first r.past (x0 + k) (omega arith) ∙ sym (h k l) }
 
 module _ (s : Segment) (columns : Range) (a e x0 n : ℕ) (q : columns ≡ columns_of s) (h : x0 + n ≤ 2 ^ 23) (p : a ≡ max x0 columns.first) (t : e ≡ min (x0 + n) columns.past) where
   -- those that a segment has, cut to a part

@@ -1,33 +1,30 @@
 // The columns that a segment has, cut to a part of a row, and the segment added in a range of them.
 #![tactic(auto)]
 
-ghost use Rattle.std.specs.Prelude.{◌≡◌, false, cond, ◌+◌, ◌^◌, ◌≤◌, length};
+ghost use Rattle.std.specs.Prelude.{◌≡◌, false, cond};
 ghost use Rattle.segments.specs.Ranges.{has_column};
 ghost use Rattle.shade.specs.Edit.{edit};
-ghost use Rattle.cuts.specs.Cuts.{Cuts, shaded_in_range_by};
+ghost use Rattle.cuts.specs.Cuts.{Cuts, InChannels, shaded_in_range_by};
 
-use columns::{greatest, least};
+use columns::Part;
 use segments::{Range, Segment};
 
-// Those of the n columns from x0 on that a segment has, unless it is hidden.
-pub fn part_of(segment: Segment, hidden: bool, x0: u32, n: u32) -> Range
-    requires { x0 + n ≤ 2 ^ 23 }
-    ensures { Cuts result (λ x. cond hidden false (has_column segment x)) x0 n }
+// Those columns of a part that a segment has, unless it is hidden.
+pub fn part_of(segment: Segment, hidden: bool, part: Part) -> Range
+    ensures { Cuts result (λ x. cond hidden false (has_column segment x)) part.x0 part.n }
 {
+    let none = Range {
+        first: part.x0,
+        past: part.x0,
+    };
     if hidden {
-        return Range {
-            first: x0,
-            past: x0,
-        };
+        return none;
     }
     let columns = segment.columns();
-    let first = greatest(x0, columns.first);
-    let past = least(x0 + n, columns.past);
+    let first = part.x0.max(columns.first);
+    let past = (part.x0 + part.n).min(columns.past);
     if past <= first {
-        return Range {
-            first: x0,
-            past: x0,
-        };
+        return none;
     }
     Range { first, past }
 }
@@ -42,8 +39,7 @@ pub fn add_in(
     r1: &mut [f32],
     r2: &mut [f32],
 )
-    requires x0_le_first { (x0 ≤ range.first) × (range.first ≤ range.past) × (range.past ≤ range.first + 32) }
-    requires past_bound { (range.past ≤ x0 + length r0.old) × (range.past ≤ x0 + length r1.old) × (range.past ≤ x0 + length r2.old) }
+    requires { InChannels range x0 r0.old r1.old r2.old }
     ensures r0_after { r0.new ≡ edit (shaded_in_range_by segment range locals.now x0 0) r0.old }
     ensures r1_after { r1.new ≡ edit (shaded_in_range_by segment range locals.now x0 1) r1.old }
     ensures r2_after { r2.new ≡ edit (shaded_in_range_by segment range locals.now x0 2) r2.old }
