@@ -18,11 +18,10 @@ use Rattle.shade.specs.Shade.{sqd, dy2, intensity_at, local_intensity, shade, sh
 use Rattle.shade.proofs.Edits.{lt_or_ge, length_edit, edit_cong}
 use Rattle.blocks.proofs.Blocks.{passed}
 use Rattle.desks.specs.Desks.{Sight, hidden_in, shown}
-use Rattle.columns.specs.Columns.{pixel, between, count, updates}
+use Rattle.columns.specs.Columns.{pixel, between, count, updates, shaded_in_range}
 use Rattle.columns.proofs.Columns.{count_between, count_cong, ranged}
 use Rattle.cuts.specs.Cuts.{Cuts, shaded_in_range_by}
 use Rattle.cuts.proofs.Cuts.{between_past}
-use Rattle.couples.specs.Couples.{shaded_in_range, shown_channel}
 
 -- ---- one segment, shown or hidden, in the range of the columns that it has
 
@@ -30,28 +29,41 @@ count_none : (x0 n : ℕ) → count (λ x. false) x0 n ≡ 0
 count_none x0 zero = refl
 count_none x0 (suc n) = omega (arith, count_none x0 n)
 
-module _ (s : Sight) (segs : List Float) (i x0 n : ℕ) (b : Bool) (g : Segment) (r : Range) (e : b ≡ hidden_in s i) (q : g ≡ segment_at segs i) (h : Cuts r (λ x. cond b false (has_column g x)) x0 n) where
+-- segment i, whether it is hidden, and those of the n columns from x0 on that it has
+pub record Placed (s : Sight) (segs : List Float) (x0 n i : ℕ) (b : Bool) (g : Segment) (r : Range) : Type 0 where
+  pub hides : b ≡ hidden_in s i
+  pub is : g ≡ segment_at segs i
+  pub cuts : Cuts r (λ x. cond b false (has_column g x)) x0 n
+
+pub placed : (s : Sight) (segs : List Float) (x0 n i : ℕ) {b : Bool} {g : Segment} {r : Range} → b ≡ hidden_in s i → g ≡ segment_at segs i → Cuts r (λ x. cond b false (has_column g x)) x0 n → Placed s segs x0 n i b g r
+placed s segs x0 n i e q h = record { hides = e; is = q; cuts = h }
+
+-- n pixels of a channel of colour c, from column x0 of row y on, with those of the listed segments added that are shown
+abbrev shown_channel : ℕ → List Float → Sight → ℕ → ℕ → ℕ → List ℕ → List Float → List Float
+shown_channel c segs s y x0 n listed xs = edit (first_cells n (λ k v. pixel c segs y (x0 + k) (shown s listed) v)) xs
+
+module _ {s : Sight} {segs : List Float} {i x0 n : ℕ} {b : Bool} {g : Segment} {r : Range} (P : Placed s segs x0 n i b g r) where
   pub part_counts : r.past - r.first ≡ updates segs x0 n (shown s (i ∷ []))
   part_counts =
-      omega (arith, count_between r.first r.past x0 n, h.0, h.1, h.2, count_cong (between r.first r.past) (λ x. cond b false (has_column g x)) x0 n h.3)
-      ∙ ap (λ (d : Bool). count (λ x. cond d false (has_column g x)) x0 n) e
+      omega (arith, count_between r.first r.past x0 n, P.cuts.begins, P.cuts.ascends, P.cuts.ends, count_cong (between r.first r.past) (λ x. cond b false (has_column g x)) x0 n P.cuts.passes)
+      ∙ ap (λ (d : Bool). count (λ x. cond d false (has_column g x)) x0 n) P.hides
       ∙ go (hidden_in s i)
     where
       go : (d : Bool) → count (λ x. cond d false (has_column g x)) x0 n ≡ updates segs x0 n (cond d [] (i ∷ []))
       go true = count_none x0 n
-      go false = ap (λ (t : Segment). count (has_column t) x0 n) q ∙ omega arith
+      go false = ap (λ (t : Segment). count (has_column t) x0 n) P.is ∙ omega arith
 
   module _ (c y : ℕ) where
     cell : (k : ℕ) (v : Float) → shaded_in_range g r y x0 c k v ≡ first_cells n (λ j w. pixel c segs y (x0 + j) (shown s (i ∷ [])) w) k v
     cell k v =
         ⊎_elim
-        (λ l. rw (lt-ltb k n l) (ap (λ (t : Bool). cond t (shaded g y (x0 + k) c v) v) (h.3 k l ∙ ap (λ (d : Bool). cond d false (has_column g (x0 + k))) e) ∙ go (hidden_in s i)))
-        (λ l. rw (le-ltb k n l, between_past r.first r.past (x0 + k) (omega (arith, h.2))))
+        (λ l. rw (lt-ltb k n l) (ap (λ (t : Bool). cond t (shaded g y (x0 + k) c v) v) (P.cuts.passes k l ∙ ap (λ (d : Bool). cond d false (has_column g (x0 + k))) P.hides) ∙ go (hidden_in s i)))
+        (λ l. rw (le-ltb k n l, between_past r.first r.past (x0 + k) (omega (arith, P.cuts.ends))))
         (lt_or_ge k n)
       where
         go : (d : Bool) → cond (cond d false (has_column g (x0 + k))) (shaded g y (x0 + k) c v) v ≡ pixel c segs y (x0 + k) (cond d [] (i ∷ [])) v
         go true = refl
-        go false = ap (λ (t : Segment). cond (has_column t (x0 + k)) (shaded t y (x0 + k) c v) v) q
+        go false = ap (λ (t : Segment). cond (has_column t (x0 + k)) (shaded t y (x0 + k) c v) v) P.is
 
     pub range_shown : (xs : List Float) → edit (shaded_in_range g r y x0 c) xs ≡ shown_channel c segs s y x0 n (i ∷ []) xs
     range_shown xs = edit_cong (shaded_in_range g r y x0 c) _ xs (λ k v l. cell k v)
@@ -60,7 +72,7 @@ module _ (s : Sight) (segs : List Float) (i x0 n : ℕ) (b : Bool) (g : Segment)
     ranged_shown xs = edit_cong (ranged (λ x v. shaded g y x c v) r.first r.past x0 n) _ xs (λ k v l. whole k v ∙ cell k v)
       where
         whole : (k : ℕ) (v : Float) → ranged (λ x w. shaded g y x c w) r.first r.past x0 n k v ≡ shaded_in_range g r y x0 c k v
-        whole k v = ⊎_elim (λ l. rw (lt-ltb k n l)) (λ l. rw (le-ltb k n l, between_past r.first r.past (x0 + k) (omega (arith, h.2)))) (lt_or_ge k n)
+        whole k v = ⊎_elim (λ l. rw (lt-ltb k n l)) (λ l. rw (le-ltb k n l, between_past r.first r.past (x0 + k) (omega (arith, P.cuts.ends)))) (lt_or_ge k n)
 
 -- ---- by the intensities in a range
 
@@ -96,20 +108,18 @@ added_two one two p q v w y x0 c xs ys zs h k e f =
 
 -- ---- two segments, each shown or hidden, in the ranges of the columns that they have
 
-module _ (s : Sight) (segs : List Float) (y x0 n : ℕ)
-    (i : ℕ) (a : Bool) (one : Segment) (p : Range) (hi : a ≡ hidden_in s i) (gi : one ≡ segment_at segs i) (ci : Cuts p (λ x. cond a false (has_column one x)) x0 n)
-    (j : ℕ) (b : Bool) (two : Segment) (q : Range) (hj : b ≡ hidden_in s j) (gj : two ≡ segment_at segs j) (cj : Cuts q (λ x. cond b false (has_column two x)) x0 n) where
+module _ {s : Sight} {segs : List Float} {x0 n i j : ℕ} {a b : Bool} {one two : Segment} {p q : Range} (P : Placed s segs x0 n i a one p) (Q : Placed s segs x0 n j b two q) where
   pub two_count : p.past - p.first + (q.past - q.first) ≡ updates segs x0 n (shown s (i ∷ [])) + updates segs x0 n (shown s (j ∷ []))
-  two_count = omega (arith, part_counts s segs i x0 n a one p hi gi ci, part_counts s segs j x0 n b two q hj gj cj)
+  two_count = omega (arith, part_counts P, part_counts Q)
 
   pub two_small : p.past - p.first + (q.past - q.first) ≤ n + n
-  two_small = omega (arith, ci.0, ci.1, ci.2, cj.0, cj.1, cj.2)
+  two_small = omega (arith, P.cuts.begins, P.cuts.ascends, P.cuts.ends, Q.cuts.begins, Q.cuts.ascends, Q.cuts.ends)
 
-  pub two_ranged : (c : ℕ) (xs ys zs : List Float) → ys ≡ edit (ranged (λ x v. shaded one y x c v) p.first p.past x0 n) xs → zs ≡ edit (ranged (λ x v. shaded two y x c v) q.first q.past x0 n) ys → zs ≡ shown_channel c segs s y x0 n (j ∷ []) (shown_channel c segs s y x0 n (i ∷ []) xs)
-  two_ranged c xs ys zs e f = f ∙ ranged_shown s segs j x0 n b two q hj gj cj c y ys ∙ ap (shown_channel c segs s y x0 n (j ∷ [])) (e ∙ ranged_shown s segs i x0 n a one p hi gi ci c y xs)
+  pub two_ranged : (c y : ℕ) (xs ys zs : List Float) → ys ≡ edit (ranged (λ x v. shaded one y x c v) p.first p.past x0 n) xs → zs ≡ edit (ranged (λ x v. shaded two y x c v) q.first q.past x0 n) ys → zs ≡ shown_channel c segs s y x0 n (j ∷ []) (shown_channel c segs s y x0 n (i ∷ []) xs)
+  two_ranged c y xs ys zs e f = f ∙ ranged_shown Q c y ys ∙ ap (shown_channel c segs s y x0 n (j ∷ [])) (e ∙ ranged_shown P c y xs)
 
-  pub two_narrow : (c : ℕ) (xs ys : List Float) → ys ≡ edit (shaded_in_range two q y x0 c) (edit (shaded_in_range one p y x0 c) xs) → ys ≡ shown_channel c segs s y x0 n (j ∷ []) (shown_channel c segs s y x0 n (i ∷ []) xs)
-  two_narrow c xs ys e = e ∙ range_shown s segs j x0 n b two q hj gj cj c y _ ∙ ap (shown_channel c segs s y x0 n (j ∷ [])) (range_shown s segs i x0 n a one p hi gi ci c y xs)
+  pub two_narrow : (c y : ℕ) (xs ys : List Float) → ys ≡ edit (shaded_in_range two q y x0 c) (edit (shaded_in_range one p y x0 c) xs) → ys ≡ shown_channel c segs s y x0 n (j ∷ []) (shown_channel c segs s y x0 n (i ∷ []) xs)
+  two_narrow c y xs ys e = e ∙ range_shown Q c y _ ∙ ap (shown_channel c segs s y x0 n (j ∷ [])) (range_shown P c y xs)
 
 -- a part of a channel that has been edited
 pub still_within : (f : ℕ → Float → Float) (a b : ℕ) (xs ys : List Float) → ys ≡ edit f xs → a ≤ b + length xs → a ≤ b + length ys
