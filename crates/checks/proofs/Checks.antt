@@ -2,13 +2,14 @@
 use mathlib.Core.Path.{◌≡◌, refl, subst}
 use mathlib.Core.Bool.{Bool, true, false}
 use Prim.Native.Nat.{ℕ, ◌+◌, ◌<◌, ◌≤◌}
+use native.Mathlib.Omega.{arith}
 use lib.ListN.{length, get_or}
 use lib.Dec.{leb, ltb}
 use borrow.Author.Tests.{ltb-true, leb-true}
 use Rattle.codes.specs.declared.Code.{Code}
 use Rattle.desks.specs.Desks.{Sight, desk_good, bytes_good, all_owned}
 use Rattle.checks.specs.Tables.{Table, row_of}
-use Rattle.checks.specs.Checks.{all_below, counts_good, counts_good_for, span_good, entries_good, row_good, row_good_for, or_fault, judge_row, judge_draw}
+use Rattle.checks.specs.Checks.{all_below, counts_good, counts_good_for, span_good, entries_good, row_good, row_good_for, EntriesFit, or_fault, judge_row, judge_draw}
 use Rattle.checks.specs.Refusals.{CountsFit, CountsFitFor, SpanFits, Lent}
 use Rattle.checks.specs.Verdict.{Verdict, Fine, Fault}
 use Rattle.checks.proofs.Entries.{and_left, and_right}
@@ -70,6 +71,19 @@ row_facts_for t s y h =
       table = row_facts t y (and_left (row_good t y) (all_owned s.owners s.splines (row_of t y)) h);
       all_owned_lem = and_right (row_good t y) (all_owned s.owners s.splines (row_of t y)) h;
     }
+
+-- the entries of a row that passed, of a table that is lent as it should be
+pub row_fits : {t : Table} {s : Sight} {y : ℕ} → Lent t s → RowFactsFor t s y → EntriesFit t s (get_or t.row_starts y 0) (get_or t.row_starts (y + 1) 0)
+row_fits l r = record {
+  ascending = r.table.ascending;
+  entries_fit = omega (arith, r.table.in_count, l.counts.table.entries_fit);
+  segments_fit = l.counts.table.segments_fit;
+  owners_fit = l.counts.owners_fit;
+  bytes = l.bytes;
+  desk = l.desk;
+  named = r.table.all_named;
+  owned = r.all_owned_lem;
+}
 
 -- ---- the checks together
 

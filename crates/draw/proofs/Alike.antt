@@ -13,8 +13,7 @@ use Rattle.segments.specs.Ranges.{has_column}
 use Rattle.shade.specs.Edit.{first_cells}
 use Rattle.shade.specs.Shade.{shaded}
 use Rattle.shade.proofs.Edits.{edit_cong}
-use Rattle.checks.specs.declared.Verdict.{Verdict}
-use Rattle.checks.specs.declared.Verdict.TheVariants.{Fine, Fault}
+use Rattle.checks.specs.Verdict.{Verdict, Fine, Fault}
 use Rattle.desks.specs.Desks.{Sight, desk_good}
 use Rattle.desks.specs.Agree.{Agree, NothingHidden}
 use Rattle.desks.proofs.Shown.{shown_listed}

@@ -5,13 +5,12 @@ use Prim.Native.Nat.{ℕ}
 use lib.ListN.{length}
 use lib.Ieee.{Float}
 use Rattle.codes.specs.declared.Code.{Code}
-use Rattle.checks.specs.declared.Verdict.{Verdict}
-use Rattle.checks.specs.declared.Verdict.TheVariants.{Fine, Fault}
+use Rattle.checks.specs.Verdict.{Verdict, Fine, Fault}
 use Rattle.desks.specs.Desks.{Sight}
 use Rattle.checks.specs.Tables.{Table, shown_of}
 use Rattle.checks.specs.Checks.{judge_draw}
 use Rattle.draw.specs.Draw.{updates, Channels, three, leaves, drawn_channel, outcome, draw_of}
-use Rattle.draw.specs.declared.DrawAnswer.TheVariants.{Done, Refused}
+use Rattle.draw.specs.DrawAnswer.{Done, Refused}
 
 module _ (t : Table) (s : Sight) (y x0 n : ℕ) (a : Channels) where
   pub answer_fault : {c : Code} → judge_draw t s y x0 n (length a.r0) (length a.r1) (length a.r2) ≡ Fault c → leaves (Refused c 0) a ≡ draw_of t s y x0 n a

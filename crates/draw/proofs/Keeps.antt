@@ -13,8 +13,7 @@ use Rattle.segments.specs.Segment.{segment_at}
 use Rattle.segments.specs.Ranges.{has_column}
 use Rattle.shade.specs.Edit.{edit, first_cells}
 use Rattle.shade.proofs.Edits.{lt_or_ge, length_edit, get_d_edit}
-use Rattle.checks.specs.declared.Verdict.{Verdict}
-use Rattle.checks.specs.declared.Verdict.TheVariants.{Fine, Fault}
+use Rattle.checks.specs.Verdict.{Verdict, Fine, Fault}
 use Rattle.checks.proofs.Refusals.{is_false}
 use Rattle.draw.specs.Draw.{pixel, updates, Table, Sight, shown_of, judge_draw, Channels, drawn_channel, DrawOutcome, outcome, draw_of}
 use Rattle.draw.specs.Keeps.{Updates, SameCell, SameLengths}

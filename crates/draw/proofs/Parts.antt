@@ -14,11 +14,10 @@ use Rattle.segments.specs.Segment.{segment_at}
 use Rattle.segments.specs.Ranges.{has_column}
 use Rattle.shade.specs.Edit.{edit, first_cells, inside}
 use Rattle.shade.proofs.Edits.{lt_or_ge, length_edit, get_d_edit, is_edit, edit_cong, edit_edit, edit_part}
-use Rattle.checks.specs.declared.Verdict.{Verdict}
-use Rattle.checks.specs.declared.Verdict.TheVariants.{Fine}
+use Rattle.checks.specs.Verdict.{Verdict, Fine}
 use Rattle.draw.specs.Draw.{pixel, count, updates, Table, Sight, shown_of, desk_good, bytes_good, counts_good_for, span_good, row_good_for, judge_draw, Channels, DrawOutcome, leaves, drawn_channel, outcome, draw_of}
 use Rattle.draw.specs.Parts.{Part, cuts, total, cells, placed, cells_of, Wide, Draws, Drawn, none, more, Whole}
-use Rattle.draw.specs.declared.DrawAnswer.{DrawAnswer}
+use Rattle.draw.specs.DrawAnswer.{DrawAnswer}
 
 -- ---- a sum over a list does not mind the order
 

@@ -7,6 +7,7 @@ use native.Mathlib.Omega.{arith}
 use lib.ListN.{length}
 use borrow.Author.Tests.{lt-ltb, le-ltb, le-leb, lt-leb}
 use Rattle.codes.specs.declared.Code.{Code}
+use Rattle.codes.specs.Refusal as answer
 use Rattle.shade.proofs.Edits.{lt_or_ge}
 use Rattle.desks.specs.Desks.{Sight}
 use Rattle.checks.specs.Tables.{Table}
@@ -16,7 +17,7 @@ use Rattle.checks.proofs.Refusals.{counts_fit_for, counts_overrun_for, fit_or_ov
 use Rattle.draw.specs.Draw.{Channels, DrawOutcome, leaves, draw_of}
 use Rattle.draw.specs.Refusals.{DrawRefusal}
 use Rattle.draw.specs.Refusals as codes
-use Rattle.draw.specs.declared.DrawAnswer.TheVariants as Drawing
+use Rattle.draw.specs.DrawAnswer as Drawing
 use Rattle.draw.proofs.Checks.{answer_fault}
 
 module _ (t : Table) (s : Sight) (y x0 n : ℕ) (a : Channels) where
@@ -49,8 +50,9 @@ module _ (t : Table) (s : Sight) (y x0 n : ℕ) (a : Channels) where
     draw_which : {k : Code} {q : ℕ} → Refusal k q → Refusal c p
     draw_which {k} {q} l =
         let g : Drawing.Refused k q ≡ Drawing.Refused c p = ap (λ (o : DrawOutcome). o.answer) (draw_refused l) ∙ e in
-        let u : k ≡ c = cc in
-        let v : q ≡ p = cc in
+        let same : ◌≡◌ {A = answer.Refusal} (k, q) (c, p) = cc in
+        let u : k ≡ c = ap (λ (r : answer.Refusal). r.0) same in
+        let v : q ≡ p = ap (λ (r : answer.Refusal). r.1) same in
         rw (← u, ← v) l
 
     draw_passed : Lent t s → y < t.height → span_good x0 n (length a.r0) (length a.r1) (length a.r2) ≡ true → row_good_for t s y ≡ true → ⊥

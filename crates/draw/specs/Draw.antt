@@ -2,15 +2,13 @@
 use Rattle.std.specs.Prelude.{List, ℕ, ◌+◌, length, Float}
 use Rattle.codes.specs.Codes.{number_of}
 use Rattle.shade.specs.Edit.{edit, first_cells}
-use Rattle.checks.specs.declared.Verdict.{Verdict}
-use Rattle.checks.specs.declared.Verdict.TheVariants.{Fine, Fault}
+use Rattle.checks.specs.Verdict.{Verdict, Fine, Fault}
 pub use Rattle.columns.specs.Columns.{shaded_in_column, pixel, between, count, updates}
 pub use Rattle.desks.specs.Desks.{Sight, sight_of, shown, desk_good, bytes_good, all_owned}
 pub use Rattle.checks.specs.Tables.{Table, table_of, row_of, shown_of}
 pub use Rattle.checks.specs.Checks.{all_below, row_good, or_fault}
 unfoldable pub use Rattle.checks.specs.Checks.{counts_good, counts_good_for, span_good, entries_good, row_good_for, judge_draw}
-use Rattle.draw.specs.declared.DrawAnswer.{DrawAnswer}
-use Rattle.draw.specs.declared.DrawAnswer.TheVariants.{Done, Refused}
+use Rattle.draw.specs.DrawAnswer.{DrawAnswer, Done, Refused}
 
 -- an answer in the terms of the table of codes: the code's number, the place and the updates
 pub record DrawTold : Type 0 where

@@ -1,4 +1,5 @@
 -- The definitions of the crate `draw`.
+pub mod DrawAnswer
 pub mod Draw
 pub mod Refusals
 pub mod Keeps

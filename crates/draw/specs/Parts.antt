@@ -2,7 +2,7 @@
 use Rattle.std.specs.Prelude.{◌≡◌, List, [], ◌∷◌, ◌++◌, ℕ, ◌+◌, ◌≤◌, length, take, drop, Float}
 use Rattle.shade.specs.Edit.{edit}
 use Rattle.draw.specs.Draw.{pixel, updates, Table, Sight, shown_of, told_of, Channels, three, leaves, draw_of}
-use Rattle.draw.specs.declared.DrawAnswer.{DrawAnswer}
+use Rattle.draw.specs.DrawAnswer.{DrawAnswer}
 
 -- a part of a row: its first column and how many columns it has
 pub record Part : Type 0 where

@@ -1,55 +1,44 @@
 -- A refusal leaves the channels; where every check passed, the row's entries are drawn and counted.
 use mathlib.Core.Path.{sym, ◌∙◌}
-use Prim.Native.Nat.{◌+◌}
 use native.Mathlib.Omega.{arith}
-use Rattle.checks.proofs.Checks.{judged_fine}
-use Rattle.draw.specs.Draw.{table_of, sight_of, three}
+use Rattle.desks.specs.Desks.{sight_in}
+use Rattle.checks.specs.Tables.{table_in}
+use Rattle.checks.proofs.Checks.{judged_fine, row_fits}
+use Rattle.draw.specs.Draw.{three}
 use Rattle.draw.proofs.Checks.{answer_fault, answer_done}
 use Rattle.draw.proofs.draw.Goals as goal
 
-pub offset_bounds-row_starts-at : goal.offset_bounds-row_starts-at
-offset_bounds-row_starts-at c =
-    let f = judged_fine _ _ _ _ _ _ _ _ (sym c.judge.ensures ∙ c.in-Fine.is) in
-    omega arith
+pub returns-in-Err : goal.returns-in-Err
+returns-in-Err c =
+    let A = c.args in
+    answer_fault (table_in A.table.now) (sight_in A.sight.now) A.y A.x0 A.n (three A.r0.now A.r1.now A.r2.now) (sym c.judge.ensures ∙ c.in-Err.is)
 
-pub bounds-row_starts-at : goal.bounds-row_starts-at
-bounds-row_starts-at c =
-    let f = judged_fine _ _ _ _ _ _ _ _ (sym c.judge.ensures ∙ c.in-Fine.is) in
-    omega arith
+pub bounds-table-at : goal.bounds-table-at
+bounds-table-at c =
+    let f = judged_fine _ _ _ _ _ _ _ _ (sym c.judge.ensures ∙ c.in_default.is) in
+    omega (arith, f.in_image, f.lent.counts.table.starts_fit)
 
-pub overflow_cast-b : goal.overflow_cast-b
-overflow_cast-b c = omega (arith, c.type_inv.row_starts c.args.y)
+pub bounds-table-at-2 : goal.bounds-table-at-2
+bounds-table-at-2 c =
+    let f = judged_fine _ _ _ _ _ _ _ _ (sym c.judge.ensures ∙ c.in_default.is) in
+    omega (arith, f.in_image, f.lent.counts.table.starts_fit)
 
-pub overflow_add-e : goal.overflow_add-e
-overflow_add-e c =
-    let f = judged_fine _ _ _ _ _ _ _ _ (sym c.judge.ensures ∙ c.in-Fine.is) in
-    omega arith
-
-pub offset_bounds-row_starts-at-in-Fine : goal.offset_bounds-row_starts-at-in-Fine
-offset_bounds-row_starts-at-in-Fine c =
-    let f = judged_fine _ _ _ _ _ _ _ _ (sym c.judge.ensures ∙ c.in-Fine.is) in
-    omega arith
-
-pub bounds-row_starts-at-in-Fine : goal.bounds-row_starts-at-in-Fine
-bounds-row_starts-at-in-Fine c =
-    let f = judged_fine _ _ _ _ _ _ _ _ (sym c.judge.ensures ∙ c.in-Fine.is) in
-    omega arith
-
-pub overflow_cast-e : goal.overflow_cast-e
-overflow_cast-e c = omega (arith, c.type_inv.row_starts (c.args.y + 1))
+pub invariant_of-part : goal.invariant_of-part
+invariant_of-part c =
+    let f = judged_fine _ _ _ _ _ _ _ _ (sym c.judge.ensures ∙ c.in_default.is) in
+    record { in_image = (f.span.inside_image, omega (arith, f.in_image, f.lent.counts.table.low)) }
 
 pub draw_entries-requires : goal.draw_entries-requires
 draw_entries-requires c =
-    let f = judged_fine _ _ _ _ _ _ _ _ (sym c.judge.ensures ∙ c.in-Fine.is) in
-    record { b_le_e = omega arith; entries_value = (f.row.table.all_named, f.row.all_owned_lem); n_bound = omega arith; n_in_bounds = omega arith }
+    let f = judged_fine _ _ _ _ _ _ _ _ (sym c.judge.ensures ∙ c.in_default.is) in
+    record {
+      entries_fit = row_fits f.lent f.row;
+      few = omega (arith, f.row.table.in_count, f.lent.counts.table.few_entries);
+      channels_fit = record { fits0 = f.span.fits0; fits1 = f.span.fits1; fits2 = f.span.fits2 };
+    }
 
-pub returns-in-Fault : goal.returns-in-Fault
-returns-in-Fault c =
-    let A = c.args in
-    answer_fault (table_of A.segments.now A.segment_count A.entries.now A.entry_count A.row_starts.now A.height) (sight_of A.owners.now A.splines A.bits.now A.desk) A.y A.x0 A.n (three A.r0.now A.r1.now A.r2.now) (sym c.judge.ensures ∙ c.in-Fault.is)
-
-pub returns-in-Fine : goal.returns-in-Fine
-returns-in-Fine c =
+pub returns : goal.returns
+returns c =
     let A = c.args in
     let d = c.draw_entries.ensures in
-    answer_done (table_of A.segments.now A.segment_count A.entries.now A.entry_count A.row_starts.now A.height) (sight_of A.owners.now A.splines A.bits.now A.desk) A.y A.x0 A.n (three A.r0.now A.r1.now A.r2.now) (sym c.judge.ensures ∙ c.in-Fine.is) d.value d.r0_after d.r1_after d.r2_after
+    answer_done (table_in A.table.now) (sight_in A.sight.now) A.y A.x0 A.n (three A.r0.now A.r1.now A.r2.now) (sym c.judge.ensures ∙ c.in_default.is) d.value d.r0_after d.r1_after d.r2_after
