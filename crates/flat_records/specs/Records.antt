@@ -19,6 +19,19 @@ joined_of s owner = record {
   owner = owner;
 }
 
+-- the segment of a record
+abbrev pub without_owner : SegmentRecord → Segment
+without_owner r = record {
+  center_x = r.center_x;
+  center_y = r.center_y;
+  maximum_distance = r.maximum_distance;
+  inv_sigma = r.inv_sigma;
+  sigma_over_4_times_intensity = r.sigma_over_4_times_intensity;
+  color0 = r.color0;
+  color1 = r.color1;
+  color2 = r.color2;
+}
+
 -- the record of zeros
 unfoldable pub zero_record : SegmentRecord
 zero_record = record {

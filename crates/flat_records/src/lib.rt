@@ -2,12 +2,12 @@
 #![tactic(auto)]
 
 ghost use Rattle.std.specs.Prelude.{◌≡◌};
-ghost use Rattle.flat_records.specs.Records.{joined_of, zero_record, record_of, is_known};
+ghost use Rattle.flat_records.specs.Records.{joined_of, without_owner, zero_record, record_of, is_known};
 
 use segments::Segment;
 
 // A segment, and the number of the spline that made it.
-#[derive(Clone, Copy)]
+#[derive(Clone, Copy, Debug, PartialEq)]
 pub struct SegmentRecord {
     pub center_x: f32,
     pub center_y: f32,
@@ -18,6 +18,24 @@ pub struct SegmentRecord {
     pub color1: f32,
     pub color2: f32,
     pub owner: u64,
+}
+
+// The segment of a record.
+impl From<SegmentRecord> for Segment {
+    ghost from_gives = { λ r s. s ≡ without_owner r };
+
+    fn from(record: SegmentRecord) -> Segment {
+        Segment {
+            center_x: record.center_x,
+            center_y: record.center_y,
+            maximum_distance: record.maximum_distance,
+            inv_sigma: record.inv_sigma,
+            sigma_over_4_times_intensity: record.sigma_over_4_times_intensity,
+            color0: record.color0,
+            color1: record.color1,
+            color2: record.color2,
+        }
+    }
 }
 
 // A segment and its owner as a record.
@@ -38,6 +56,7 @@ fn joined(segment: Segment, owner: u64) -> SegmentRecord
 }
 
 // The record of zeros.
+#[tactic(auto, unfolding(crate::specs::Records::zero_record))]
 pub fn zero_record() -> SegmentRecord
     ensures { result ≡ zero_record }
 {
@@ -55,31 +74,21 @@ pub fn zero_record() -> SegmentRecord
 }
 
 // Record k of the first `count` segments of a flat slice with their owners, or zeros.
+#[tactic(auto, unfolding(crate::specs::Records::record_of))]
 pub fn record_of(flat: &[f32], owners: &[u64], count: usize, k: usize) -> SegmentRecord
     ensures { result ≡ record_of flat.now owners.now count k }
 {
-    if count <= k {
-        return zero_record();
+    if k < count && k < flat.len() / 8 && k < owners.len() {
+        joined(Segment::at(flat, k), owners[k])
+    } else {
+        zero_record()
     }
-    if flat.len() / 8 <= k {
-        return zero_record();
-    }
-    if owners.len() <= k {
-        return zero_record();
-    }
-    let owner = owners[k];
-    joined(Segment::at(flat, k), owner)
 }
 
 // Whether a number is below the count, and the count fits the floats.
+#[tactic(auto, unfolding(crate::specs::Records::is_known))]
 pub fn is_known(flat: &[f32], count: usize, i: usize) -> bool
     ensures { result ≡ is_known flat.now count i }
 {
-    if count <= i {
-        return false;
-    }
-    if flat.len() / 8 < count {
-        return false;
-    }
-    true
+    i < count && count <= flat.len() / 8
 }
