@@ -8,10 +8,11 @@ use lib.Ieee.{Float}
 use Rattle.numbers.specs.Arith.{0·0}
 use Rattle.buffers.specs.Padded.{padded}
 use Rattle.codes.specs.declared.Code.TheVariants as Code
-use Rattle.rows.specs.declared.Listed.{Listed}
+use Rattle.rows.specs.Listed.{Listed}
+use Rattle.rows.specs.Listed as Listed
 use Rattle.rows.specs.Rows.{RowsOutcome, outcome}
 use Rattle.faint.specs.Faint.{faint_in}
-use Rattle.build_answer.specs.declared.BuildAnswer.TheVariants.{Done}
+use Rattle.build_answer.specs.BuildAnswer.{Done}
 use Rattle.build_answer.specs.Answer.{BuildRooms, leaves, zeros, refused_with, after_rows}
 
 -- ---- a buffer that is cleared behind what it keeps

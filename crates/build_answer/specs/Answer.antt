@@ -1,14 +1,13 @@
 -- What a build answers and leaves in the six lent buffers, from their lengths. Definitions only.
-use Rattle.std.specs.Prelude.{List, ℕ, length, replicate, Float}
+use Rattle.std.specs.Prelude.{List, ℕ, length, replicate, Ok, Float}
 use Rattle.numbers.specs.Arith.{0·0}
 use Rattle.buffers.specs.Padded.{padded}
 use Rattle.codes.specs.Codes.{number_of}
 use Rattle.codes.specs.declared.Code.{Code}
-use Rattle.rows.specs.declared.Listed.{Listed}
+use Rattle.rows.specs.Listed.{Listed, Entries, Room}
 use Rattle.rows.specs.Rows.{RowsOutcome}
 use Rattle.faint.specs.Faint.{faint_in}
-use Rattle.build_answer.specs.declared.BuildAnswer.{BuildAnswer}
-use Rattle.build_answer.specs.declared.BuildAnswer.TheVariants.{Done, Refused}
+use Rattle.build_answer.specs.BuildAnswer.{BuildAnswer, Done, Refused}
 
 -- the lengths of the lent buffers
 pub record BuildRooms : Type 0 where
@@ -40,7 +39,7 @@ pub record BuildTold : Type 0 where
 
 -- a success is number 0 at place 0; a refusal has counts of 0
 abbrev pub told_of : BuildAnswer → BuildTold
-told_of (Done s n a f) = record { number = 0; place = 0; segments = s; entries = n; estimate = a; faint = f }
+told_of (Ok b) = record { number = 0; place = 0; segments = b.segments; entries = b.entries; estimate = b.estimate; faint = b.faint }
 told_of (Refused c p) = record { number = number_of c; place = p; segments = 0; entries = 0; estimate = 0; faint = 0 }
 
 -- the answer, what it tells, and the six lent buffers
@@ -79,5 +78,5 @@ abbrev pub after_rows : BuildRooms → ℕ → ℕ → List Float → List ℕ �
 after_rows r estimate count numbers owners o = go o.answer
   where
     go : Listed → BuildOutcome
-    go Listed.Room = refused_with r Code.Room 0
-    go (Listed.Entries n) = leaves (Done count n estimate (faint_in numbers count)) (zeros r.path) (zeros r.walk) (padded r.segments 0·0 numbers) (padded r.owners 0 owners) o.starts o.entries
+    go Room = refused_with r Code.Room 0
+    go (Entries n) = leaves (Done count n estimate (faint_in numbers count)) (zeros r.path) (zeros r.walk) (padded r.segments 0·0 numbers) (padded r.owners 0 owners) o.starts o.entries

@@ -1,2 +1,3 @@
 -- The definitions of the crate `build_answer`.
+pub mod BuildAnswer
 pub mod Answer

@@ -5,32 +5,32 @@ ghost use Rattle.std.specs.Prelude.{◌≡◌, ◌*◌, ◌≤◌, ◌<◌, ◌^
 ghost use Rattle.rows.specs.Rows.{in_row, listed_rows};
 ghost use Rattle.build_answer.specs.Answer.{rooms_of, leaves, refused_with, after_rows};
 
-use codes::Code;
-use rows::Listed;
+use codes::{Code, Refusal};
 
-// The segments, the entries, the estimate, and how many of the segments are faint; or a code and its place.
-#[derive(Clone, Copy)]
-pub enum BuildAnswer {
-    Done(u32, u32, u64, u32),
-    Refused(Code, usize),
+// What a build has made: how many segments and entries, the estimate, and how many of the segments are faint.
+#[derive(Clone, Copy, Debug, PartialEq, Eq)]
+pub struct Built {
+    pub segments: u32,
+    pub entries: u32,
+    pub estimate: u64,
+    pub faint: u32,
 }
 
 // A refusal, with every lent cell zero.
 pub fn refuse(
-    code: Code,
-    place: usize,
+    refusal: Refusal,
     path: &mut [f32],
     walk: &mut [f32],
     segments: &mut [f32],
     owners: &mut [u64],
     row_starts: &mut [u32],
     entries: &mut [u32],
-) -> BuildAnswer
+) -> Result<Built, Refusal>
     ensures { leaves result path.new walk.new segments.new owners.new row_starts.new entries.new
-        ≡ refused_with (rooms_of path.old walk.old segments.old owners.old row_starts.old entries.old) code place }
+        ≡ refused_with (rooms_of path.old walk.old segments.old owners.old row_starts.old entries.old) refusal.0 refusal.1 }
 {
     wipe::wipe(path, walk, segments, owners, row_starts, entries);
-    BuildAnswer::Refused(code, place)
+    Err(refusal)
 }
 
 // The rows of the segments that are drawn, and zeros in what is not used.
@@ -44,26 +44,29 @@ pub fn list_segments(
     owners: &mut [u64],
     row_starts: &mut [u32],
     entries: &mut [u32],
-) -> BuildAnswer
+) -> Result<Built, Refusal>
     requires { (8 * count ≤ length segments.old) × (count ≤ length owners.old) × (count ≤ 2 ^ 24) × (height ≤ 2 ^ 23) × (height < length row_starts.old) }
     ensures { leaves result path.new walk.new segments.new owners.new row_starts.new entries.new
         ≡ after_rows (rooms_of path.old walk.old segments.old owners.old row_starts.old entries.old) estimate count (take (8 * count) segments.old) (take count owners.old) (listed_rows (in_row segments.old) count height (length row_starts.old) (length entries.old)) }
 {
-    match rows::list_rows(segments, count, height as usize, row_starts, entries) {
-        Listed::Room => refuse(
-            Code::Room,
-            0,
+    let listed = rows::list_rows(segments, count, height as usize, row_starts, entries);
+    let Some(entry_count) = listed else {
+        return refuse(
+            (Code::Room, 0),
             path,
             walk,
             segments,
             owners,
             row_starts,
             entries,
-        ),
-        Listed::Entries(n) => {
-            let faint = faint::faint_in(segments, count);
-            wipe::wipe_unused(count, path, walk, segments, owners);
-            BuildAnswer::Done(count as u32, n, estimate, faint)
-        }
-    }
+        );
+    };
+    let faint = faint::faint_in(segments, count);
+    wipe::wipe_unused(count, path, walk, segments, owners);
+    Ok(Built {
+        segments: count as u32,
+        entries: entry_count,
+        estimate,
+        faint,
+    })
 }

@@ -12,16 +12,16 @@ use Rattle.build_answer.proofs.list_segments.Goals as goal
 pub faint_in-faint-requires : goal.faint_in-faint-requires
 faint_in-faint-requires c = (c.requires.0, c.requires.2)
 
-pub returns-in-Room : goal.returns-in-Room
-returns-in-Room c =
-    let l = c.list_rows in
+pub returns-in_default : goal.returns-in_default
+returns-in_default c =
+    let l = c.list_rows-listed in
     (rw (l.auto.row_starts, l.auto.entries) at c.refuse.ensures)
-    ∙ rows_room (rooms_of c.args.path.now c.args.walk.now c.args.segments.now c.args.owners.now c.args.row_starts.now c.args.entries.now) c.args.estimate c.args.count (take (8 * c.args.count) c.args.segments.now) (take c.args.count c.args.owners.now) (listed_rows (in_row c.args.segments.now) c.args.count c.args.height (length c.args.row_starts.now) (length c.args.entries.now)) l.ensures c.in-Room.is
+    ∙ rows_room (rooms_of c.args.path.now c.args.walk.now c.args.segments.now c.args.owners.now c.args.row_starts.now c.args.entries.now) c.args.estimate c.args.count (take (8 * c.args.count) c.args.segments.now) (take c.args.count c.args.owners.now) (listed_rows (in_row c.args.segments.now) c.args.count c.args.height (length c.args.row_starts.now) (length c.args.entries.now)) l.ensures c.in_default.is
 
-pub returns-in-Entries : goal.returns-in-Entries
-returns-in-Entries c =
-    let l = c.list_rows in
+pub returns : goal.returns
+returns c =
+    let l = c.list_rows-listed in
     let w = c.wipe_unused.ensures in
     let f = c.faint_in-faint.ensures ∙ faint_take c.args.segments.now c.args.count c.requires.0 in
-    rows_done (rooms_of c.args.path.now c.args.walk.now c.args.segments.now c.args.owners.now c.args.row_starts.now c.args.entries.now) c.args.estimate c.args.count (take (8 * c.args.count) c.args.segments.now) (take c.args.count c.args.owners.now) (listed_rows (in_row c.args.segments.now) c.args.count c.args.height (length c.args.row_starts.now) (length c.args.entries.now)) l.ensures c.in-Entries.n f c.in-Entries.is
+    rows_done (rooms_of c.args.path.now c.args.walk.now c.args.segments.now c.args.owners.now c.args.row_starts.now c.args.entries.now) c.args.estimate c.args.count (take (8 * c.args.count) c.args.segments.now) (take c.args.count c.args.owners.now) (listed_rows (in_row c.args.segments.now) c.args.count c.args.height (length c.args.row_starts.now) (length c.args.entries.now)) l.ensures c.in-Some.entry_count f c.in-Some.is
     w.path_after w.walk_after (kept (of_bits binary32 0) c.args.segments.now (8 * c.args.count) c.requires.0 w.segments_after) (kept 0 c.args.owners.now c.args.count c.requires.1 w.owners_after)
