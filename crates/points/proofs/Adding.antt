@@ -14,11 +14,9 @@ use Rattle.numbers.specs.Arith.{1·0, ◌⊘◌}
 use Rattle.buffers.proofs.Fronts.{sets_more}
 use Rattle.dequantize.specs.declared.Spline.{Spline}
 use Rattle.segments.specs.declared.Segment.{Segment}
-use Rattle.segments.specs.declared.Added.{Added}
-use Rattle.segments.specs.declared.Added.TheVariants.{Made, Nothing}
+use Rattle.std.specs.Prelude.{Option, Some, None}
 use Rattle.segments.specs.Segment.{eight_of}
-use Rattle.points.specs.declared.Filled.{Filled}
-use Rattle.points.specs.declared.Filled.TheVariants.{Count, Room}
+use Rattle.points.specs.Filled.{Filled, Count, Room}
 use Rattle.points.specs.Points.{point_segment, made_of, segments_from, add_segments_from_points, eights, filled_of, FilledOn}
 
 pub eights_append : (xs ys : List Segment) → eights (xs ++ ys) ≡ eights xs ++ eights ys
@@ -39,33 +37,33 @@ count_got room from segs n e = go (leb (from + length segs) room) refl e
   where
     go : (b : Bool) → leb (from + length segs) room ≡ b → Count n ≡ cond b (Count (from + length segs)) Room → (n ≡ from + length segs) × (from + length segs ≤ room)
     go true h q = (cc, leb-true (from + length segs) room h)
-    go false h q = absurd (let z : ◌≡◌ {A = ℕ} 0 1 = cc in omega arith)
+    go false h q = absurd (cc)
 
 pub room_got : (room from : ℕ) (segs : List Segment) → Room ≡ filled_of room from segs → room < from + length segs
 unfolding filled_of
 room_got room from segs e = go (leb (from + length segs) room) refl e
   where
     go : (b : Bool) → leb (from + length segs) room ≡ b → Room ≡ cond b (Count (from + length segs)) Room → room < from + length segs
-    go true h q = absurd (let z : ◌≡◌ {A = ℕ} 0 1 = cc in omega arith)
+    go true h q = absurd (cc)
     go false h q = leb-false (from + length segs) room h
 
 pub on_count : (r : Filled) (n from : ℕ) (segs : List Segment) (o e : List Float) → r ≡ Count n → FilledOn r from segs o e → e ≡ sets o (8 * from) (eights segs)
 on_count (Count m) n from segs o e q w = w
-on_count Room n from segs o e q w = absurd (let z : ◌≡◌ {A = ℕ} 0 1 = cc in omega arith)
+on_count Room n from segs o e q w = absurd (cc)
 
 -- one segment, or none
-pub made_none : (room count : ℕ) (o : List Float) → count ≤ room → (Count count ≡ filled_of room count (made_of Nothing)) × FilledOn (Count count) count (made_of Nothing) o o
+pub made_none : (room count : ℕ) (o : List Float) → count ≤ room → (Count count ≡ filled_of room count (made_of None)) × FilledOn (Count count) count (made_of None) o o
 unfolding filled_of eights
 made_none room count o h =
     let e : count + 0 ≡ count = omega arith in
     rw (e, le-leb count room h) (refl, refl)
 
 pub made_one : (room count : ℕ) (s : Segment) (o : List Float) → count < room
-    → (Count (count + 1) ≡ filled_of room count (made_of (Made s))) × FilledOn (Count (count + 1)) count (made_of (Made s)) o (sets o (8 * count) (eight_of s))
+    → (Count (count + 1) ≡ filled_of room count (made_of (Some s))) × FilledOn (Count (count + 1)) count (made_of (Some s)) o (sets o (8 * count) (eight_of s))
 unfolding filled_of eights
 made_one room count s o h = rw (le-leb (count + 1) room (omega arith)) (refl, ap (sets o (8 * count)) (sym (append-nil (eight_of s))))
 
-pub made_room : (room count : ℕ) (s : Segment) → room ≤ count → Room ≡ filled_of room count (made_of (Made s))
+pub made_room : (room count : ℕ) (s : Segment) → room ≤ count → Room ≡ filled_of room count (made_of (Some s))
 unfolding filled_of
 made_room room count s h = rw (lt-leb (count + 1) room (omega arith))
 
@@ -100,12 +98,12 @@ module _ (s : Spline) (l : Float) (high : Bool) (walk o₀ : List Float) (from r
         rw (p, le-leb (from + length a.done) room (omega (arith, a.size, a.fits))) (ap Count (sym a.size), a.buffer)
 
     module _ (h : i < length walk / 3) where
-      next : {v : Added} → v ≡ point_segment s (1·0 ⊘ l) high walk i
+      next : {v : Option Segment} → v ≡ point_segment s (1·0 ⊘ l) high walk i
           → add_segments_from_points s walk l high ≡ a.done ++ (made_of v ++ segments_from s (1·0 ⊘ l) high walk (i + 1) (length walk / 3 - (i + 1)))
       unfolding segments_from
       next e = let g : length walk / 3 - i ≡ suc (length walk / 3 - (i + 1)) = omega arith in a.parts ∙ rw (g, e, add-one i)
 
-      module _ {v : Added} {r : Filled} (e : v ≡ point_segment s (1·0 ⊘ l) high walk i) (f : r ≡ filled_of room count (made_of v)) where
+      module _ {v : Option Segment} {r : Filled} (e : v ≡ point_segment s (1·0 ⊘ l) high walk i) (f : r ≡ filled_of room count (made_of v)) where
         pub adding_more : {o' : List Float} (n : ℕ) → FilledOn r count (made_of v) o o' → r ≡ Count n → Adding s l high walk o₀ from room o' (i + 1) n
         adding_more {o'} n w q =
             let g = count_got room count (made_of v) n (sym q ∙ f) in

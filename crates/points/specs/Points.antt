@@ -1,6 +1,6 @@
 -- `add_segments_from_points` of spline.rs at a distance of 1: the segments that a walk makes, and what a lent buffer then holds. Definitions only.
 -- A walk is a list of three numbers a point: x, y and multiplier.
-use Rattle.std.specs.Prelude.{◌≡◌, Bool, cond, List, [], ◌∷◌, ◌++◌, ℕ, zero, suc, ◌+◌, ◌*◌, ◌/◌, min, leb, pos, length, get_or, Float}
+use Rattle.std.specs.Prelude.{◌≡◌, Bool, cond, List, [], ◌∷◌, ◌++◌, ℕ, zero, suc, ◌+◌, ◌*◌, ◌/◌, min, leb, pos, length, get_or, Option, Some, None, Float}
 use Rattle.std.proofs.lemmas.List.Edits.{sets}
 use Rattle.std.specs.Float.{nan, binary32}
 use Rattle.std.specs.Float.Ieee.{of_int}
@@ -8,12 +8,9 @@ use Rattle.numbers.specs.Arith.{f, 1·0, ◌⊗◌, ◌⊘◌}
 use Rattle.numbers.specs.Magnitude.{min_of}
 use Rattle.dequantize.specs.declared.Spline.{Spline}
 use Rattle.segments.specs.declared.Segment.{Segment}
-use Rattle.segments.specs.declared.Added.{Added}
-use Rattle.segments.specs.declared.Added.TheVariants.{Made, Nothing}
 use Rattle.segments.specs.Segment.{add_segment, eight_of}
 use Rattle.transform.specs.Transform.{sums_of}
-use Rattle.points.specs.declared.Filled.{Filled}
-use Rattle.points.specs.declared.Filled.TheVariants.{Count, Room}
+use Rattle.points.specs.Filled.{Filled, Count, Room}
 
 abbrev 31·0 : Float
 31·0 = f 0x41f80000
@@ -28,14 +25,14 @@ unfolding progress_of
 curve_time invLength i = 31·0 ⊗ progress_of invLength i
 
 -- what point i makes
-unfoldable pub point_segment : Spline → Float → Bool → List Float → ℕ → Added
+unfoldable pub point_segment : Spline → Float → Bool → List Float → ℕ → Option Segment
 point_segment s invLength high walk i =
     let sums = sums_of s (curve_time invLength i) in
     add_segment (get_or walk (3 * i) nan) (get_or walk (3 * i + 1) nan) (get_or walk (3 * i + 2) nan) sums.x sums.y sums.b sums.sigma high
 
-abbrev pub made_of : Added → List Segment
-made_of Nothing = []
-made_of (Made s) = s ∷ []
+abbrev pub made_of : Option Segment → List Segment
+made_of None = []
+made_of (Some s) = s ∷ []
 
 -- the segments of the n points from i on
 unfoldable pub segments_from : Spline → Float → Bool → List Float → ℕ → ℕ → List Segment

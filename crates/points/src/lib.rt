@@ -5,14 +5,7 @@ ghost use Rattle.std.specs.Prelude.{◌≡◌, ◌+◌, ◌*◌, ◌/◌, ◌≤
 ghost use Rattle.points.specs.Points.{curve_time, point_segment, made_of, segment_room, add_segments_from_points, filled_of, FilledOn};
 
 use dequantize::Spline;
-use segments::Added;
-
-// How many segments there are now, or that there is no room for them.
-#[derive(Clone, Copy)]
-pub enum Filled {
-    Count(usize),
-    Room,
-}
+use segments::Segment;
 
 // Where in the transform point i lies.
 fn place_of(inv_length: f32, i: usize) -> f32
@@ -29,7 +22,7 @@ fn point_segment(
     high_precision: bool,
     walk: &[f32],
     i: usize,
-) -> Added
+) -> Option<Segment>
     requires { (3 * i + 3 ≤ length walk.now) × (i ≤ 8388608) }
     ensures { result ≡ point_segment spline inv_length high_precision walk.now i }
 {
@@ -54,29 +47,26 @@ fn point_segment(
 pub fn segment_room(len: usize) -> usize
     ensures { result ≡ segment_room len }
 {
-    let n = len / 8;
-    if n <= 16777216 { n } else { 16777216 }
+    (len / 8).min(16777216)
 }
 
-// What a point makes, written after the first `count` segments.
-fn put_made(made: Added, out: &mut [f32], count: usize) -> Filled
+// What a point makes, written after the first `count` segments: how many there are now, or None, where there is no room.
+fn put_made(made: Option<Segment>, out: &mut [f32], count: usize) -> Option<usize>
     requires { count ≤ segment_room (length out.old) }
     ensures { (result ≡ filled_of (segment_room (length out.old)) count (made_of made))
         × FilledOn result count (made_of made) out.old out.new }
 {
-    match made {
-        Added::Nothing => Filled::Count(count),
-        Added::Made(segment) => {
-            if count >= segment_room(out.len()) {
-                return Filled::Room;
-            }
-            segment.put(out, 8 * count);
-            Filled::Count(count + 1)
-        }
+    let Some(segment) = made else {
+        return Some(count);
+    };
+    if count >= segment_room(out.len()) {
+        return None;
     }
+    segment.put(out, 8 * count);
+    Some(count + 1)
 }
 
-// The segments of a walk, written after the first `from` segments.
+// The segments of a walk, written after the first `from` segments: how many there are now, or None, where there is no room for them.
 pub fn add_segments_from_points(
     spline: Spline,
     walk: &[f32],
@@ -84,22 +74,16 @@ pub fn add_segments_from_points(
     high_precision: bool,
     out: &mut [f32],
     from: usize,
-) -> Filled
+) -> Option<usize>
     requires { (length walk.now / 3 ≤ 8388608) × (from ≤ segment_room (length out.old)) }
     ensures { (result ≡ filled_of (segment_room (length out.old)) from (add_segments_from_points spline walk.now walk_length high_precision))
         × FilledOn result from (add_segments_from_points spline walk.now walk_length high_precision) out.old out.new }
 {
     let inv_length = 1.0 / walk_length;
-    let n = walk.len() / 3;
     let mut count = from;
-    let mut i = 0;
-    while i < n {
+    for i in 0..walk.len() / 3 {
         let made = point_segment(spline, inv_length, high_precision, walk, i);
-        let Filled::Count(more) = put_made(made, out, count) else {
-            return Filled::Room;
-        };
-        count = more;
-        i += 1;
+        count = put_made(made, out, count)?;
     }
-    Filled::Count(count)
+    Some(count)
 }
