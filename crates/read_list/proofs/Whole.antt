@@ -5,24 +5,23 @@ use mathlib.Core.List.{List, [], ◌∷◌, ◌++◌, map}
 use Prim.Native.Nat.{ℕ, zero, suc, ◌+◌, ◌-◌, ◌*◌, ◌≤◌, ◌<◌}
 use native.Mathlib.Nat.{not-suc-le-zero}
 use native.Mathlib.Omega.{arith}
-use lib.ListN.{length, take, drop, length-append, length-map, length-drop}
+use lib.ListN.{length, get_or, take, drop, length-append, length-map, length-drop}
 use lib.Seq.{length-take-le}
 use lib.IntN.{ℤ, pos}
 use lib.Ieee.{Float}
 use borrow.Author.Tests.{lt-ltb, le-ltb}
+use Rattle.std.specs.Prelude.{Ok}
 use Rattle.codes.specs.declared.Code.{Code}
-use Rattle.list.specs.declared.Next.{Next}
+use Rattle.codes.specs.Refusal.{refused}
+use Rattle.codes.proofs.Refusals.{same_refusal}
 use Rattle.shape.specs.Shape.{points_of}
 use Rattle.list.specs.List.{unpack_signed, pack_signed, ListRooms, Got, got, stop, Splines, splines, Described, described, and_then, starts_in, splines_of, describe, ended, after_starts, lacking, read_of, starts_list, splines_list}
-use Rattle.list.specs.Steps.{next_of, f32_of}
-use Rattle.list.proofs.Buffers.{next_is, next_not}
+use Rattle.list.specs.Steps.{f32_of}
 use Rattle.list.proofs.Accepted.{starts_read, splines_read}
-use Rattle.read_steps.specs.declared.Step.{Step}
-use Rattle.read_splines.specs.declared.Points.{Points}
 use Rattle.read_steps.specs.Steps.{floats, Front, Filled}
 use Rattle.read_splines.specs.Splines.{SplinesLeft}
 use Rattle.read_splines.proofs.Splines.{Gave, filled_gave, filled_stopped, went}
-use Rattle.read_list.specs.declared.ReadAnswer.{ReadAnswer}
+use Rattle.read_list.specs.Answer.{ReadAnswer, done}
 use Rattle.read_list.specs.Rest.{RestLeft, ListLeft}
 
 -- ---- how far the splines go
@@ -47,12 +46,12 @@ splines_went t left room s l ns ds cs r e =
 
 -- ---- what follows the starts
 
-pub rest_stop : (g : Got Described) (k : Code) (p : ℕ) (n n' : List ℕ) (d d' c c' : List ℤ) → g ≡ stop k p → RestLeft g (ReadAnswer.Refused k p) n n' d d' c c'
-rest_stop g k p n n' d d' c c' e = subst (λ (x : Got Described). RestLeft x (ReadAnswer.Refused k p) n n' d d' c c') (sym e) refl
+pub rest_stop : (g : Got Described) (k : Code) (p : ℕ) (n n' : List ℕ) (d d' c c' : List ℤ) → g ≡ stop k p → RestLeft g (refused k p) n n' d d' c c'
+rest_stop g k p n n' d d' c c' e = subst (λ (x : Got Described). RestLeft x (refused k p) n n' d d' c c') (sym e) refl
 
-splines_stopped : (g : Got Splines) (k : Code) (p : ℕ) (n n' : List ℕ) (d d' c c' : List ℤ) → SplinesLeft g (Points.Stop k p) n n' d d' c c' → g ≡ stop k p
+splines_stopped : (g : Got Splines) (k : Code) (p : ℕ) (n n' : List ℕ) (d d' c c' : List ℤ) → SplinesLeft g (refused k p) n n' d d' c c' → g ≡ stop k p
 splines_stopped (got (splines ns ds cs) r) k p n n' d d' c c' h = cc h.0
-splines_stopped (stop j q) k p n n' d d' c c' h = cc
+splines_stopped (stop j q) k p n n' d d' c c' h = let e = same_refusal h in cc
 
 ended_trail : (t : ℕ) (x : Described) (l : List ℕ) → 0 < length l → ended t x l ≡ stop Code.Trail (t - length l)
 ended_trail t x [] h = absurd (not-suc-le-zero h)
@@ -63,25 +62,29 @@ ended_none t x [] h = refl
 ended_none t x (a ∷ l) h = absurd (omega arith)
 
 module _ (t limit room s : ℕ) where
-  pub after_short : (l : List ℕ) → next_of l ≡ Next.End → after_starts t limit room s [] l ≡ stop Code.Short t
+  pub after_short : (l : List ℕ) → length l < 1 → after_starts t limit room s [] l ≡ stop Code.Short t
   unfolding after_starts
-  after_short l e = rw (next_not l e)
+  after_short [] e = refl
+  after_short (a ∷ l) e = absurd (omega arith)
 
-  after_at : (l : List ℕ) (u : ℕ) → next_of l ≡ Next.Value u
-      → after_starts t limit room s [] l ≡ and_then (splines_of t limit room s (drop 1 l)) (λ x l1. ended t (describe (unpack_signed u) [] x) l1)
+  after_at : (l : List ℕ) → 1 ≤ length l
+      → after_starts t limit room s [] l ≡ and_then (splines_of t limit room s (drop 1 l)) (λ x l1. ended t (describe (unpack_signed (get_or l 0 0)) [] x) l1)
   unfolding after_starts
-  after_at [] u e = cc
-  after_at (a ∷ l) u e = let p : a ≡ u = cc in rw p
+  after_at [] e = absurd (not-suc-le-zero e)
+  after_at (a ∷ l) e = refl
 
-  module _ (l rest : List ℕ) (u : ℕ) (e : next_of l ≡ Next.Value u) (er : rest ≡ drop 1 l) (n n' : List ℕ) (d d' c c' : List ℤ) where
-    pub after_stop : (k : Code) (p : ℕ) → SplinesLeft (splines_of t limit room s rest) (Points.Stop k p) n n' d d' c c' → after_starts t limit room s [] l ≡ stop k p
-    after_stop k p h = after_at l u e ∙ rw (← er, splines_stopped (splines_of t limit room s rest) k p n n' d d' c c' h)
+  module _ (l rest : List ℕ) (u : ℕ) (e : 1 ≤ length l) (eu : u ≡ get_or l 0 0) (er : rest ≡ drop 1 l) (n n' : List ℕ) (d d' c c' : List ℤ) where
+    at_rest : after_starts t limit room s [] l ≡ and_then (splines_of t limit room s rest) (λ x l1. ended t (describe (unpack_signed u) [] x) l1)
+    at_rest = after_at l e ∙ rw (← er, ← eu)
 
-    module _ (m : ℕ) (h : SplinesLeft (splines_of t limit room s rest) (Points.Count m) n n' d d' c c') where
+    pub after_stop : (k : Code) (p : ℕ) → SplinesLeft (splines_of t limit room s rest) (refused k p) n n' d d' c c' → after_starts t limit room s [] l ≡ stop k p
+    after_stop k p h = at_rest ∙ rw (splines_stopped (splines_of t limit room s rest) k p n n' d d' c c' h)
+
+    module _ (m : ℕ) (h : SplinesLeft (splines_of t limit room s rest) (Ok m) n n' d d' c c') where
       pub after_trail : 129 * s + 2 * m < length rest → after_starts t limit room s [] l ≡ stop Code.Trail (t - (length rest - (129 * s + 2 * m)))
-      after_trail g = after_at l u e ∙ rw (← er) (go (splines_of t limit room s rest) refl h)
+      after_trail g = at_rest ∙ go (splines_of t limit room s rest) refl h
         where
-          go : (i : Got Splines) → splines_of t limit room s rest ≡ i → SplinesLeft i (Points.Count m) n n' d d' c c'
+          go : (i : Got Splines) → splines_of t limit room s rest ≡ i → SplinesLeft i (Ok m) n n' d d' c c'
               → and_then i (λ x l1. ended t (describe (unpack_signed u) [] x) l1) ≡ stop Code.Trail (t - (length rest - (129 * s + 2 * m)))
           go (got (splines ns ds cs) r) i h =
               let w = splines_went t limit room s rest ns ds cs r i in
@@ -90,13 +93,12 @@ module _ (t limit room s : ℕ) where
               ended_trail t (described (unpack_signed u) [] ns ds cs) r (omega arith) ∙ rw len
           go (stop j q) i h = let z : ◌≡◌ {A = ℕ} 0 1 = cc in absurd (omega arith)
 
-      pub after_done : length rest ≤ 129 * s + 2 * m → RestLeft (after_starts t limit room s [] l) (ReadAnswer.Done s m (unpack_signed u)) n n' d d' c c'
+      pub after_done : length rest ≤ 129 * s + 2 * m → RestLeft (after_starts t limit room s [] l) (done s m (unpack_signed u)) n n' d d' c c'
       after_done g =
-          let k : after_starts t limit room s [] l ≡ and_then (splines_of t limit room s rest) (λ x l1. ended t (describe (unpack_signed u) [] x) l1) = after_at l u e ∙ rw (← er) in
-          subst (λ (x : Got Described). RestLeft x (ReadAnswer.Done s m (unpack_signed u)) n n' d d' c c') (sym k) (go (splines_of t limit room s rest) refl h)
+          subst (λ (x : Got Described). RestLeft x (done s m (unpack_signed u)) n n' d d' c c') (sym at_rest) (go (splines_of t limit room s rest) refl h)
         where
-          go : (i : Got Splines) → splines_of t limit room s rest ≡ i → SplinesLeft i (Points.Count m) n n' d d' c c'
-              → RestLeft (and_then i (λ x l1. ended t (describe (unpack_signed u) [] x) l1)) (ReadAnswer.Done s m (unpack_signed u)) n n' d d' c c'
+          go : (i : Got Splines) → splines_of t limit room s rest ≡ i → SplinesLeft i (Ok m) n n' d d' c c'
+              → RestLeft (and_then i (λ x l1. ended t (describe (unpack_signed u) [] x) l1)) (done s m (unpack_signed u)) n n' d d' c c'
           go (got (splines ns ds cs) r) i h =
               let w = splines_went t limit room s rest ns ds cs r i in
               let q : m ≡ points_of ns = cc h.0 in
@@ -144,54 +146,57 @@ starts_length false x y (suc n) (a ∷ b ∷ zs) h = omega (arith, starts_length
 
 -- ---- the whole list
 
-pub list_stop : (g : Got Described) (k : Code) (p : ℕ) (n n' : List ℕ) (f f' : List Float) (d d' c c' : List ℤ) → g ≡ stop k p → ListLeft g (ReadAnswer.Refused k p) n n' f f' d d' c c'
-list_stop g k p n n' f f' d d' c c' e = subst (λ (x : Got Described). ListLeft x (ReadAnswer.Refused k p) n n' f f' d d' c c') (sym e) refl
+pub list_stop : (g : Got Described) (k : Code) (p : ℕ) (n n' : List ℕ) (f f' : List Float) (d d' c c' : List ℤ) → g ≡ stop k p → ListLeft g (refused k p) n n' f f' d d' c c'
+list_stop g k p n n' f f' d d' c c' e = subst (λ (x : Got Described). ListLeft x (refused k p) n n' f f' d d' c c') (sym e) refl
 
-module _ (limit : ℕ) (rooms : ListRooms) (l : List ℕ) where
-  pub read_short : next_of l ≡ Next.End → read_of limit rooms l ≡ stop Code.Short 0
+module _ (limit : ℕ) (rooms : ListRooms) where
+  pub read_short : (l : List ℕ) → length l < 1 → read_of limit rooms l ≡ stop Code.Short 0
   unfolding read_of
-  read_short e = rw (next_not l e)
+  read_short [] e = refl
+  read_short (a ∷ l) e = absurd (omega arith)
 
-  pub read_splines : (v : ℕ) → next_of l ≡ Next.Value v → limit ≤ v → read_of limit rooms l ≡ stop Code.Splines 0
+  pub read_splines : (l : List ℕ) → 1 ≤ length l → limit ≤ get_or l 0 0 → read_of limit rooms l ≡ stop Code.Splines 0
   unfolding read_of
-  read_splines v e h = rw (next_is l v e, lt-ltb limit (v + 1) (omega arith))
+  read_splines [] e h = absurd (not-suc-le-zero e)
+  read_splines (v ∷ l) e h = rw (lt-ltb limit (v + 1) (omega arith))
 
-  read_room : (v : ℕ) → next_of l ≡ Next.Value v → v < limit → lacking rooms (v + 1) ≡ true → read_of limit rooms l ≡ stop Code.Room 0
+  pub read_room : (l : List ℕ) → 1 ≤ length l → get_or l 0 0 < limit → lacking rooms (get_or l 0 0 + 1) ≡ true → read_of limit rooms l ≡ stop Code.Room 0
   unfolding read_of
-  read_room v e h w = rw (next_is l v e, le-ltb limit (v + 1) (omega arith), w)
+  read_room [] e h w = absurd (not-suc-le-zero e)
+  read_room (v ∷ l) e h w = rw (le-ltb limit (v + 1) (omega arith), w)
 
-  pub no_counts : (v : ℕ) → next_of l ≡ Next.Value v → v < limit → rooms.counts < v + 1 → read_of limit rooms l ≡ stop Code.Room 0
-  no_counts v e h a = read_room v e h (rw (lt-ltb rooms.counts (v + 1) a))
+  pub no_counts : (v : ℕ) → rooms.counts < v + 1 → lacking rooms (v + 1) ≡ true
+  no_counts v a = rw (lt-ltb rooms.counts (v + 1) a)
 
-  pub no_starts : (v : ℕ) → next_of l ≡ Next.Value v → v < limit → v + 1 ≤ rooms.counts → rooms.starts < 2 * (v + 1) → read_of limit rooms l ≡ stop Code.Room 0
-  no_starts v e h a b = read_room v e h (rw (le-ltb rooms.counts (v + 1) a, lt-ltb rooms.starts (2 * (v + 1)) b))
+  pub no_starts : (v : ℕ) → v + 1 ≤ rooms.counts → rooms.starts < 2 * (v + 1) → lacking rooms (v + 1) ≡ true
+  no_starts v a b = rw (le-ltb rooms.counts (v + 1) a, lt-ltb rooms.starts (2 * (v + 1)) b)
 
-  pub no_coefficients : (v : ℕ) → next_of l ≡ Next.Value v → v < limit → v + 1 ≤ rooms.counts → 2 * (v + 1) ≤ rooms.starts
-      → rooms.coefficients < 128 * (v + 1) → read_of limit rooms l ≡ stop Code.Room 0
-  no_coefficients v e h a b c =
-      read_room v e h (rw (le-ltb rooms.counts (v + 1) a, le-ltb rooms.starts (2 * (v + 1)) b, lt-ltb rooms.coefficients (128 * (v + 1)) c))
+  pub no_coefficients : (v : ℕ) → v + 1 ≤ rooms.counts → 2 * (v + 1) ≤ rooms.starts → rooms.coefficients < 128 * (v + 1) → lacking rooms (v + 1) ≡ true
+  no_coefficients v a b c = rw (le-ltb rooms.counts (v + 1) a, le-ltb rooms.starts (2 * (v + 1)) b, lt-ltb rooms.coefficients (128 * (v + 1)) c)
 
-read_at : (limit : ℕ) (rooms : ListRooms) (l : List ℕ) (v : ℕ) → next_of l ≡ Next.Value v → v < limit → v + 1 ≤ rooms.counts → 2 * (v + 1) ≤ rooms.starts
-    → 128 * (v + 1) ≤ rooms.coefficients
-    → read_of limit rooms l ≡ and_then (starts_in (length l) true (pos 0) (pos 0) (v + 1) (drop 1 l)) (λ zs l1. after_starts (length l) limit rooms.deltas (v + 1) zs l1)
-unfolding read_of
-read_at limit rooms [] v e h a b c = cc
-read_at limit rooms (x ∷ l) v e h a b c =
-    let p : x ≡ v = cc in
-    rw (p, le-ltb limit (v + 1) (omega arith), le-ltb rooms.counts (v + 1) a, le-ltb rooms.starts (2 * (v + 1)) b, le-ltb rooms.coefficients (128 * (v + 1)) c)
+  read_at : (l : List ℕ) → 1 ≤ length l → get_or l 0 0 < limit → get_or l 0 0 + 1 ≤ rooms.counts → 2 * (get_or l 0 0 + 1) ≤ rooms.starts → 128 * (get_or l 0 0 + 1) ≤ rooms.coefficients
+      → read_of limit rooms l ≡ and_then (starts_in (length l) true (pos 0) (pos 0) (get_or l 0 0 + 1) (drop 1 l)) (λ zs l1. after_starts (length l) limit rooms.deltas (get_or l 0 0 + 1) zs l1)
+  unfolding read_of
+  read_at [] e h a b c = absurd (not-suc-le-zero e)
+  read_at (v ∷ l) e h a b c =
+      rw (le-ltb limit (v + 1) (omega arith), le-ltb rooms.counts (v + 1) a, le-ltb rooms.starts (2 * (v + 1)) b, le-ltb rooms.coefficients (128 * (v + 1)) c)
 
-module _ (limit : ℕ) (rooms : ListRooms) (l rest : List ℕ) (v : ℕ) (e : next_of l ≡ Next.Value v) (h : v < limit) (a : v + 1 ≤ rooms.counts)
+module _ (limit : ℕ) (rooms : ListRooms) (l rest : List ℕ) (v : ℕ) (e : 1 ≤ length l) (ev : v ≡ get_or l 0 0) (h : v < limit) (a : v + 1 ≤ rooms.counts)
     (b : 2 * (v + 1) ≤ rooms.starts) (c : 128 * (v + 1) ≤ rooms.coefficients) (er : rest ≡ drop 1 l) (f f' : List Float) where
   abbrev Starts : Got (List ℤ)
   Starts = starts_in (length l) true (pos 0) (pos 0) (v + 1) rest
 
-  at_starts : read_of limit rooms l ≡ and_then Starts (λ zs l1. after_starts (length l) limit rooms.deltas (v + 1) zs l1)
-  at_starts = read_at limit rooms l v e h a b c ∙ rw (← er)
+  abbrev At : ℕ → Type 0
+  At m = m < limit → m + 1 ≤ rooms.counts → 2 * (m + 1) ≤ rooms.starts → 128 * (m + 1) ≤ rooms.coefficients
+      → read_of limit rooms l ≡ and_then (starts_in (length l) true (pos 0) (pos 0) (m + 1) rest) (λ zs l1. after_starts (length l) limit rooms.deltas (m + 1) zs l1)
 
-  pub read_starts_stop : (k : Code) (p : ℕ) → Filled (floats Starts) (Step.Stop k p) f f' → read_of limit rooms l ≡ stop k p
+  at_starts : read_of limit rooms l ≡ and_then Starts (λ zs l1. after_starts (length l) limit rooms.deltas (v + 1) zs l1)
+  at_starts = subst At (sym ev) (λ h a b c. read_at limit rooms l e h a b c ∙ rw (← er)) h a b c
+
+  pub read_starts_stop : (k : Code) (p : ℕ) → Filled (floats Starts) (refused k p) f f' → read_of limit rooms l ≡ stop k p
   read_starts_stop k p w = at_starts ∙ rw (stop_floats Starts k p (filled_stopped (floats Starts) f f' k p w))
 
-  module _ (w : Filled (floats Starts) Step.Done f f') where
+  module _ (w : Filled (floats Starts) (Ok tt) f f') where
     gave : Gave (floats Starts) f f'
     gave = filled_gave (floats Starts) f f' w
 

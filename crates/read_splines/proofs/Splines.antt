@@ -5,19 +5,18 @@ use mathlib.Core.List.{List, [], ◌∷◌, ◌++◌, map, append_assoc, append-
 use Prim.Native.Nat.{ℕ, zero, suc, ◌+◌, ◌-◌, ◌*◌, ◌≤◌, ◌<◌}
 use native.Mathlib.Nat.{not-suc-le-zero, sub-zero}
 use native.Mathlib.Omega.{arith}
-use lib.ListN.{length, take, drop, set, length-set, length-drop, length-append, length-map, drop_of_length-le, take-append-drop}
+use lib.ListN.{length, get_or, take, drop, set, length-set, length-drop, length-append, length-map, drop_of_length-le, take-append-drop}
 use lib.Seq.{drop-drop, length-take-le, take_at, drop_at}
 use lib.IntN.{ℤ}
 use borrow.Author.Tests.{lt-ltb, le-ltb}
+use Rattle.std.specs.Prelude.{Result, Ok}
 use Rattle.codes.specs.declared.Code.{Code}
-use Rattle.list.specs.declared.Next.{Next}
+use Rattle.codes.specs.Refusal.{Refusal, refused}
+use Rattle.codes.proofs.Refusals.{same_refusal}
 use Rattle.shape.specs.Shape.{points_of}
 use Rattle.list.specs.List.{pack_signed, Got, got, stop, Spline, spline, Splines, splines, and_then, onto_splines, deltas_in, coefficients_in, spline_in, splines_of}
-use Rattle.list.specs.Steps.{next_of}
-use Rattle.list.proofs.Buffers.{part_tail, next_is, next_not}
+use Rattle.list.proofs.Buffers.{part_tail}
 use Rattle.list.proofs.Accepted.{deltas_read, SplineRead, spline_read}
-use Rattle.read_steps.specs.declared.Step.{Step}
-use Rattle.read_splines.specs.declared.Points.{Points}
 use Rattle.read_steps.specs.Steps.{Front, Filled}
 use Rattle.read_splines.specs.Splines.{SplineLeft, SplinesLeft}
 use Rattle.read_steps.proofs.Turns.{take_one, keep_one}
@@ -31,13 +30,13 @@ pub record Gave {A : Type 0} (g : Got (List A)) (old new : List A) : Type 0 wher
   pub left : Front vs old new
 
 module _ {A : Type 0} where
-  pub filled_gave : (g : Got (List A)) (old new : List A) → Filled g Step.Done old new → Gave g old new
+  pub filled_gave : (g : Got (List A)) (old new : List A) → Filled g (Ok tt) old new → Gave g old new
   filled_gave (got vs l) old new h = record { vs = vs; rest = l; is = refl; left = h.1 }
   filled_gave (stop c p) old new h = let z : ◌≡◌ {A = ℕ} 0 1 = cc in absurd (omega arith)
 
-  pub filled_stopped : (g : Got (List A)) (old new : List A) (c : Code) (p : ℕ) → Filled g (Step.Stop c p) old new → g ≡ stop c p
+  pub filled_stopped : (g : Got (List A)) (old new : List A) (c : Code) (p : ℕ) → Filled g (refused c p) old new → g ≡ stop c p
   filled_stopped (got vs l) old new c p h = cc h.0
-  filled_stopped (stop d q) old new c p h = cc
+  filled_stopped (stop d q) old new c p h = let e = same_refusal h in cc
 
 -- a list that begins with n values goes on after them
 pub went : (l w r : List ℕ) (n : ℕ) → l ≡ w ++ r → length w ≡ n → (r ≡ drop n l) × (n ≤ length l)
@@ -48,36 +47,37 @@ packed_went l vs r n e h = went l (map pack_signed vs) r n e (length-map vs pack
 
 -- ---- one spline
 
-pub spline_stop : (g : Got Spline) (k : Code) (p : ℕ) (d d' c c' : List ℤ) → g ≡ stop k p → SplineLeft g (Points.Stop k p) d d' c c'
-spline_stop g k p d d' c c' e = subst (λ (x : Got Spline). SplineLeft x (Points.Stop k p) d d' c c') (sym e) refl
+pub spline_stop : (g : Got Spline) (k : Code) (p : ℕ) (d d' c c' : List ℤ) → g ≡ stop k p → SplineLeft g (refused k p) d d' c c'
+spline_stop g k p d d' c c' e = subst (λ (x : Got Spline). SplineLeft x (refused k p) d d' c c') (sym e) refl
 
-module _ (t left room : ℕ) (l : List ℕ) where
-  pub spline_short : next_of l ≡ Next.End → spline_in t left room l ≡ stop Code.Short t
+module _ (t left room : ℕ) where
+  pub spline_short : (l : List ℕ) → length l < 1 → spline_in t left room l ≡ stop Code.Short t
   unfolding spline_in
-  spline_short e = rw (next_not l e)
+  spline_short [] e = refl
+  spline_short (a ∷ l) e = absurd (omega arith)
 
-  pub spline_over : (n : ℕ) → next_of l ≡ Next.Value n → left < n → spline_in t left room l ≡ stop Code.Points (t - length l)
+  pub spline_over : (l : List ℕ) → 1 ≤ length l → left < get_or l 0 0 → spline_in t left room l ≡ stop Code.Points (t - length l)
   unfolding spline_in
-  spline_over n e h = rw (next_is l n e, lt-ltb left n h)
+  spline_over [] e h = absurd (not-suc-le-zero e)
+  spline_over (n ∷ l) e h = rw (lt-ltb left n h)
 
-  pub spline_room : (n : ℕ) → next_of l ≡ Next.Value n → n ≤ left → room < 2 * n → spline_in t left room l ≡ stop Code.Room (t - length l)
+  pub spline_room : (l : List ℕ) → 1 ≤ length l → get_or l 0 0 ≤ left → room < 2 * get_or l 0 0 → spline_in t left room l ≡ stop Code.Room (t - length l)
   unfolding spline_in
-  spline_room n e h g = rw (next_is l n e, le-ltb left n h, lt-ltb room (2 * n) g)
+  spline_room [] e h g = absurd (not-suc-le-zero e)
+  spline_room (n ∷ l) e h g = rw (le-ltb left n h, lt-ltb room (2 * n) g)
 
-spline_at : (t left room : ℕ) (l : List ℕ) (n : ℕ) → next_of l ≡ Next.Value n → n ≤ left → 2 * n ≤ room
-    → spline_in t left room l ≡ and_then (deltas_in t n (drop 1 l)) (λ ds l1. and_then (coefficients_in t 128 l1) (λ cs l2. got (spline n ds cs) l2))
-unfolding spline_in
-spline_at t left room [] n e h g = cc
-spline_at t left room (a ∷ l) n e h g =
-    let p : a ≡ n = cc in
-    rw (p, le-ltb left n h, le-ltb room (2 * n) g)
+  spline_at : (l : List ℕ) (n : ℕ) → 1 ≤ length l → n ≡ get_or l 0 0 → n ≤ left → 2 * n ≤ room
+      → spline_in t left room l ≡ and_then (deltas_in t n (drop 1 l)) (λ ds l1. and_then (coefficients_in t 128 l1) (λ cs l2. got (spline n ds cs) l2))
+  unfolding spline_in
+  spline_at [] n e q h g = absurd (not-suc-le-zero e)
+  spline_at (a ∷ l) n e q h g = rw (← q, le-ltb left n h, le-ltb room (2 * n) g)
 
 -- its double deltas have been read, from the part after its count
-module _ (t left room : ℕ) (l after : List ℕ) (n : ℕ) (e : next_of l ≡ Next.Value n) (h : n ≤ left) (g : 2 * n ≤ room) (ea : after ≡ drop 1 l) (d d' : List ℤ) where
-  pub spline_deltas_stop : (k : Code) (p : ℕ) → Filled (deltas_in t n after) (Step.Stop k p) d d' → spline_in t left room l ≡ stop k p
-  spline_deltas_stop k p f = spline_at t left room l n e h g ∙ rw (← ea, filled_stopped (deltas_in t n after) d d' k p f)
+module _ (t left room : ℕ) (l after : List ℕ) (n : ℕ) (e : 1 ≤ length l) (q : n ≡ get_or l 0 0) (h : n ≤ left) (g : 2 * n ≤ room) (ea : after ≡ drop 1 l) (d d' : List ℤ) where
+  pub spline_deltas_stop : (k : Code) (p : ℕ) → Filled (deltas_in t n after) (refused k p) d d' → spline_in t left room l ≡ stop k p
+  spline_deltas_stop k p f = spline_at t left room l n e q h g ∙ rw (← ea, filled_stopped (deltas_in t n after) d d' k p f)
 
-  module _ (f : Filled (deltas_in t n after) Step.Done d d') where
+  module _ (f : Filled (deltas_in t n after) (Ok tt) d d') where
     gave : Gave (deltas_in t n after) d d'
     gave = filled_gave (deltas_in t n after) d d' f
 
@@ -92,17 +92,17 @@ module _ (t left room : ℕ) (l after : List ℕ) (n : ℕ) (e : next_of l ≡ N
     -- and its coefficients from the part after those
     module _ (tail : List ℕ) (et : tail ≡ drop (2 * n) after) (c c' : List ℤ) where
       at_tail : spline_in t left room l ≡ and_then (coefficients_in t 128 tail) (λ cs l2. got (spline n gave.vs cs) l2)
-      at_tail = spline_at t left room l n e h g ∙ rw (← ea, gave.is, far.0, ← et)
+      at_tail = spline_at t left room l n e q h g ∙ rw (← ea, gave.is, far.0, ← et)
 
-      pub spline_coefficients_stop : (k : Code) (p : ℕ) → Filled (coefficients_in t 128 tail) (Step.Stop k p) c c' → spline_in t left room l ≡ stop k p
+      pub spline_coefficients_stop : (k : Code) (p : ℕ) → Filled (coefficients_in t 128 tail) (refused k p) c c' → spline_in t left room l ≡ stop k p
       spline_coefficients_stop k p b = at_tail ∙ rw (filled_stopped (coefficients_in t 128 tail) c c' k p b)
 
-      pub spline_done : Filled (coefficients_in t 128 tail) Step.Done c c' → SplineLeft (spline_in t left room l) (Points.Count n) d d' c c'
+      pub spline_done : Filled (coefficients_in t 128 tail) (Ok tt) c c' → SplineLeft (spline_in t left room l) (Ok n) d d' c c'
       spline_done b =
           let k = filled_gave (coefficients_in t 128 tail) c c' b in
           let is : spline_in t left room l ≡ got (spline n gave.vs k.vs) k.rest
           = at_tail ∙ ap (λ (x : Got (List ℤ)). and_then x (λ cs l2. got (spline n gave.vs cs) l2)) k.is in
-          subst (λ (x : Got Spline). SplineLeft x (Points.Count n) d d' c c') (sym is) (refl, gave.left, k.left)
+          subst (λ (x : Got Spline). SplineLeft x (Ok n) d d' c c') (sym is) (refl, gave.left, k.left)
 
 -- ---- what a whole spline gave
 
@@ -125,7 +125,7 @@ spline_went t left room l n ds cs r v =
     (v.is ∙ ap (λ (m : List ℕ). n ∷ m) (sym (append_assoc (map pack_signed ds) (map pack_signed cs) r)))
     (ap suc (length-append (map pack_signed ds) (map pack_signed cs)) ∙ omega (arith, length-map ds pack_signed, length-map cs pack_signed, v.deltas, v.coefficients))
 
-pub took : (t left room : ℕ) (l : List ℕ) (n : ℕ) (d d' c c' : List ℤ) → SplineLeft (spline_in t left room l) (Points.Count n) d d' c c' → Took t left room l n d d' c c'
+pub took : (t left room : ℕ) (l : List ℕ) (n : ℕ) (d d' c c' : List ℤ) → SplineLeft (spline_in t left room l) (Ok n) d d' c c' → Took t left room l n d d' c c'
 took t left room l n d d' c c' h = go (spline_in t left room l) refl h
   where
     whole : (ds cs : List ℤ) (r : List ℕ) → spline_in t left room l ≡ got (spline n ds cs) r → Front ds d d' → Front cs c c' → Took t left room l n d d' c c'
@@ -145,15 +145,15 @@ took t left room l n d d' c c' h = go (spline_in t left room l) refl h
           new_c = y;
         }
 
-    go : (g : Got Spline) → spline_in t left room l ≡ g → SplineLeft g (Points.Count n) d d' c c' → Took t left room l n d d' c c'
+    go : (g : Got Spline) → spline_in t left room l ≡ g → SplineLeft g (Ok n) d d' c c' → Took t left room l n d d' c c'
     go (got (spline m ds cs) r) e h =
         let p : m ≡ n = cc h.0 in
         whole ds cs r (e ∙ rw p) h.1 h.2
     go (stop k p) e h = let z : ◌≡◌ {A = ℕ} 0 1 = cc in absurd (omega arith)
 
-spline_stopped : (g : Got Spline) (k : Code) (p : ℕ) (d d' c c' : List ℤ) → SplineLeft g (Points.Stop k p) d d' c c' → g ≡ stop k p
+spline_stopped : (g : Got Spline) (k : Code) (p : ℕ) (d d' c c' : List ℤ) → SplineLeft g (refused k p) d d' c c' → g ≡ stop k p
 spline_stopped (got (spline m ds cs) r) k p d d' c c' h = cc h.0
-spline_stopped (stop j q) k p d d' c c' h = cc
+spline_stopped (stop j q) k p d d' c c' h = let e = same_refusal h in cc
 
 -- ---- all splines
 
@@ -251,30 +251,30 @@ module _ (list : List ℕ) (total limit s : ℕ) (N₀ : List ℕ) (D₀ C₀ : 
 
   module _ (N : List ℕ) (D C : List ℤ) (rest : List ℕ) (left i d k : ℕ) (now : Going list total limit s N₀ D₀ C₀ N D C rest left i d k) where
     pub going_done : s ≤ i → s ≤ length N₀ → 128 * s ≤ length C₀
-        → SplinesLeft (splines_of total limit (length D₀) s list) (Points.Count (limit - left)) N₀ N D₀ D C₀ C
+        → SplinesLeft (splines_of total limit (length D₀) s list) (Ok (limit - left)) N₀ N D₀ D C₀ C
     going_done h roomN roomC =
         let z : s - i ≡ 0 = omega arith in
         let f : splines_of total limit (length D₀) s list ≡ got (splines (take i N) (take d D) (take k C)) rest
         = now.so ∙ rw z (before_end (take i N) (take d D) (take k C) total left (length D - d) rest) in
         let inN : i ≤ length N = omega (arith, now.turns, now.len_n) in
         let in_c : k ≤ length C = omega (arith, now.turns, now.len_c, now.cells) in
-        subst (λ (x : Got Splines). SplinesLeft x (Points.Count (limit - left)) N₀ N D₀ D C₀ C) (sym f)
-        (ap Points.Count (omega (arith, now.under)), front N N₀ i inN now.keep_n, front D D₀ d now.in_d now.keep_d, front C C₀ k in_c now.keep_c)
+        subst (λ (x : Got Splines). SplinesLeft x (Ok (limit - left)) N₀ N D₀ D C₀ C) (sym f)
+        (ap (λ (x : ℕ). Ok x) (omega (arith, now.under)), front N N₀ i inN now.keep_n, front D D₀ d now.in_d now.keep_d, front C C₀ k in_c now.keep_c)
 
     module _ (more : i < s) (roomC : 128 * s ≤ length C₀) (roomN : s ≤ length N₀) (d' c' : List ℤ) where
-      abbrev Left : Points → Type 0
+      abbrev Left : Result ℕ Refusal → Type 0
       Left r = SplineLeft (spline_in total left (length (take (length D - d) (drop d D))) rest) r (take (length D - d) (drop d D)) d' (take (length C - k) (drop k C)) c'
 
-      pub going_stop : (c : Code) (p : ℕ) → Left (Points.Stop c p)
-          → (N' : List ℕ) (D' C' : List ℤ) → SplinesLeft (splines_of total limit (length D₀) s list) (Points.Stop c p) N₀ N' D₀ D' C₀ C'
+      pub going_stop : (c : Code) (p : ℕ) → Left (refused c p)
+          → (N' : List ℕ) (D' C' : List ℤ) → SplinesLeft (splines_of total limit (length D₀) s list) (refused c p) N₀ N' D₀ D' C₀ C'
       going_stop c p h N' D' C' =
           let room : length (take (length D - d) (drop d D)) ≡ length D - d = rw (part_tail d D) (length-drop d D) in
           let e = spline_stopped (spline_in total left (length (take (length D - d) (drop d D))) rest) c p (take (length D - d) (drop d D)) d' (take (length C - k) (drop k C)) c' h in
           let f : splines_of total limit (length D₀) s list ≡ stop c p
           = now.so ∙ rw (splines_stop total left (length D - d) (s - i) rest c p (omega arith) (rw room at e)) in
-          subst (λ (x : Got Splines). SplinesLeft x (Points.Stop c p) N₀ N' D₀ D' C₀ C') (sym f) refl
+          subst (λ (x : Got Splines). SplinesLeft x (refused c p) N₀ N' D₀ D' C₀ C') (sym f) refl
 
-      module _ (n : ℕ) (h : Left (Points.Count n)) where
+      module _ (n : ℕ) (h : Left (Ok n)) where
         it : Took total left (length (take (length D - d) (drop d D))) rest n (take (length D - d) (drop d D)) d' (take (length C - k) (drop k C)) c'
         it = took total left (length (take (length D - d) (drop d D))) rest n (take (length D - d) (drop d D)) d' (take (length C - k) (drop k C)) c' h
 

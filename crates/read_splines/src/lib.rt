@@ -5,15 +5,8 @@ ghost use Rattle.std.specs.Prelude.{◌*◌, ◌≤◌, ◌<◌, length};
 ghost use Rattle.list.specs.List.{spline_in, splines_of};
 ghost use Rattle.read_splines.specs.Splines.{SplineLeft, SplinesLeft};
 
-use codes::Code;
-use list::{Next, head};
-use read_steps::{Step, read_coefficients, read_deltas};
-
-#[derive(Clone, Copy)]
-pub enum Points {
-    Count(u32),
-    Stop(Code, usize),
-}
+use codes::{Code, Refusal};
+use read_steps::{read_coefficients, read_deltas};
 
 // One spline: a point count of at most `left`, so many pairs of double deltas, 128 coefficients.
 pub fn read_spline(
@@ -22,30 +15,24 @@ pub fn read_spline(
     left: u32,
     deltas: &mut [i32],
     coefficients: &mut [i32],
-) -> Points
+) -> Result<u32, Refusal>
     requires { (128 ≤ length coefficients.old) × (length list.now ≤ total) }
     ensures { SplineLeft (spline_in total left (length deltas.old) list.now) result deltas.old deltas.new coefficients.old coefficients.new }
 {
-    let Next::Value(n) = head(list) else {
-        return Points::Stop(Code::Short, total);
+    let [n, after @ ..] = list else {
+        return Err((Code::Short, total));
     };
+    let n = *n;
     if left < n {
-        let place = total - list.len();
-        return Points::Stop(Code::Points, place);
+        return Err((Code::Points, total - list.len()));
     }
     let cells = 2 * (n as usize);
     if deltas.len() < cells {
-        let place = total - list.len();
-        return Points::Stop(Code::Room, place);
+        return Err((Code::Room, total - list.len()));
     }
-    let after = &list[1..];
-    match read_deltas(after, total, n as usize, deltas) {
-        Step::Stop(c, p) => Points::Stop(c, p),
-        Step::Done => match read_coefficients(&after[cells..], total, 128, coefficients) {
-            Step::Stop(c, p) => Points::Stop(c, p),
-            Step::Done => Points::Count(n),
-        },
-    }
+    read_deltas(after, total, n as usize, deltas)?;
+    read_coefficients(&after[cells..], total, 128, coefficients)?;
+    Ok(n)
 }
 
 // All splines; what is left of the limit goes down by each point count.
@@ -57,30 +44,26 @@ pub fn read_splines(
     counts: &mut [u32],
     deltas: &mut [i32],
     coefficients: &mut [i32],
-) -> Points
+) -> Result<u32, Refusal>
     requires { (s ≤ length counts.old) × (128 * s ≤ length coefficients.old) × (length list.now ≤ total) }
     ensures { SplinesLeft (splines_of total limit (length deltas.old) s list.now) result counts.old counts.new deltas.old deltas.new coefficients.old coefficients.new }
 {
     let mut rest = list;
     let mut left = limit;
-    let mut i = 0;
     let mut d = 0;
-    let mut k = 0;
-    while i < s {
-        match read_spline(rest, total, left, &mut deltas[d..], &mut coefficients[k..]) {
-            Points::Stop(c, p) => return Points::Stop(c, p),
-            Points::Count(n) => {
-                counts[i] = n;
-                let cells = 2 * (n as usize);
-                let used = cells + 129;
-                rest = &rest[used..];
-                left -= n;
-                d += cells;
-                k += 128;
-                i += 1;
-            }
-        }
+    for i in 0..s {
+        let n = read_spline(
+            rest,
+            total,
+            left,
+            &mut deltas[d..],
+            &mut coefficients[128 * i..],
+        )?;
+        counts[i] = n;
+        let cells = 2 * (n as usize);
+        rest = &rest[cells + 129..];
+        left -= n;
+        d += cells;
     }
-    let points = limit - left;
-    Points::Count(points)
+    Ok(limit - left)
 }

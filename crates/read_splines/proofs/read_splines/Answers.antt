@@ -1,4 +1,9 @@
+use mathlib.Core.Path.{refl}
+use mathlib.Core.Path.{◌≡◌}
+use Prim.Native.Nat.{◌+◌, ◌*◌}
 use native.Mathlib.Omega.{arith}
+use Rattle.std.specs.Prelude.{Err}
+use Rattle.codes.proofs.Refusals.{passed_on}
 use Rattle.read_splines.proofs.Splines.{going_start, going_stop, going_done, going_long, going_left, going_turn}
 use Rattle.read_splines.proofs.read_splines.Goals as goal
 
@@ -7,13 +12,15 @@ loop-i-init c =
     let a = c.args in
     going_start a.list.now a.total a.limit a.s a.counts.now a.deltas.now a.coefficients.now (omega arith)
 
-pub returns-in-Stop : goal.returns-in-Stop
-returns-in-Stop c =
+pub returns-in_err-n : goal.returns-in_err-n
+returns-in_err-n c =
     let a = c.args in
     let v = c.loop-i in
     let one = c.read_spline in
-    going_stop a.list.now a.total a.limit a.s a.counts.now a.deltas.now a.coefficients.now
-    v.counts v.deltas v.coefficients v.rest.now v.left v.i v.d v.k v.invariant (omega arith) (omega arith) (omega arith) one.new.deltas one.new.coefficients c.in-Stop.c c.in-Stop.p (rw c.in-Stop.is at one.ensures) _ _ _
+    let e = c.in_err-n.field-0.0 in
+    rw (passed_on c.from_residual.result e (Err e) c.from_residual.ensures.1 refl)
+    (going_stop a.list.now a.total a.limit a.s a.counts.now a.deltas.now a.coefficients.now
+    v.counts v.deltas v.coefficients v.rest.now v.left v.i v.d (128 * v.i) v.invariant (omega arith) (omega arith) (omega arith) one.new.deltas one.new.coefficients e.0 e.1 c.in_err-n.ensures _ _ _)
 
 pub slice_bounds-rest-count : goal.slice_bounds-rest-count
 slice_bounds-rest-count c =
@@ -21,7 +28,7 @@ slice_bounds-rest-count c =
     let v = c.loop-i in
     let one = c.read_spline in
     going_long a.list.now a.total a.limit a.s a.counts.now a.deltas.now a.coefficients.now
-    v.counts v.deltas v.coefficients v.rest.now v.left v.i v.d v.k v.invariant (omega arith) (omega arith) (omega arith) one.new.deltas one.new.coefficients c.in-Count.n (rw c.in-Count.is at one.ensures)
+    v.counts v.deltas v.coefficients v.rest.now v.left v.i v.d (128 * v.i) v.invariant (omega arith) (omega arith) (omega arith) one.new.deltas one.new.coefficients c.in_ok-n.n c.in_ok-n.ensures
 
 pub slice_bounds-rest-start : goal.slice_bounds-rest-start
 slice_bounds-rest-start c =
@@ -31,7 +38,7 @@ slice_bounds-rest-start c =
     omega (
       arith,
       going_long a.list.now a.total a.limit a.s a.counts.now a.deltas.now a.coefficients.now
-          v.counts v.deltas v.coefficients v.rest.now v.left v.i v.d v.k v.invariant (omega arith) (omega arith) (omega arith) one.new.deltas one.new.coefficients c.in-Count.n (rw c.in-Count.is at one.ensures),
+          v.counts v.deltas v.coefficients v.rest.now v.left v.i v.d (128 * v.i) v.invariant (omega arith) (omega arith) (omega arith) one.new.deltas one.new.coefficients c.in_ok-n.n c.in_ok-n.ensures,
     )
 
 pub overflow_sub-left : goal.overflow_sub-left
@@ -40,19 +47,20 @@ overflow_sub-left c =
     let v = c.loop-i in
     let one = c.read_spline in
     going_left a.list.now a.total a.limit a.s a.counts.now a.deltas.now a.coefficients.now
-    v.counts v.deltas v.coefficients v.rest.now v.left v.i v.d v.k v.invariant (omega arith) (omega arith) (omega arith) one.new.deltas one.new.coefficients c.in-Count.n (rw c.in-Count.is at one.ensures)
+    v.counts v.deltas v.coefficients v.rest.now v.left v.i v.d (128 * v.i) v.invariant (omega arith) (omega arith) (omega arith) one.new.deltas one.new.coefficients c.in_ok-n.n c.in_ok-n.ensures
 
 pub loop-i-preserved : goal.loop-i-preserved
 loop-i-preserved c =
     let a = c.args in
     let v = c.loop-i in
     let one = c.read_spline in
-    going_turn a.list.now a.total a.limit a.s a.counts.now a.deltas.now a.coefficients.now
-    v.counts v.deltas v.coefficients v.rest.now v.left v.i v.d v.k v.invariant (omega arith) (omega arith) (omega arith) one.new.deltas one.new.coefficients c.in-Count.n (rw c.in-Count.is at one.ensures)
+    let next : 128 * (v.i + 1) ≡ 128 * v.i + 128 = omega arith in
+    rw next (going_turn a.list.now a.total a.limit a.s a.counts.now a.deltas.now a.coefficients.now
+    v.counts v.deltas v.coefficients v.rest.now v.left v.i v.d (128 * v.i) v.invariant (omega arith) (omega arith) (omega arith) one.new.deltas one.new.coefficients c.in_ok-n.n c.in_ok-n.ensures)
 
 pub returns : goal.returns
 returns c =
     let a = c.args in
     let v = c.loop-i in
     going_done a.list.now a.total a.limit a.s a.counts.now a.deltas.now a.coefficients.now
-    v.counts v.deltas v.coefficients v.rest.now v.left v.i v.d v.k v.invariant (omega arith) (omega arith) (omega arith)
+    v.counts v.deltas v.coefficients v.rest.now v.left v.i v.d (128 * v.i) v.invariant (omega arith) (omega arith) (omega arith)
