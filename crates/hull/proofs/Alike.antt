@@ -11,8 +11,7 @@ use Rattle.segments.specs.declared.Segment.{Segment}
 use Rattle.segments.specs.declared.Range.{Range}
 use Rattle.segments.specs.Segment.{segment_at}
 use Rattle.segments.specs.Ranges.{has_column}
-use Rattle.checks.specs.declared.Verdict.{Verdict}
-use Rattle.checks.specs.declared.Verdict.TheVariants.{Fine, Fault}
+use Rattle.checks.specs.Verdict.{Verdict, Fine, Fault}
 use Rattle.codes.specs.declared.Code.{Code}
 use Rattle.desks.specs.Desks.{Sight, desk_good}
 use Rattle.desks.specs.Agree.{Agree, NothingHidden}

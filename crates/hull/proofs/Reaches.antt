@@ -9,12 +9,12 @@ use lib.ListN.{length, get_or}
 use lib.Seq.{slice}
 use lib.Ieee.{Float}
 use borrow.Author.Tests.{leb-true, ltb-true}
+use Rattle.std.specs.Prelude.{Ok, Err}
 use Rattle.codes.specs.declared.Code.{Code}
 use Rattle.segments.specs.Segment.{segment_at}
 use Rattle.segments.specs.declared.Segment.{Segment}
 use Rattle.segments.specs.declared.Range.{Range}
-use Rattle.checks.specs.declared.Verdict.{Verdict}
-use Rattle.checks.specs.declared.Verdict.TheVariants.{Fine, Fault}
+use Rattle.checks.specs.Verdict.{Verdict, Fine, Fault}
 use Rattle.desks.specs.Desks.{Sight, hidden_in, shown, desk_good}
 use Rattle.checks.specs.Tables.{Table, shown_of}
 use Rattle.checks.specs.Refusals.{Lent}
@@ -23,7 +23,7 @@ use Rattle.checks.proofs.Entries.{slice_next, slice_none}
 use Rattle.joins.specs.Joins.{joined, columns_below}
 use Rattle.joins.proofs.Joins.{same_range}
 use Rattle.hull.specs.Reach.{none, touched, reach_over, judge_reach_of, reach_answer, tells, reach_of}
-use Rattle.hull.specs.declared.ReachAnswer.TheVariants.{Done, Refused}
+use Rattle.hull.specs.ReachAnswer.{ReachAnswer, Done, Refused}
 use Rattle.hull.proofs.Hulls.{Least, Passing, least_hull, joined_over, joined_over_lem}
 
 -- ---- the entries
@@ -77,14 +77,22 @@ module _ (t : Table) (s : Sight) (y W : ℕ) where
   unfolding reach_of
   reach_fault e = sym (ap (λ (v : Verdict). tells (reach_answer v (reach_over t.segments W (shown_of t s y)))) e)
 
-  pub reach_done : (r : Range) → judge_reach_of t s y W ≡ Fine → r ≡ reach_over t.segments W (shown_of t s y) → tells (Done r.first r.past) ≡ reach_of t s y W
+  pub reach_done : (r : Range) → judge_reach_of t s y W ≡ Fine → r ≡ reach_over t.segments W (shown_of t s y) → tells (Ok r) ≡ reach_of t s y W
   unfolding reach_of
   reach_done r e p =
-      ap (λ (q : Range). tells (Done q.first q.past)) p ∙ sym (ap (λ (v : Verdict). tells (reach_answer v (reach_over t.segments W (shown_of t s y)))) e)
+      ap (λ (q : Range). tells (Ok q)) p ∙ sym (ap (λ (v : Verdict). tells (reach_answer v (reach_over t.segments W (shown_of t s y)))) e)
+
+  first_in : ReachAnswer → ℕ
+  first_in (Ok r) = r.first
+  first_in (Err e) = 0
+
+  past_in : ReachAnswer → ℕ
+  past_in (Ok r) = r.past
+  past_in (Err e) = 0
 
   -- an answer that is done: every check passed, and it is the least range of the columns that a listed segment has
   pub reached : {first past : ℕ} → (reach_of t s y W).answer ≡ Done first past → PassedReach t s y W × Least (Passing (touched t.segments (shown_of t s y)) W) (record { first = first; past = past })
-  unfolding reach_of
+  unfolding reach_of first_in past_in
   reached {first} {past} e = go (judge_reach_of t s y W) refl e
     where
       r : Range
@@ -93,8 +101,8 @@ module _ (t : Table) (s : Sight) (y W : ℕ) where
       go : (v : Verdict) → judge_reach_of t s y W ≡ v → reach_answer v r ≡ Done first past → PassedReach t s y W × Least (Passing (touched t.segments (shown_of t s y)) W) (record { first = first; past = past })
       go (Fault c) j d = let z : ◌≡◌ {A = ℕ} 0 1 = cc in absurd (omega (arith, z))
       go Fine j d =
-          let p : r.first ≡ first = cc in
-          let q : r.past ≡ past = cc in
+          let p : r.first ≡ first = ap first_in d in
+          let q : r.past ≡ past = ap past_in d in
           (judged_reach j, subst (Least (Passing (touched t.segments (shown_of t s y)) W)) (same_range r (record { first = first; past = past }) p q) (least_hull (touched t.segments (shown_of t s y)) W))
 
 -- Assumes nothing.

@@ -7,6 +7,7 @@ use native.Mathlib.Omega.{arith}
 use lib.ListN.{length}
 use borrow.Author.Tests.{lt-ltb, le-ltb, le-leb, lt-leb}
 use Rattle.codes.specs.declared.Code.{Code}
+use Rattle.codes.proofs.Refusals.{same_refusal}
 use Rattle.shade.proofs.Edits.{lt_or_ge}
 use Rattle.desks.specs.Desks.{Sight}
 use Rattle.checks.specs.Tables.{Table}
@@ -16,7 +17,8 @@ use Rattle.checks.proofs.Refusals.{counts_fit_for, counts_overrun_for, fit_or_ov
 use Rattle.hull.specs.Reach.{judge_reach_of, ReachOutcome, tells, reach_of}
 use Rattle.hull.specs.Refusals.{ReachRefusal}
 use Rattle.hull.specs.Refusals as codes
-use Rattle.hull.specs.declared.ReachAnswer.TheVariants as Reaching
+use Rattle.hull.specs.ReachAnswer.{ReachAnswer}
+use Rattle.hull.specs.ReachAnswer as Reaching
 use Rattle.hull.proofs.Reaches.{reach_fault}
 
 module _ (t : Table) (s : Sight) (y W : ℕ) where
@@ -40,9 +42,9 @@ module _ (t : Table) (s : Sight) (y W : ℕ) where
   module _ {c : Code} {p : ℕ} (e : (reach_of t s y W).answer ≡ Reaching.Refused c p) where
     reach_which : {k : Code} {q : ℕ} → ReachRefusal t s y W k q → ReachRefusal t s y W c p
     reach_which {k} {q} l =
-        let g : Reaching.Refused k q ≡ Reaching.Refused c p = ap (λ (o : ReachOutcome). o.answer) (reach_refused l) ∙ e in
-        let u : k ≡ c = cc in
-        let v : q ≡ p = cc in
+        let g : ◌≡◌ {A = ReachAnswer} (Reaching.Refused k q) (Reaching.Refused c p) = ap (λ (o : ReachOutcome). o.answer) (reach_refused l) ∙ e in
+        let u : k ≡ c = (same_refusal g).0 in
+        let v : q ≡ p = (same_refusal g).1 in
         rw (← u, ← v) l
 
     reach_passed : W ≤ 2 ^ 23 → Lent t s → y < t.height → row_good_for t s y ≡ true → ⊥

@@ -1,5 +1,5 @@
 -- The reach of a row for a desk: the hull of the columns below W that drawing the row would touch. Definitions only.
-use Rattle.std.specs.Prelude.{Bool, true, false, cond, ◌||◌, List, [], ◌∷◌, ℕ, zero, suc, ◌^◌, leb, Float}
+use Rattle.std.specs.Prelude.{Bool, true, false, cond, ◌||◌, List, [], ◌∷◌, ℕ, zero, suc, ◌^◌, leb, Float, Ok}
 use Rattle.codes.specs.Codes.{number_of}
 use Rattle.codes.specs.declared.Code.{Code}
 use Rattle.segments.specs.Segment.{segment_at}
@@ -8,11 +8,9 @@ use Rattle.segments.specs.declared.Range.{Range}
 use Rattle.desks.specs.Desks.{Sight, desk_good}
 use Rattle.checks.specs.Tables.{Table, shown_of}
 use Rattle.checks.specs.Checks.{or_fault, judge_row}
-use Rattle.checks.specs.declared.Verdict.{Verdict}
-use Rattle.checks.specs.declared.Verdict.TheVariants.{Fine, Fault}
+use Rattle.checks.specs.Verdict.{Verdict, Fine, Fault}
 use Rattle.joins.specs.Joins.{joined}
-use Rattle.hull.specs.declared.ReachAnswer.{ReachAnswer}
-use Rattle.hull.specs.declared.ReachAnswer.TheVariants.{Done, Refused}
+use Rattle.hull.specs.ReachAnswer.{ReachAnswer, Refused}
 
 -- ---- hulls
 
@@ -44,7 +42,7 @@ pub record ReachTold : Type 0 where
   pub past : ℕ
 
 abbrev pub told_of : ReachAnswer → ReachTold
-told_of (Done a e) = record { number = 0; place = 0; first = a; past = e }
+told_of (Ok r) = record { number = 0; place = 0; first = r.first; past = r.past }
 told_of (Refused c p) = record { number = number_of c; place = p; first = 0; past = 0 }
 
 -- the desk, the width, then the checks of drawing but for the span
@@ -52,7 +50,7 @@ unfoldable pub judge_reach_of : Table → Sight → ℕ → ℕ → Verdict
 judge_reach_of t s y W = or_fault (desk_good s) Code.Desk (or_fault (leb W (2 ^ 23)) Code.Size (judge_row t s y true))
 
 abbrev pub reach_answer : Verdict → Range → ReachAnswer
-reach_answer Fine r = Done r.first r.past
+reach_answer Fine r = Ok r
 reach_answer (Fault c) r = Refused c 0
 
 -- the answer and what it tells

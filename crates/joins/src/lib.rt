@@ -6,18 +6,6 @@ ghost use Rattle.joins.specs.Joins.{joined, columns_below};
 
 use segments::{Range, Segment};
 
-fn least(a: u32, b: u32) -> u32
-    ensures { result ≡ min a b }
-{
-    if a < b { a } else { b }
-}
-
-fn greatest(a: u32, b: u32) -> u32
-    ensures { result ≡ max a b }
-{
-    if a < b { b } else { a }
-}
-
 // The least range that holds what was found and the columns from `first` up to `past`.
 fn join(found: Range, first: u32, past: u32) -> Range
     requires { first < past }
@@ -27,8 +15,8 @@ fn join(found: Range, first: u32, past: u32) -> Range
         return Range { first, past };
     }
     Range {
-        first: least(found.first, first),
-        past: greatest(found.past, past),
+        first: found.first.min(first),
+        past: found.past.max(past),
     }
 }
 
@@ -36,9 +24,9 @@ fn join(found: Range, first: u32, past: u32) -> Range
 pub fn with_segment(found: Range, segment: Segment, width: u32) -> Range
     ensures { result ≡ joined found (columns_below width segment) }
 {
-    let first = segments::column_first(segment.center_x - segment.maximum_distance);
-    let last = segments::column_past(segment.center_x + segment.maximum_distance);
-    let past = least(width, last);
+    let columns = segment.columns();
+    let first = columns.first;
+    let past = width.min(columns.past);
     if past <= first {
         return found;
     }

@@ -1,18 +1,16 @@
 -- What is still to be joined, from entry to entry.
 use mathlib.Core.Path.{◌≡◌}
-use mathlib.Core.Bool.{true}
-use Prim.Native.Nat.{◌-◌, ◌≤◌}
 use lib.Seq.{slice}
-use Rattle.desks.specs.Desks.{sight_of, shown, all_owned}
-use Rattle.checks.specs.Checks.{all_below}
+use Rattle.desks.specs.Desks.{sight_in, shown}
+use Rattle.checks.specs.Tables.{table_in}
+use Rattle.checks.specs.Checks.{EntriesFit}
 use Rattle.hull.specs.Reach.{none}
 use Rattle.hull.proofs.Hulls.{joined_over}
 use Rattle.hull.proofs.reach_entries.Given as goal
 
 abbrev pub invariant-loop-j : goal.invariant-loop-j
 invariant-loop-j l =
-    (l.j ≤ l.e) × (all_below l.segment_count (slice l.j l.e l.entries) ≡ true) × (all_owned l.owners l.splines (slice l.j l.e l.entries) ≡ true)
-    × (joined_over l.segments l.width l.found (shown (sight_of l.owners l.splines l.bits l.desk) (slice l.j l.e l.entries)) ≡ joined_over l.segments l.width none (shown (sight_of l.owners l.splines l.bits l.desk) (slice l.b l.e l.entries)))
-
-abbrev pub decreases-loop-j : goal.decreases-loop-j
-decreases-loop-j l = l.e - l.j
+    let s = sight_in l.sight in
+    let segments = l.table.segments.now in
+    EntriesFit (table_in l.table) s l.j l.e
+    × (joined_over segments l.width l.found (shown s (slice l.j l.e l.table.entries.now)) ≡ joined_over segments l.width none (shown s (slice l.b l.e l.table.entries.now)))

@@ -9,4 +9,4 @@ returns-then-found c = rw (lt-ltb _ _ c.requires, le-ltb _ _ c.if-found.true)
 
 pub returns : goal.returns
 unfolding joined
-returns c = rw (lt-ltb _ _ c.requires, lt-ltb _ _ c.if-found.false, c.greatest.ensures, c.least.ensures)
+returns c = rw (lt-ltb _ _ c.requires, lt-ltb _ _ c.if-found.false, c.max.ensures, c.min.ensures)
