@@ -13,7 +13,7 @@ use Rattle.segments.specs.declared.Segment.{Segment}
 use Rattle.segments.specs.declared.Range.{Range}
 use Rattle.shade.specs.Edit.{edit}
 use Rattle.shade.specs.Shade.{shaded}
-use Rattle.draw.specs.declared.DrawAnswer.TheVariants.{Done, Refused}
+use Rattle.draw.specs.DrawAnswer.{Done, Refused}
 use Rattle.draw.specs.Draw.{between, count, span_good, three, Channels, leaves}
 use Rattle.columns.proofs.Columns.{ranged, count_columns, draw_columns}
 use Rattle.alone.specs.Alone.{drawn_channel_alone, judge_record, draw_alone}

@@ -2,27 +2,13 @@
 use Rattle.std.specs.Prelude.{Bool, cond, List, ℕ, ◌+◌, ◌^◌, ltb, length, Float}
 use Rattle.codes.specs.declared.Code.{Code}
 use Rattle.segments.specs.declared.Segment.{Segment}
-use Rattle.flat_records.specs.declared.SegmentRecord.{SegmentRecord}
+pub use Rattle.flat_records.specs.Records.{without_owner}
 use Rattle.segments.specs.Ranges.{has_column}
 use Rattle.shade.specs.Edit.{edit, first_cells}
 use Rattle.shade.specs.Shade.{shaded}
-use Rattle.checks.specs.declared.Verdict.{Verdict}
-use Rattle.checks.specs.declared.Verdict.TheVariants.{Fine, Fault}
-use Rattle.draw.specs.declared.DrawAnswer.TheVariants.{Done, Refused}
+use Rattle.checks.specs.Verdict.{Verdict, Fine, Fault}
+use Rattle.draw.specs.DrawAnswer.{Done, Refused}
 use Rattle.draw.specs.Draw.{count, span_good, or_fault, three, Channels, leaves, DrawOutcome}
-
--- the segment of a record
-abbrev pub without_owner : SegmentRecord → Segment
-without_owner r = record {
-  center_x = r.center_x;
-  center_y = r.center_y;
-  maximum_distance = r.maximum_distance;
-  inv_sigma = r.inv_sigma;
-  sigma_over_4_times_intensity = r.sigma_over_4_times_intensity;
-  color0 = r.color0;
-  color1 = r.color1;
-  color2 = r.color2;
-}
 
 -- a channel of colour c, lent from column x0 on, with the segment added to those of n pixels of row y whose columns it has
 abbrev pub drawn_channel_alone : ℕ → Segment → ℕ → ℕ → ℕ → List Float → List Float
