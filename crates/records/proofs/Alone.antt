@@ -15,9 +15,8 @@ use Rattle.codes.specs.declared.Code.{Code}
 use Rattle.segments.specs.Segment.{field, segment_at}
 use Rattle.segments.specs.declared.Segment.{Segment}
 use Rattle.flat_records.specs.declared.SegmentRecord.{SegmentRecord}
-use Rattle.draw.specs.declared.DrawAnswer.TheVariants.{Done, Refused}
-use Rattle.checks.specs.declared.Verdict.{Verdict}
-use Rattle.checks.specs.declared.Verdict.TheVariants.{Fine, Fault}
+use Rattle.draw.specs.DrawAnswer.{Done, Refused}
+use Rattle.checks.specs.Verdict.{Verdict, Fine, Fault}
 use Rattle.desks.specs.Desks.{Sight, sight_of, owner_in, hidden_in, desk_good, bytes_good}
 use Rattle.checks.proofs.Checks.{passed_check}
 use Rattle.draw.specs.Draw.{span_good, Channels, leaves, DrawOutcome}

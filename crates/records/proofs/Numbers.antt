@@ -12,11 +12,10 @@ use borrow.Author.Tests.{lt-ltb, le-leb}
 use Rattle.segments.specs.Segment.{segment_at}
 use Rattle.segments.specs.Ranges.{has_column}
 use Rattle.shade.specs.Edit.{edit, first_cells}
-use Rattle.checks.specs.declared.Verdict.{Verdict}
-use Rattle.checks.specs.declared.Verdict.TheVariants.{Fine}
+use Rattle.checks.specs.Verdict.{Verdict, Fine}
 use Rattle.desks.specs.Desks.{sight_of, hidden_in, shown, all_owned}
 use Rattle.desks.proofs.Shown.{shown_listed, owned_first}
-use Rattle.draw.specs.declared.DrawAnswer.TheVariants.{Done}
+use Rattle.draw.specs.DrawAnswer.{Done}
 use Rattle.draw.specs.Draw.{pixel, count, updates, drawn_channel, Table, Sight, row_of, shown_of, span_good, judge_draw, Channels, leaves, draw_of}
 use Rattle.checks.proofs.Checks.{RowFacts, Passed, judged_fine}
 use Rattle.checks.proofs.Refusals.{span_fits, below_each}

@@ -2,8 +2,8 @@
 use Rattle.std.specs.Prelude.{◌≡◌, true, ◌⊎◌, List, [], ◌∷◌, ℕ, ◌*◌, ◌<◌, ◌≤◌, length, get_or, Float}
 use Rattle.codes.specs.declared.Code.{Code}
 use Rattle.segments.specs.Segment.{segment_at}
-use Rattle.checks.specs.declared.Verdict.TheVariants.{Fine}
-use Rattle.draw.specs.declared.DrawAnswer.TheVariants.{Refused}
+use Rattle.checks.specs.Verdict.{Fine}
+use Rattle.draw.specs.DrawAnswer.{Refused}
 use Rattle.draw.specs.Draw.{Table, Sight, row_of, shown_of, judge_draw, Channels, leaves, draw_of}
 use Rattle.records.specs.Records.{joined_of, draw_alone, draw_number_of, draw_for}
 

@@ -6,9 +6,8 @@ pub use Rattle.flat_records.specs.Records.{joined_of}
 unfoldable pub use Rattle.flat_records.specs.Records.{zero_record, record_of, is_known}
 pub use Rattle.alone.specs.Alone.{without_owner, drawn_channel_alone, draw_alone}
 use Rattle.segments.specs.Segment.{segment_at}
-use Rattle.checks.specs.declared.Verdict.{Verdict}
-use Rattle.checks.specs.declared.Verdict.TheVariants.{Fine, Fault}
-use Rattle.draw.specs.declared.DrawAnswer.TheVariants.{Done, Refused}
+use Rattle.checks.specs.Verdict.{Verdict, Fine, Fault}
+use Rattle.draw.specs.DrawAnswer.{Done, Refused}
 use Rattle.desks.specs.Desks.{Sight, sight_of, owner_in, hidden_in, desk_good, bytes_good}
 use Rattle.draw.specs.Draw.{span_good, or_fault, Channels, leaves, DrawOutcome}
 

@@ -1,51 +1,44 @@
 // Segments with their owners as a lent slice of records, over the flat core: filled by copying, read by number, and drawn one by one, for a desk or whatever is hidden.
 #![tactic(auto)]
 
-ghost use Rattle.std.specs.Prelude.{◌≡◌, [], ◌∷◌, length, get_or};
-ghost use Rattle.desks.specs.Desks.{sight_of};
+ghost use Rattle.std.specs.Prelude.{◌≡◌, ◌<◌, length, get_or};
+ghost use Rattle.desks.specs.Desks.{sight_in};
 ghost use Rattle.draw.specs.Draw.{three, leaves};
 ghost use Rattle.records.specs.Records.{zero_record, records_of, draw_record_of, draw_number_of, judge_for, draw_for};
 
 use alone::draw_alone;
-use checks::Verdict;
-use codes::Code;
-use draw::DrawAnswer;
+use codes::{Code, Refusal};
+use desks::Sight;
 pub use flat_records::SegmentRecord;
 use flat_records::{is_known, record_of, zero_record};
 
 // ---- a record for a desk
 
-// The checks of a record for a desk, in their order.
-fn judge_for(
-    known: bool,
-    owner: u64,
-    splines: u64,
-    bits: &[u8],
-    desk: u32,
-    y: u32,
-    spanned: bool,
-) -> Verdict
-    ensures { result ≡ judge_for known (sight_of (owner ∷ []) splines bits.now desk) y spanned }
+// The checks of a record for a desk, in their order; the sight's one owner is the record's.
+#[tactic(auto, unfolding(crate::specs::Records::judge_for))]
+fn judge_for(known: bool, sight: &Sight<'_>, y: u32, spanned: bool) -> Result<(), Code>
+    requires { 0 < length sight.now.owners.now }
+    ensures { result ≡ judge_for known (sight_in sight.now) y spanned }
 {
-    if 2 <= desk {
-        return Verdict::Fault(Code::Desk);
+    if 2 <= sight.desk {
+        return Err(Code::Desk);
     }
     if !known {
-        return Verdict::Fault(Code::Table);
+        return Err(Code::Table);
     }
-    if bits.len() < splines as usize {
-        return Verdict::Fault(Code::Trace);
+    if sight.bits.len() < sight.splines as usize {
+        return Err(Code::Trace);
     }
     if 8388608 <= y {
-        return Verdict::Fault(Code::Row);
+        return Err(Code::Row);
     }
     if !spanned {
-        return Verdict::Fault(Code::Span);
+        return Err(Code::Span);
     }
-    if splines <= owner {
-        return Verdict::Fault(Code::Table);
+    if sight.splines <= sight.owners[0] {
+        return Err(Code::Table);
     }
-    Verdict::Fine
+    Ok(())
 }
 
 // Draws a record for a desk, unless its ninth field names a spline that is hidden there; `known` says that there is such a record.
@@ -61,23 +54,25 @@ pub fn draw_for_desk(
     r0: &mut [f32],
     r1: &mut [f32],
     r2: &mut [f32],
-) -> DrawAnswer
+) -> Result<u64, Refusal>
     ensures { leaves result (three r0.new r1.new r2.new)
         ≡ draw_for known whole splines bits.now desk y x0 n (three r0.old r1.old r2.old) }
 {
-    let owner = whole.owner;
+    let owners = [whole.owner];
+    let sight = Sight {
+        owners: &owners,
+        splines,
+        bits,
+        desk,
+    };
     let spanned = checks::span_good(x0, n, r0.len(), r1.len(), r2.len());
-    match judge_for(known, owner, splines, bits, desk, y, spanned) {
-        Verdict::Fault(code) => DrawAnswer::Refused(code, 0),
-        Verdict::Fine => {
-            let owners = [owner; 1];
-            if desks::hidden(&owners, splines, bits, desk, 0) {
-                DrawAnswer::Done(0)
-            } else {
-                draw_alone(known, whole, y, x0, n, r0, r1, r2)
-            }
-        }
+    if let Err(code) = judge_for(known, &sight, y, spanned) {
+        return Err((code, 0));
     }
+    if desks::hidden(&sight, 0) {
+        return Ok(0);
+    }
+    draw_alone(known, whole, y, x0, n, r0, r1, r2)
 }
 
 // ---- the slice of records
@@ -86,20 +81,18 @@ pub fn draw_for_desk(
 pub fn segment_at(records: &[SegmentRecord], i: usize) -> SegmentRecord
     ensures { result ≡ get_or records.now i zero_record }
 {
-    if i < records.len() {
-        return records[i];
+    match records.get(i) {
+        Some(record) => *record,
+        None => zero_record(),
     }
-    zero_record()
 }
 
 // Every record is set: the first `count` to the segments of the flat slice with their owners, the others to zeros.
 pub fn fill_records(flat: &[f32], owners: &[u64], count: usize, records: &mut [SegmentRecord])
     ensures { records.new ≡ records_of flat.now owners.now count (length records.old) }
 {
-    let mut i = 0;
-    while i < records.len() {
+    for i in 0..records.len() {
         records[i] = record_of(flat, owners, count, i);
-        i += 1;
     }
 }
 
@@ -113,7 +106,7 @@ pub fn draw_record(
     r0: &mut [f32],
     r1: &mut [f32],
     r2: &mut [f32],
-) -> DrawAnswer
+) -> Result<u64, Refusal>
     ensures { leaves result (three r0.new r1.new r2.new)
         ≡ draw_record_of records.now i y x0 n (three r0.old r1.old r2.old) }
 {
@@ -134,7 +127,7 @@ fn draw_in_16(
     r0: &mut [f32],
     r1: &mut [f32],
     r2: &mut [f32],
-) -> DrawAnswer
+) -> Result<u64, Refusal>
     ensures { leaves result (three r0.new r1.new r2.new)
         ≡ draw_record_of (records_of flat.now owners.now count 16) i y x0 n (three r0.old r1.old r2.old) }
 {
@@ -158,12 +151,12 @@ pub fn draw_by_records(
     r0: &mut [f32],
     r1: &mut [f32],
     r2: &mut [f32],
-) -> DrawAnswer
+) -> Result<u64, Refusal>
     ensures { leaves result (three r0.new r1.new r2.new)
         ≡ draw_number_of flat.now count i y x0 n (three r0.old r1.old r2.old) }
 {
     if !is_known(flat, count, i) {
-        return DrawAnswer::Refused(Code::Table, 0);
+        return Err((Code::Table, 0));
     }
     let first = i / 16 * 16;
     let owners = [0u64; 16];
