@@ -1,22 +1,15 @@
 // The bytes of a file, and the values of a text.
 #![tactic(auto)]
 
-ghost use Rattle.std.specs.Prelude.{◌≡◌, ◌≤◌};
-ghost use Rattle.files.specs.Loads.{status_in};
+ghost use Rattle.std.specs.Prelude.{◌≡◌, ◌≢◌, IfErr};
 
+use std::fmt::Display;
 use std::fs::File;
 use std::io::{Error, ErrorKind, Read};
 use std::os::fd::AsRawFd;
 use std::rt::Files;
-use text::Parsed;
-
-// How many bytes or values there are; or the bytes fill their room; or the status, after a line that says what is wrong.
-#[derive(Clone, Copy)]
-pub enum Loaded {
-    Count(usize),
-    Long,
-    Status(u8),
-}
+use text::ParseError;
+use words::Failure;
 
 // A file by its name: open, or why it is not.
 #[derive(Clone, Copy)]
@@ -25,52 +18,43 @@ pub struct Named<'a> {
     pub opened: &'a std::io::Result<File>,
 }
 
-// A name, to standard error.
-fn say_name(name: &[u8]) {
-    io::write_all(2, name);
-}
-
-// A line that begins with a name, and the line in that file; a `#` in what is wrong stands for the number.
-fn at_line(name: &[u8], line: usize, what: &[u8], number: usize) {
-    say_name(name);
-    words::wrong(2, b": line #", &[line as u64]);
-    words::wrong(2, what, &[number as u64]);
-}
-
-// The values of the text in the file of this name.
-pub fn parse(name: &[u8], text: &[u8], values: &mut [u32]) -> Loaded
-    ensures { status_in result ≤ 2 }
+// What is wrong with a line of the file of this name.
+fn at_line<D: Display + Drop>(failure: Failure, name: &[u8], line: usize, what: D) -> Failure
+    ensures { result ≡ failure }
 {
-    match text::values_of(text, values) {
-        Parsed::Values(n) => Loaded::Count(n),
-        Parsed::Stranger(at) => {
-            at_line(
-                name,
-                text::line_of(text, at),
-                b": a byte that is neither a digit nor white space\n",
-                0,
-            );
-            Loaded::Status(2)
-        }
-        Parsed::Great(at) => {
-            at_line(
-                name,
-                text::line_of(text, at),
-                b": a number above 4294967295\n",
-                0,
-            );
-            Loaded::Status(2)
-        }
-        Parsed::Full(at) => {
-            at_line(
-                name,
-                text::line_of(text, at),
-                b": more values than this program has room for, #\n",
-                values.len(),
-            );
-            Loaded::Status(1)
-        }
-    }
+    io::write_all(2, name);
+    words::wrong(failure, format_args!(": line {line}: {what}\n"))
+}
+
+// The values of the text in the file of this name: how many there are.
+pub fn parse(name: &[u8], text: &[u8], values: &mut [u32]) -> Result<usize, Failure>
+    ensures told { IfErr result (λ failure. failure ≢ Failure.Quiet) }
+{
+    let room = values.len();
+    let why = match text::values_of(text, values) {
+        Ok(n) => return Ok(n),
+        Err(why) => why,
+    };
+    Err(match why {
+        ParseError::Stranger(at) => at_line(
+            Failure::WrongUse,
+            name,
+            text::line_of(text, at),
+            "a byte that is neither a digit nor white space",
+        ),
+        ParseError::Great(at) => at_line(
+            Failure::WrongUse,
+            name,
+            text::line_of(text, at),
+            "a number above 4294967295",
+        ),
+        ParseError::Full(at) => at_line(
+            Failure::Refused,
+            name,
+            text::line_of(text, at),
+            format_args!("more values than this program has room for, {room}"),
+        ),
+    })
 }
 
 // A read that fails, as of a directory, is told from a file that is empty.
@@ -79,15 +63,14 @@ fn can_read(mut file: &File) -> std::io::Result<usize> {
     file.read(&mut one)
 }
 
-// The line of a file of this name that has more bytes than there is room for; the status of a refusal.
-pub fn say_long(name: &[u8], room: usize) -> u8
-    ensures { result ≡ 1 }
+// The line of a file of this name that has more bytes than there is room for.
+pub fn too_long(name: &[u8], room: usize) -> Failure
+    ensures { result ≡ Failure.Refused }
 {
-    say_name(name);
+    io::write_all(2, name);
     words::wrong(
-        1,
-        b": longer than this program has room for, # bytes\n",
-        &[room as u64],
+        Failure::Refused,
+        format_args!(": longer than this program has room for, {room} bytes\n"),
     )
 }
 
@@ -111,33 +94,29 @@ pub fn make<R: Files<File = File>>(rt: &R, name: &[u8]) -> std::io::Result<File>
     }
 }
 
-// The bytes of the file of this name, which is open; they fill the buffer only if there are too many.
-pub fn fill(name: &[u8], file: &File, bytes: &mut [u8]) -> Loaded
-    ensures { status_in result ≤ 2 }
+// How many bytes the file of this name has, which is open; none where they fill the buffer, since there may be more.
+pub fn fill(name: &[u8], file: &File, bytes: &mut [u8]) -> Result<Option<usize>, Failure>
+    ensures told { IfErr result (λ failure. failure ≡ Failure.WrongUse) }
 {
     let n = io::read_full(file.as_raw_fd(), bytes);
     if n == 0 {
-        if let Err(why) = can_read(file) {
-            words::fail(name, why);
-            return Loaded::Status(2);
-        }
-        return Loaded::Count(0);
+        return match can_read(file) {
+            Ok(_) => Ok(Some(0)),
+            Err(why) => Err(words::fail(Failure::WrongUse, name, why)),
+        };
     }
     if n == bytes.len() {
-        return Loaded::Long;
+        return Ok(None);
     }
-    Loaded::Count(n)
+    Ok(Some(n))
 }
 
-// The bytes of a file by its name; the status where it is not open, after a line that says why.
-pub fn load(named: Named<'_>, bytes: &mut [u8]) -> Loaded
-    ensures { status_in result ≤ 2 }
+// The same of a file by its name, which may not be open.
+pub fn load(named: Named<'_>, bytes: &mut [u8]) -> Result<Option<usize>, Failure>
+    ensures told { IfErr result (λ failure. failure ≡ Failure.WrongUse) }
 {
     match named.opened {
         Ok(file) => fill(named.name, file, bytes),
-        Err(why) => {
-            words::fail(named.name, *why);
-            Loaded::Status(2)
-        }
+        Err(why) => Err(words::fail(Failure::WrongUse, named.name, *why)),
     }
 }

@@ -1,4 +1,4 @@
-// Refusals in words, each with its code and place, and the status that they lead to.
+// Refusals in words, each with its code and place.
 #![tactic(auto)]
 
 mod descriptions;

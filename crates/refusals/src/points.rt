@@ -1,53 +1,61 @@
 // Refusals of texts of points, and of splines that have none, in words.
 ghost use Rattle.std.specs.Prelude.{◌≡◌};
 
-use codes::Code;
-use words::wrong;
+use codes::{Code, Refusal};
+use words::{Failure, wrong};
 
 // A text that ends too early, or has another byte than is due.
-fn of_text(trace: u64, place: u64, length: u64) -> u8
-    ensures { result ≡ 1 }
+fn of_text(trace: u64, place: usize, length: usize) -> Failure
+    ensures { result ≡ Failure.Refused }
 {
     if place == length {
-        return wrong(
-            1,
-            b"refused: TEXT (18) at trace #, byte # of its points: the text ends here, and a whole pair x,y is due\n",
-            &[trace, place],
-        );
+        wrong(
+            Failure::Refused,
+            format_args!(
+                "refused: TEXT (18) at trace {trace}, byte {place} of its points: the text ends here, and a whole pair x,y is due\n"
+            ),
+        )
+    } else {
+        wrong(
+            Failure::Refused,
+            format_args!(
+                "refused: TEXT (18) at trace {trace}, byte {place} of its points: due are pairs x,y of whole numbers with one space between pairs, and this byte is not\n"
+            ),
+        )
     }
-    wrong(
-        1,
-        b"refused: TEXT (18) at trace #, byte # of its points: due are pairs x,y of whole numbers with one space between pairs, and this byte is not\n",
-        &[trace, place],
-    )
 }
 
-// What the points of a trace were refused for, a text of so many bytes; the status of a refusal.
-pub fn of_points(code: Code, place: usize, trace: u64, length: usize) -> u8
-    ensures { result ≡ 1 }
+// What the points of a trace were refused for, a text of so many bytes.
+pub fn of_points(refusal: Refusal, trace: u64, length: usize) -> Failure
+    ensures { result ≡ Failure.Refused }
 {
-    let at = place as u64;
+    let (code, place) = refusal;
     match code {
-        Code::Text => of_text(trace, at, length as u64),
+        Code::Text => of_text(trace, place, length),
         Code::Position => wrong(
-            1,
-            b"refused: POSITION (10) at trace #, byte # of its points: a point, or the step to it, is not within 8388608\n",
-            &[trace, at],
+            Failure::Refused,
+            format_args!(
+                "refused: POSITION (10) at trace {trace}, byte {place} of its points: a point, or the step to it, is not within 8388608\n"
+            ),
         ),
         Code::Coincide => wrong(
-            1,
-            b"refused: COINCIDE (13) at trace #, byte # of its points: this point is the one before it\n",
-            &[trace, at],
+            Failure::Refused,
+            format_args!(
+                "refused: COINCIDE (13) at trace {trace}, byte {place} of its points: this point is the one before it\n"
+            ),
         ),
         Code::Room => wrong(
-            1,
-            b"refused: ROOM (7) at trace #: it has more double deltas than this program has room for, 1048576\n",
-            &[trace],
+            Failure::Refused,
+            format_args!(
+                "refused: ROOM (7) at trace {trace}: it has more double deltas than this program has room for, 1048576\n"
+            ),
         ),
-        _ => wrong(
-            1,
-            b"refused: code # at trace #\n",
-            &[codes::number_of(code) as u64, trace],
-        ),
+        _ => {
+            let number = u32::from(code);
+            wrong(
+                Failure::Refused,
+                format_args!("refused: code {number} at trace {trace}\n"),
+            )
+        }
     }
 }

@@ -1,132 +1,80 @@
-// Sentences: a text in which each `#` stands for the next of some numbers, and each `~` for the next one with its sign.
+// Sentences, each in one write: to standard output, to standard error, or into a file; and how a command fails.
 #![tactic(auto)]
 
-ghost use Rattle.std.specs.Prelude.{◌≡◌, ◌≤◌, length};
+ghost use Rattle.std.specs.Prelude.{◌≡◌};
 ghost use Rattle.io.specs.Counts.{IsPrefixLen};
 
+use std::fmt::Display;
 use std::fs::File;
 use std::io::{Cursor, Error, ErrorKind, Stdout, Write};
 
 // The bytes of the longest line, and more.
 const LINE: usize = 256;
 
-// One byte, where there is room for it.
-fn put(out: &mut [u8], at: usize, b: u8) -> usize
-    requires { at ≤ length out.old }
-    ensures { result ≤ length out.old }
-{
-    if at < out.len() {
-        out[at] = b;
-        return at + 1;
-    }
-    at
+// How a command ends that does not do what is asked for: refused or not written, after a line that says why; used wrongly, after such a line; or, where the
+// reader of standard output has gone away, without a word. The numbers are those of the exit status.
+#[derive(Clone, Copy, Debug, PartialEq, Eq)]
+pub enum Failure {
+    Refused = 1,
+    WrongUse = 2,
+    Quiet = 3,
 }
 
-fn put_all(out: &mut [u8], from: usize, bytes: &[u8]) -> usize
-    requires { from ≤ length out.old }
-    ensures { result ≤ length out.old }
-{
-    let mut at = from;
-    let mut i = 0;
-    while i < bytes.len() {
-        at = put(out, at, bytes[i]);
-        i += 1;
-    }
-    at
+// Why something is not done: it is left to others, as to longer rooms; or how it fails.
+#[derive(Clone, Copy, Debug, PartialEq, Eq)]
+pub enum Undone {
+    Left,
+    Failed(Failure),
 }
 
-fn put_decimal(out: &mut [u8], at: usize, n: u64) -> usize
-    requires { at ≤ length out.old }
-    ensures { result ≤ length out.old }
-{
-    let mut digits = [0u8; 20];
-    let k = io::decimal(n, &mut digits);
-    put_all(out, at, &digits[..k])
+impl From<Failure> for Undone {
+    ghost use Rattle.words.specs.declared.Undone.TheVariants.{Failed};
+
+    ghost from_gives = { λ failure undone. undone ≡ Failed failure };
+
+    fn from(failure: Failure) -> Undone {
+        Undone::Failed(failure)
+    }
 }
 
-// A number of either sign, by the value that a list holds for it: 2n, or 2n - 1 for -n.
-fn put_signed(out: &mut [u8], at: usize, packed: u64) -> usize
-    requires { at ≤ length out.old }
-    ensures { result ≤ length out.old }
-{
-    if packed % 2 == 0 {
-        return put_decimal(out, at, packed / 2);
-    }
-    let after = put(out, at, b'-');
-    put_decimal(out, after, packed / 2 + 1)
+// A sentence, as far as a line has room for it.
+fn line_of<D: Display + Drop>(sentence: D) -> Cursor<[u8; LINE]> {
+    let mut line = Cursor::new([0u8; LINE]);
+    let _ = write!(line, "{sentence}");
+    line
 }
 
-// What one byte of a text stands for, where n is the next number.
-fn put_next(out: &mut [u8], at: usize, b: u8, n: u64) -> usize
-    requires { at ≤ length out.old }
-    ensures { result ≤ length out.old }
-{
-    if b == b'#' {
-        return put_decimal(out, at, n);
-    }
-    if b == b'~' {
-        return put_signed(out, at, n);
-    }
-    put(out, at, b)
-}
-
-// One for a mark, or none.
-fn mark(b: u8) -> usize
-    ensures { result ≤ 1 }
-{
-    if b == b'#' {
-        return 1;
-    }
-    if b == b'~' { 1 } else { 0 }
-}
-
-fn number_at(numbers: &[u64], k: usize) -> u64 {
-    if k < numbers.len() { numbers[k] } else { 0 }
-}
-
-// The sentence, as far as there is room for it; and how many bytes it takes.
-pub fn write(text: &[u8], numbers: &[u64], out: &mut [u8]) -> usize
-    ensures { IsPrefixLen result out.new }
-{
-    let mut at = 0;
-    let mut k = 0;
-    let mut i = 0;
-    while i < text.len() {
-        at = put_next(out, at, text[i], number_at(numbers, k));
-        k += mark(text[i]);
-        i += 1;
-    }
-    at
+// The first n bytes, or all where there are fewer.
+fn first(text: &[u8], n: usize) -> &[u8] {
+    &text[..n.min(text.len())]
 }
 
 // Writes the sentence to standard error.
-fn told(text: &[u8], numbers: &[u64]) {
-    let mut line = [0u8; LINE];
-    let n = write(text, numbers, &mut line);
-    io::write_all(2, &line[..n]);
+pub fn note<D: Display + Drop>(sentence: D)
+    ensures { Unit {0} }
+{
+    let line = line_of(sentence);
+    let n = line.position() as usize;
+    io::write_all(2, first(line.get_ref(), n));
 }
 
 // A sentence into a file, or why the whole of it was not written.
-pub fn tell(mut file: &File, text: &[u8], numbers: &[u64]) -> std::io::Result<()>
+pub fn tell<D: Display + Drop>(mut file: &File, sentence: D) -> std::io::Result<()>
     ensures { Unit {0} }
 {
-    let mut line = [0u8; LINE];
-    let n = write(text, numbers, &mut line);
-    file.write_all(&line[..n])
+    let line = line_of(sentence);
+    let n = line.position() as usize;
+    file.write_all(first(line.get_ref(), n))
 }
 
 // How many bytes stand before the last parenthesis and what parts it from them; all where there is none.
 fn before_last(text: &[u8]) -> usize
     ensures { IsPrefixLen result text.now }
 {
-    let mut at = text.len();
-    while 1 < at {
-        at -= 1;
-        if text[at] == b'(' {
-            return at - 1;
-        }
+    match text.iter().rposition(|&b| b == b'(') {
+        Some(at) if 0 < at => at - 1,
+        _ => text.len(),
     }
-    text.len()
 }
 
 // How many bytes of an error's text are told: the number of an error of the system, which stands behind its words, is not.
@@ -139,53 +87,56 @@ fn told_of(why: Error, text: &[u8]) -> usize
     }
 }
 
-// The first n bytes, or all where there are fewer.
-fn first(text: &[u8], n: usize) -> &[u8] {
-    if n < text.len() { &text[..n] } else { text }
-}
-
-// A line that says what failed and why, to standard error.
-pub fn fail(what: &[u8], why: Error)
-    ensures { Unit {0} }
+// A line that says what failed and why, to standard error; and the failure that it leads to.
+pub fn fail(failure: Failure, what: &[u8], why: Error) -> Failure
+    ensures { result ≡ failure }
 {
-    let mut said = Cursor::new([0u8; LINE]);
-    let _ = write!(said, "{why}");
-    let n = said.position() as usize;
-    let line = said.into_inner();
-    let text = first(&line, n);
+    let line = line_of(why);
+    let n = line.position() as usize;
+    let text = first(line.get_ref(), n);
     io::write_all(2, what);
     io::write_all(2, b": ");
     io::write_all(2, &text[..told_of(why, text)]);
     io::write_all(2, b"\n");
+    failure
 }
 
-// The status where standard output cannot be written: 1, after a line that says why; where its reader has gone away 3, and no word.
-fn unwritten(why: Error) -> u8
-    ensures { result ≤ 3 }
-{
+// How a command fails where standard output cannot be written: after a line that says why; where its reader has gone away, without a word.
+fn unwritten(why: Error) -> Failure {
     if why.kind() == ErrorKind::BrokenPipe {
-        return 3;
+        return Failure::Quiet;
     }
-    fail(b"standard output", why);
-    1
+    fail(Failure::Refused, b"standard output", why)
 }
 
-// A result, to standard output; the status so far.
-pub fn out(mut to: Stdout, text: &[u8], numbers: &[u64]) -> u8
-    ensures { result ≤ 3 }
+// A result, to standard output.
+pub fn out<D: Display + Drop>(mut to: Stdout, sentence: D) -> Result<(), Failure>
+    ensures { Unit {0} }
 {
-    let mut line = [0u8; LINE];
-    let n = write(text, numbers, &mut line);
-    match to.write_all(&line[..n]) {
-        Ok(()) => 0,
-        Err(why) => unwritten(why),
-    }
+    let line = line_of(sentence);
+    let n = line.position() as usize;
+    to.write_all(first(line.get_ref(), n)).map_err(unwritten)
 }
 
-// What is wrong, to standard error; and the status that it leads to.
-pub fn wrong(status: u8, text: &[u8], numbers: &[u64]) -> u8
-    ensures { result ≡ status }
+// What is wrong, to standard error; and the failure that it leads to.
+pub fn wrong<D: Display + Drop>(failure: Failure, sentence: D) -> Failure
+    ensures { result ≡ failure }
 {
-    told(text, numbers);
-    status
+    note(sentence);
+    failure
+}
+
+// How a command ended, as one digit to descriptor 3: 0 where it did what is asked for; none after an end that is to be quiet.
+pub fn tell_status(done: Result<(), Failure>)
+    ensures { Unit {0} }
+{
+    match done {
+        Ok(()) => {
+            io::print_decimal(3, 0);
+        }
+        Err(Failure::Quiet) => {}
+        Err(failure) => {
+            io::print_decimal(3, failure as u64);
+        }
+    }
 }
