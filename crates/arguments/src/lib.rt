@@ -6,5 +6,5 @@ mod sizes;
 mod words;
 
 pub use names::{Kind, kind_at, kind_of};
-pub use sizes::{Two, pixel_at, size_at};
-pub use words::{Number, argument, count, fill, fill_up, is_argument};
+pub use sizes::{pixel_at, size_at};
+pub use words::{argument, count, fill, fill_up, is_argument};

@@ -3,7 +3,7 @@ use crate::words;
 use std::rt::Env;
 
 // What a file's name says of its kind: a picture of either kind, a trace file, a line drawing, or another.
-#[derive(Clone, Copy)]
+#[derive(Clone, Copy, Debug, PartialEq, Eq)]
 pub enum Kind {
     Tones,
     Floats,
@@ -12,31 +12,20 @@ pub enum Kind {
     Other,
 }
 
-// Whether a name ends so.
-fn ends_in(path: &[u8], ending: &[u8]) -> bool {
-    if path.len() < ending.len() {
-        return false;
-    }
-    let from = path.len() - ending.len();
-    text::same(&path[from..], ending)
-}
-
 pub fn kind_of(path: &[u8]) -> Kind
     ensures { Unit {0} }
 {
-    if ends_in(path, b".ppm") {
-        return Kind::Tones;
+    if path.ends_with(b".ppm") {
+        Kind::Tones
+    } else if path.ends_with(b".pfm") {
+        Kind::Floats
+    } else if path.ends_with(b".trace") {
+        Kind::Trace
+    } else if path.ends_with(b".svg") {
+        Kind::Drawing
+    } else {
+        Kind::Other
     }
-    if ends_in(path, b".pfm") {
-        return Kind::Floats;
-    }
-    if ends_in(path, b".trace") {
-        return Kind::Trace;
-    }
-    if ends_in(path, b".svg") {
-        return Kind::Drawing;
-    }
-    Kind::Other
 }
 
 // What the name that argument i is says.

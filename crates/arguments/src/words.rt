@@ -4,23 +4,12 @@ ghost use Rattle.io.specs.Counts.{IsPrefixLen};
 
 use std::env::FillError;
 use std::rt::Env;
-use text::Parsed;
-
-// An argument that is a number.
-#[derive(Clone, Copy)]
-pub enum Number {
-    Is(u32),
-    Not,
-}
 
 // Puts argument i at the start of a room, and tells how many bytes it takes: none where it is missing or has no room.
 pub fn fill(rt: &impl Env, i: usize, held: &mut [u8]) -> usize
     ensures { IsPrefixLen result held.new }
 {
-    match rt.arg(i, held) {
-        Ok(n) => n,
-        Err(_) => 0,
-    }
+    rt.arg(i, held).unwrap_or(0)
 }
 
 // The same; a room that is full where the argument is longer.
@@ -53,28 +42,20 @@ pub fn is_argument(rt: &impl Env, i: usize, word: &[u8]) -> bool
 {
     let mut held = [0u8; 16];
     match rt.arg(i, &mut held) {
-        Ok(n) => text::same(&held[..n], word),
+        Ok(n) => &held[..n] == word,
         Err(_) => false,
     }
 }
 
-// The number that argument i says.
-pub fn argument(rt: &impl Env, i: usize) -> Number
+// The number that argument i says, if it says one.
+pub fn argument(rt: &impl Env, i: usize) -> Option<u32>
     ensures { Unit {0} }
 {
     let mut held = [0u8; 16];
-    let Ok(n) = rt.arg(i, &mut held) else {
-        return Number::Not;
-    };
+    let n = rt.arg(i, &mut held).ok()?;
     let mut cell = [0u32; 1];
     match text::values_of(&held[..n], &mut cell) {
-        Parsed::Values(k) => {
-            if k == 1 {
-                Number::Is(cell[0])
-            } else {
-                Number::Not
-            }
-        }
-        _ => Number::Not,
+        Ok(1) => Some(cell[0]),
+        _ => None,
     }
 }

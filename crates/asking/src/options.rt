@@ -1,97 +1,19 @@
 // The words that stand before a command: whether progress is told, the precision, what is hidden and for which desk, by which edition of the profile, and which edition a trace file holds.
 ghost use Rattle.std.specs.Prelude.{◌+◌, ◌≤◌};
 
-use arguments::Number;
 use std::rt::Env;
 
-// `at` is the argument of the next word, `hide` that with the numbers of the hidden traces, 0 where there is none; `profile` and `edition` are editions, that of the profile and that of a trace file, 0 where none is asked for; `good` until a word stands twice or lacks its number.
+// `at` is the argument of the next word, `hide` that with the numbers of the hidden traces; `profile` and `edition` are editions, that of the profile and that of a trace file, each where one is asked for; `good` until a word stands twice or lacks its number.
 #[derive(Clone, Copy)]
 pub struct Options {
     pub at: u8,
     pub progress: bool,
     pub high: bool,
-    pub hide: u8,
+    pub hide: Option<u8>,
     pub desk: u32,
-    pub profile: u32,
-    pub edition: u32,
+    pub profile: Option<u32>,
+    pub edition: Option<u32>,
     pub good: bool,
-}
-
-fn with_progress(o: Options) -> Options
-    requires { o.at ≤ 40 }
-    ensures { result.at ≤ o.at + 2 }
-{
-    Options {
-        at: o.at + 1,
-        progress: true,
-        high: o.high,
-        hide: o.hide,
-        desk: o.desk,
-        profile: o.profile,
-        edition: o.edition,
-        good: o.good,
-    }
-}
-
-fn with_high(o: Options) -> Options
-    requires { o.at ≤ 40 }
-    ensures { result.at ≤ o.at + 2 }
-{
-    Options {
-        at: o.at + 1,
-        progress: o.progress,
-        high: true,
-        hide: o.hide,
-        desk: o.desk,
-        profile: o.profile,
-        edition: o.edition,
-        good: if o.high { false } else { o.good },
-    }
-}
-
-fn with_hide(o: Options) -> Options
-    requires { o.at ≤ 40 }
-    ensures { result.at ≤ o.at + 2 }
-{
-    Options {
-        at: o.at + 2,
-        progress: o.progress,
-        high: o.high,
-        hide: o.at + 1,
-        desk: o.desk,
-        profile: o.profile,
-        edition: o.edition,
-        good: if o.hide == 0 { o.good } else { false },
-    }
-}
-
-fn with_desk(rt: &impl Env, o: Options) -> Options
-    requires { o.at ≤ 40 }
-    ensures { result.at ≤ o.at + 2 }
-{
-    let at = o.at;
-    match arguments::argument(rt, at as usize + 1) {
-        Number::Is(desk) => Options {
-            at: o.at + 2,
-            progress: o.progress,
-            high: o.high,
-            hide: o.hide,
-            desk: desk,
-            profile: o.profile,
-            edition: o.edition,
-            good: o.good,
-        },
-        Number::Not => Options {
-            at: o.at + 2,
-            progress: o.progress,
-            high: o.high,
-            hide: o.hide,
-            desk: 2,
-            profile: o.profile,
-            edition: o.edition,
-            good: o.good,
-        },
-    }
 }
 
 // An edition that is no number, or 0, is none that there is.
@@ -99,42 +21,8 @@ pub fn edition_at(rt: &impl Env, i: usize) -> u32
     ensures { 1 ≤ result }
 {
     match arguments::argument(rt, i) {
-        Number::Is(edition) => if edition == 0 { 3 } else { edition },
-        Number::Not => 3,
-    }
-}
-
-fn with_profile(rt: &impl Env, o: Options) -> Options
-    requires { o.at ≤ 40 }
-    ensures { result.at ≤ o.at + 2 }
-{
-    let at = o.at;
-    Options {
-        at: o.at + 2,
-        progress: o.progress,
-        high: o.high,
-        hide: o.hide,
-        desk: o.desk,
-        profile: edition_at(rt, at as usize + 1),
-        edition: o.edition,
-        good: if o.profile == 0 { o.good } else { false },
-    }
-}
-
-fn with_edition(rt: &impl Env, o: Options) -> Options
-    requires { o.at ≤ 40 }
-    ensures { result.at ≤ o.at + 2 }
-{
-    let at = o.at;
-    Options {
-        at: o.at + 2,
-        progress: o.progress,
-        high: o.high,
-        hide: o.hide,
-        desk: o.desk,
-        profile: o.profile,
-        edition: edition_at(rt, at as usize + 1),
-        good: if o.edition == 0 { o.good } else { false },
+        Some(edition) if 0 < edition => edition,
+        _ => 3,
     }
 }
 
@@ -143,24 +31,52 @@ fn with_word(rt: &impl Env, o: Options) -> Options
     requires { o.at ≤ 40 }
     ensures { result.at ≤ o.at + 2 }
 {
-    let at = o.at as usize;
+    let at = usize::from(o.at);
     if arguments::is_argument(rt, at, b"--progress") {
-        return with_progress(o);
+        return Options {
+            at: o.at + 1,
+            progress: true,
+            ..o
+        };
     }
     if arguments::is_argument(rt, at, b"--high") {
-        return with_high(o);
+        return Options {
+            at: o.at + 1,
+            high: true,
+            good: o.good && !o.high,
+            ..o
+        };
     }
     if arguments::is_argument(rt, at, b"--hide") {
-        return with_hide(o);
+        return Options {
+            at: o.at + 2,
+            hide: Some(o.at + 1),
+            good: o.good && o.hide.is_none(),
+            ..o
+        };
     }
     if arguments::is_argument(rt, at, b"--desk") {
-        return with_desk(rt, o);
+        return Options {
+            at: o.at + 2,
+            desk: arguments::argument(rt, at + 1).unwrap_or(2),
+            ..o
+        };
     }
     if arguments::is_argument(rt, at, b"--profile") {
-        return with_profile(rt, o);
+        return Options {
+            at: o.at + 2,
+            profile: Some(edition_at(rt, at + 1)),
+            good: o.good && o.profile.is_none(),
+            ..o
+        };
     }
     if arguments::is_argument(rt, at, b"--edition") {
-        return with_edition(rt, o);
+        return Options {
+            at: o.at + 2,
+            edition: Some(edition_at(rt, at + 1)),
+            good: o.good && o.edition.is_none(),
+            ..o
+        };
     }
     o
 }
@@ -170,21 +86,18 @@ pub fn options_from(rt: &impl Env, at: u8, terminal: bool) -> Options
     requires { at ≤ 2 }
     ensures { result.at ≤ 20 }
 {
-    let none = Options {
-        at: at,
+    let mut options = Options {
+        at,
         progress: terminal,
         high: false,
-        hide: 0,
+        hide: None,
         desk: 0,
-        profile: 0,
-        edition: 0,
+        profile: None,
+        edition: None,
         good: true,
     };
-    with_word(
-        rt,
-        with_word(
-            rt,
-            with_word(rt, with_word(rt, with_word(rt, with_word(rt, none)))),
-        ),
-    )
+    for _i in 0..6u8 {
+        options = with_word(rt, options);
+    }
+    options
 }
