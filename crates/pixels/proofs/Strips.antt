@@ -1,32 +1,15 @@
 -- Pixels that are stored one after the other, and a tone by the test that cuts it.
 use mathlib.Core.Path.{◌≡◌, refl, sym, ap, subst, ◌∙◌}
 use mathlib.Core.List.{List, [], ◌++◌, append_assoc}
-use Prim.Native.Nat.{ℕ, suc, ◌+◌, ◌-◌, ◌≤◌, ◌<◌, min}
+use Prim.Native.Nat.{ℕ, suc, ◌+◌, ◌-◌, ◌≤◌, ◌<◌}
 use native.Mathlib.Omega.{arith}
 use lib.ListN.{length}
 use lib.Seq.{sets}
-use lib.Ieee.{Float, binary32, to_unsigned}
-use Rattle.numbers.specs.Arith.{f, ◌⊗◌}
-use Rattle.wholes.specs.Whole.{round_of}
+use lib.Ieee.{Float}
 use Rattle.buffers.specs.Onto.{onto}
 use Rattle.buffers.proofs.Fronts.{sets_more}
 use Rattle.buffers.proofs.Filling.{Filled, filled_none, filled_more, filled_all}
-use Rattle.pixels.specs.Pixels.{tone_of, tones_of, bytes_of, float_of, floats_of, each}
-
--- ---- a tone
-low : (u t : ℕ) → t ≡ u → t < 255 → t ≡ min u 255
-low u t e h = omega arith
-
-high : (u t : ℕ) → t ≡ u → 255 ≤ t → 255 ≡ min u 255
-high u t e h = omega arith
-
-pub tone_low : (v : Float) {w : Float} {t : ℕ} → w ≡ round_of binary32 (v ⊗ f 0x437f0000) → t ≡ to_unsigned 64 w → t < 255 → t ≡ tone_of v
-unfolding tone_of
-tone_low v {w} {t} p q h = low _ t (q ∙ ap (to_unsigned 64) p) h
-
-pub tone_high : (v : Float) {w : Float} {t : ℕ} → w ≡ round_of binary32 (v ⊗ f 0x437f0000) → t ≡ to_unsigned 64 w → 255 ≤ t → 255 ≡ tone_of v
-unfolding tone_of
-tone_high v {w} {t} p q h = high _ t (q ∙ ap (to_unsigned 64) p) h
+use Rattle.pixels.specs.Pixels.{tones_of, bytes_of, float_of, floats_of, each}
 
 -- ---- lengths
 pub three : (x y b : Float) → length (tones_of x y b) ≡ 3

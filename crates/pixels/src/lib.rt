@@ -9,11 +9,12 @@ ghost use Rattle.buffers.specs.Onto.{onto};
 ghost use Rattle.pixels.specs.Pixels.{tone_of, tones_of, bytes_of, float_of, floats_of, pixels_of};
 
 // 0 to 1 becomes 0 to 255, what lies outside is cut, NaN is black.
+#[tactic(auto, unfolding(crate::specs::Pixels::tone_of))]
 fn tone(v: f32) -> u8
     ensures { result ≡ tone_of v }
 {
     let t = kinds::saturating_f32_to_u64(wholes::round(v * 255.0));
-    if t < 255 { t as u8 } else { 255 }
+    t.min(255) as u8
 }
 
 // The pattern of a float, 7fc00000 for every NaN.
@@ -78,10 +79,8 @@ pub fn tones(n: usize, x: &[f32], y: &[f32], b: &[f32], out: &mut [u8])
     requires { (n ≤ length x.now) × (n ≤ length y.now) × (n ≤ length b.now) × (3 * n ≤ length out.old) }
     ensures { out.new ≡ onto (pixels_of tones_of x.now y.now b.now n) out.old }
 {
-    let mut i = 0;
-    while i < n {
+    for i in 0..n {
         put_tones(out, 3 * i, x[i], y[i], b[i]);
-        i += 1;
     }
 }
 
@@ -90,9 +89,7 @@ pub fn floats(n: usize, x: &[f32], y: &[f32], b: &[f32], out: &mut [u8])
     requires { (n ≤ length x.now) × (n ≤ length y.now) × (n ≤ length b.now) × (12 * n ≤ length out.old) }
     ensures { out.new ≡ onto (pixels_of floats_of x.now y.now b.now n) out.old }
 {
-    let mut i = 0;
-    while i < n {
+    for i in 0..n {
         put_floats(out, 12 * i, x[i], y[i], b[i]);
-        i += 1;
     }
 }

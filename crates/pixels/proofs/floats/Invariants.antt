@@ -1,13 +1,10 @@
 -- `pixels::floats`: pixel after pixel is stored behind those before it.
 use mathlib.Core.Path.{◌≡◌}
-use Prim.Native.Nat.{◌-◌, ◌*◌, ◌≤◌}
+use Prim.Native.Nat.{◌-◌, ◌*◌}
 use lib.ListN.{length}
 use Rattle.buffers.proofs.Filling.{Filled}
 use Rattle.pixels.specs.Pixels.{at, each, pixels_of, floats_of}
 use Rattle.pixels.proofs.floats.Given as goal
 
 abbrev pub invariant-loop-i : goal.invariant-loop-i
-invariant-loop-i l = (l.i ≤ l.n) × (l.n ≤ length l.x) × (l.n ≤ length l.y) × (l.n ≤ length l.b) × (12 * l.n ≤ length l.initial.out) × (length l.out ≡ length l.initial.out) × Filled (pixels_of floats_of l.x l.y l.b l.n) l.initial.out l.out (each (at floats_of l.x l.y l.b) (l.n - l.i) l.i) (12 * l.i)
-
-abbrev pub decreases-loop-i : goal.decreases-loop-i
-decreases-loop-i l = l.n - l.i
+invariant-loop-i l = (length l.out ≡ length l.initial.out) × Filled (pixels_of floats_of l.x l.y l.b l.n) l.initial.out l.out (each (at floats_of l.x l.y l.b) (l.n - l.i) l.i) (12 * l.i)

@@ -5,10 +5,10 @@ use borrow.Author.Rules.{rules}
 use Rattle.pixels.proofs.tones.Goals as goal
 
 pub loop-i-init : goal.loop-i-init
-loop-i-init c = (search rules, search rules, search rules, search rules, search rules, search rules, strip_begin (at tones_of c.args.x.now c.args.y.now c.args.b.now) c.args.n c.args.out.now)
+loop-i-init c = (search rules, strip_begin (at tones_of c.args.x.now c.args.y.now c.args.b.now) c.args.n c.args.out.now)
 
 pub loop-i-preserved : goal.loop-i-preserved
-loop-i-preserved c = (search rules, search rules, search rules, search rules, search rules, search rules, strip_more (at tones_of c.args.x.now c.args.y.now c.args.b.now) c.loop-i.invariant.6 c.put_tones.ensures c.loop-i-test.true 3 _ (three _ _ _) (omega arith) (omega arith))
+loop-i-preserved c = (search rules, strip_more (at tones_of c.args.x.now c.args.y.now c.args.b.now) c.loop-i.invariant.1 c.put_tones.ensures (omega arith) 3 _ (three _ _ _) (omega arith) (omega arith))
 
 pub returns : goal.returns
-returns c = strip_end (at tones_of c.args.x.now c.args.y.now c.args.b.now) c.loop-i.invariant.6 c.loop-i-test.false
+returns c = strip_end (at tones_of c.args.x.now c.args.y.now c.args.b.now) c.loop-i.invariant.1 (omega arith)
