@@ -10,7 +10,7 @@ use lib.ListN.{length, take, drop, set, get_or, drop_of_length-le}
 use lib.Seq.{drop-cons, get_or-set_same, get_or-set_other}
 use borrow.Author.Count.{below_more}
 use borrow.Author.Tests.{lt-ltb, le-ltb, ltb-false, eq-eqb, ne_eqb}
-use Rattle.frame.specs.declared.End.TheVariants.{At, Past}
+use Rattle.std.specs.Prelude.{None, Some}
 use Rattle.frame.specs.declared.Verdict.{Verdict}
 use Rattle.frame.specs.declared.Verdict.TheVariants.{Whole, Short, Stranger, Version, Long, Damaged}
 use Rattle.frame.specs.Frame.{word_at, sum_from, sum_of, case_end, end_from, all_end, end_of, settled_of, settled_end, frame_says, held_from}
@@ -33,6 +33,13 @@ sum_done words sum i h so_far = rw (drop_of_length-le words h) at so_far
 
 one_less : (n : ℕ) → n ≡ suc n - 1
 one_less n = omega arith
+
+-- so many cases are left before the first one, and one less behind each
+pub none_less : (n : ℕ) → n - 0 ≡ n
+none_less n = omega arith
+
+pub less : (n i : ℕ) → n - (i + 1) ≡ n - i - 1
+less n i = omega arith
 
 -- cases end no earlier than they begin
 pub end_grows : (words : List ℕ) (left at : ℕ) → at ≤ end_from words left at
@@ -80,11 +87,11 @@ unfolding end_from
 end_done words zero at h so_far = so_far
 end_done words (suc left) at h so_far = omega arith
 
-pub ends_at : (words : List ℕ) {at : ℕ} → at ≤ length words - 1 → at ≡ all_end words → At at ≡ end_of words
+pub ends_at : (words : List ℕ) {at : ℕ} → at ≤ length words - 1 → at ≡ all_end words → Some at ≡ end_of words
 unfolding end_of
 ends_at words h at = let g : all_end words ≤ length words - 1 = omega arith in rw (at, le-ltb (length words - 1) (all_end words) g)
 
-pub ends_past : (words : List ℕ) → length words - 1 < all_end words → Past ≡ end_of words
+pub ends_past : (words : List ℕ) → length words - 1 < all_end words → None ≡ end_of words
 unfolding end_of
 ends_past words h = rw (lt-ltb (length words - 1) (all_end words) h)
 
@@ -116,11 +123,11 @@ pub judged_on : (words : List ℕ) → 4 ≤ length words → get_or words 0 0 �
 unfolding frame_says
 judged_on words h magic version = rw (le-ltb (length words) 4 h, eq-eqb (get_or words 0 0) 1448364865 magic, eq-eqb (get_or words 1 0) 1 version)
 
-pub on_past : (words : List ℕ) → settled_end words (end_of words) ≡ frame_says words → end_of words ≡ Past → Short ≡ frame_says words
+pub on_past : (words : List ℕ) → settled_end words (end_of words) ≡ frame_says words → end_of words ≡ None → Short ≡ frame_says words
 unfolding settled_end
 on_past words on past = rw past at on
 
-pub on_at : (words : List ℕ) {end : ℕ} → settled_end words (end_of words) ≡ frame_says words → end_of words ≡ At end → settled_of words end ≡ frame_says words
+pub on_at : (words : List ℕ) {end : ℕ} → settled_end words (end_of words) ≡ frame_says words → end_of words ≡ Some end → settled_of words end ≡ frame_says words
 unfolding settled_end
 on_at words on at = rw at at on
 
@@ -150,7 +157,7 @@ taken : (test : Bool) {other rest : Verdict} → (other ≡ Whole → ⊥) → c
 taken true unlike whole = (refl, whole)
 taken false unlike whole = absurd (unlike whole)
 
-reached : (words : List ℕ) (past : Bool) (end : ℕ) → settled_end words (cond past Past (At end)) ≡ Whole → (past ≡ false) × (settled_of words end ≡ Whole)
+reached : (words : List ℕ) (past : Bool) (end : ℕ) → settled_end words (cond past None (Some end)) ≡ Whole → (past ≡ false) × (settled_of words end ≡ Whole)
 unfolding settled_end
 reached words true end whole = absurd (short_no whole)
 reached words false end whole = (refl, whole)

@@ -1,7 +1,5 @@
 -- The frame of a file of vectors, as vectors/README.md gives it: what its words are, and when the file is whole.
-use Rattle.std.specs.Prelude.{◌≡◌, cond, List, [], ◌∷◌, ℕ, zero, suc, ◌+◌, ◌-◌, ◌*◌, ◌/◌, ◌%◌, ◌<◌, min, ltb, eqb, length, take, get_or}
-use Rattle.frame.specs.declared.End.{End}
-use Rattle.frame.specs.declared.End.TheVariants.{At, Past}
+use Rattle.std.specs.Prelude.{◌≡◌, Option, None, Some, cond, List, [], ◌∷◌, ℕ, zero, suc, ◌+◌, ◌-◌, ◌*◌, ◌/◌, ◌%◌, ◌<◌, min, ltb, eqb, length, take, get_or}
 use Rattle.frame.specs.declared.Verdict.{Verdict}
 use Rattle.frame.specs.declared.Verdict.TheVariants.{Whole, Short, Stranger, Version, Long, Damaged}
 
@@ -37,8 +35,8 @@ abbrev pub all_end : List ℕ → ℕ
 all_end words = end_from words (get_or words 2 0) 3
 
 -- the same, unless it is past the last word
-unfoldable pub end_of : List ℕ → End
-end_of words = cond (ltb (length words - 1) (all_end words)) Past (At (all_end words))
+unfoldable pub end_of : List ℕ → Option ℕ
+end_of words = cond (ltb (length words - 1) (all_end words)) None (Some (all_end words))
 
 -- the cases end at the last word, which is the checksum of those before it
 unfoldable pub settled_of : List ℕ → ℕ → Verdict
@@ -46,9 +44,9 @@ settled_of words end =
     cond (ltb end (length words - 1)) Long
     (cond (eqb (sum_of (take (length words - 1) words)) (get_or words (length words - 1) 0)) Whole Damaged)
 
-unfoldable pub settled_end : List ℕ → End → Verdict
-settled_end words Past = Short
-settled_end words (At end) = settled_of words end
+unfoldable pub settled_end : List ℕ → Option ℕ → Verdict
+settled_end words None = Short
+settled_end words (Some end) = settled_of words end
 
 -- a whole file: at least four words, `AKTV`, version 1, cases up to the last word, and that one right
 unfoldable pub frame_says : List ℕ → Verdict

@@ -1,7 +1,7 @@
 // The frame of a file of vectors: its words, where its cases end, its checksum.
 #![tactic(auto)]
 
-ghost use Rattle.std.specs.Prelude.{◌≡◌, ◌+◌, ◌<◌, ◌≤◌, min, length, get_or};
+ghost use Rattle.std.specs.Prelude.{◌≡◌, ◌+◌, ◌<◌, ◌≤◌, length, get_or};
 ghost use Rattle.io.specs.Counts.{IsPrefixLen};
 ghost use Rattle.frame.specs.Frame.{word_at, Words, sum_of, end_of, settled_of, frame_says, IsWhole, held_of};
 
@@ -10,7 +10,7 @@ const MAGIC: u32 = 1448364865;
 const VERSION: u32 = 1;
 
 // What is right or wrong with a file.
-#[derive(Clone, Copy)]
+#[derive(Clone, Copy, Debug, PartialEq, Eq)]
 pub enum Verdict {
     Whole,
     Short,
@@ -20,31 +20,11 @@ pub enum Verdict {
     Damaged,
 }
 
-// Where the cases end, if that is before the last word.
-#[derive(Clone, Copy)]
-enum End {
-    At(usize),
-    Past,
-}
-
-// A word, and what holds of every word.
-fn wide(x: u32) -> u64
-    ensures { (result ≡ x) × (result < 4294967296) }
-{
-    x as u64
-}
-
+// A word as a number of words, and what holds of every word.
 pub fn count(x: u32) -> usize
     ensures { (result ≡ x) × (result < 4294967296) }
 {
     x as usize
-}
-
-// A byte, likewise.
-fn low(x: u8) -> u32
-    ensures { (result ≡ x) × (result < 256) }
-{
-    x as u32
 }
 
 // Four bytes, the lowest first.
@@ -52,10 +32,10 @@ fn word(bytes: &[u8], at: usize) -> u32
     requires { at + 4 ≤ length bytes.now }
     ensures { result ≡ word_at bytes.now at }
 {
-    low(bytes[at])
-        + 256 * low(bytes[at + 1])
-        + 65536 * low(bytes[at + 2])
-        + 16777216 * low(bytes[at + 3])
+    u32::from(bytes[at])
+        + 256 * u32::from(bytes[at + 1])
+        + 65536 * u32::from(bytes[at + 2])
+        + 16777216 * u32::from(bytes[at + 3])
 }
 
 // The words of a file, as many as there is room for.
@@ -63,29 +43,19 @@ pub fn words_of(bytes: &[u8], words: &mut [u32]) -> usize
     ensures words { Words bytes.now (length words.old) result words.new }
     ensures prefix_len { IsPrefixLen result words.new }
 {
-    let n = least(bytes.len() / 4, words.len());
-    let mut i = 0;
-    while i < n {
+    let n = (bytes.len() / 4).min(words.len());
+    for i in 0..n {
         words[i] = word(bytes, 4 * i);
-        i += 1;
     }
     n
-}
-
-fn least(a: usize, b: usize) -> usize
-    ensures { result ≡ min a b }
-{
-    if a < b { a } else { b }
 }
 
 fn checksum(words: &[u32]) -> u32
     ensures { result ≡ sum_of words.now }
 {
     let mut sum: u64 = 2166136261;
-    let mut i = 0;
-    while i < words.len() {
-        sum = (sum * 16777619 + wide(words[i])) % 4294967296;
-        i += 1;
+    for word in words {
+        sum = (sum * 16777619 + u64::from(*word)) % 4294967296;
     }
     sum as u32
 }
@@ -98,25 +68,24 @@ pub fn size_of_case(words: &[u32], at: usize) -> usize
     3 + count(words[at + 1]) + count(words[at + 2])
 }
 
-fn end_of_cases(words: &[u32]) -> End
+// Where the cases end, if that is before the last word.
+fn end_of_cases(words: &[u32]) -> Option<usize>
     requires { 4 ≤ length words.now }
     ensures { result ≡ end_of words.now }
 {
     let last = words.len() - 1;
     let mut at = 3;
-    let mut left = words[2];
-    while left > 0 {
+    for _i in 0..words[2] {
         if last - at < 3 {
-            return End::Past;
+            return None;
         }
         let size = size_of_case(words, at);
         if last - at < size {
-            return End::Past;
+            return None;
         }
         at += size;
-        left -= 1;
     }
-    End::At(at)
+    Some(at)
 }
 
 // What is right or wrong with a file of these words.
@@ -133,8 +102,8 @@ pub fn judge(words: &[u32]) -> Verdict
         return Verdict::Version;
     }
     match end_of_cases(words) {
-        End::Past => Verdict::Short,
-        End::At(end) => settled(words, end),
+        None => Verdict::Short,
+        Some(end) => settled(words, end),
     }
 }
 
@@ -160,14 +129,12 @@ pub fn held(words: &[u32], kind: u32) -> u32
     ensures { result ≡ held_of words.now kind }
 {
     let mut at = 3;
-    let mut left = words[2];
     let mut found = 0;
-    while left > 0 {
+    for _i in 0..words[2] {
         if words[at] == kind {
             found += 1;
         }
         at += size_of_case(words, at);
-        left -= 1;
     }
     found
 }

@@ -5,8 +5,5 @@ use lib.ListN.{length, get_or}
 use Rattle.frame.specs.Frame.{end_from, held_from, held_of}
 use Rattle.frame.proofs.held.Given as goal
 
-abbrev pub invariant-loop-left : goal.invariant-loop-left
-invariant-loop-left l = (end_from l.words l.left l.at ≡ length l.words - 1) × (l.found + held_from l.words l.kind l.left l.at ≡ held_of l.words l.kind) × (l.found + l.left ≤ get_or l.words 2 0)
-
-abbrev pub decreases-loop-left : goal.decreases-loop-left
-decreases-loop-left l = l.left
+abbrev pub invariant-loop-i : goal.invariant-loop-i
+invariant-loop-i l = (end_from l.words (get_or l.words 2 0 - l._i) l.at ≡ length l.words - 1) × (l.found + held_from l.words l.kind (get_or l.words 2 0 - l._i) l.at ≡ held_of l.words l.kind) × (l.found ≤ l._i)

@@ -12,8 +12,8 @@ returns-then-words-ne-MAGIC c = judged_stranger _ c.if-words-lt4.false c.if-word
 pub returns-then-words-ne-VERSION : goal.returns-then-words-ne-VERSION
 returns-then-words-ne-VERSION c = judged_version _ c.if-words-lt4.false c.if-words-ne-MAGIC.false c.if-words-ne-VERSION.true
 
-pub returns-in-Past : goal.returns-in-Past
-returns-in-Past c = on_past _ (judged_on _ c.if-words-lt4.false c.if-words-ne-MAGIC.false c.if-words-ne-VERSION.false) (sym c.end_of_cases.ensures ∙ c.in-Past.is)
+pub returns-in-None : goal.returns-in-None
+returns-in-None c = on_past _ (judged_on _ c.if-words-lt4.false c.if-words-ne-MAGIC.false c.if-words-ne-VERSION.false) (sym c.end_of_cases.ensures ∙ c.in-None.is)
 
-pub returns-in-At : goal.returns-in-At
-returns-in-At c = c.settled.ensures ∙ on_at _ (judged_on _ c.if-words-lt4.false c.if-words-ne-MAGIC.false c.if-words-ne-VERSION.false) (sym c.end_of_cases.ensures ∙ c.in-At.is)
+pub returns-in-Some : goal.returns-in-Some
+returns-in-Some c = c.settled.ensures ∙ on_at _ (judged_on _ c.if-words-lt4.false c.if-words-ne-MAGIC.false c.if-words-ne-VERSION.false) (sym c.end_of_cases.ensures ∙ c.in-Some.is)
