@@ -1,8 +1,16 @@
 -- What each edition of the fineness profile allows. Definitions only.
-use Rattle.std.specs.Prelude.{cond, ℕ, eqb, pos, negsuc}
+use Rattle.std.specs.Prelude.{cond, Option, Some, None, ℕ, eqb, pos, negsuc}
 use Rattle.editions.specs.declared.Limits.{Limits}
-use Rattle.editions.specs.declared.Edition.{Edition}
-use Rattle.editions.specs.declared.Edition.TheVariants.{Known, Unknown}
+
+-- the limits of an edition, where it is known
+abbrev pub Edition : Type 0
+Edition = Option Limits
+
+pattern abbrev pub Known : Limits → Edition
+Known limits = Some limits
+
+pattern abbrev pub Unknown : Edition
+Unknown = None
 
 -- up to 64 double deltas, adjustment 0, the first sigma coefficient up to 400
 abbrev pub edition1 : Limits

@@ -5,7 +5,7 @@ ghost use Rattle.std.specs.Prelude.{◌≡◌};
 ghost use Rattle.editions.specs.Editions.{limits_of};
 
 // What an edition allows: the most double deltas, the least and the greatest adjustment, the most of the first sigma coefficient.
-#[derive(Clone, Copy)]
+#[derive(Clone, Copy, Debug, PartialEq, Eq)]
 pub struct Limits {
     pub deltas: u32,
     pub least: i32,
@@ -13,30 +13,24 @@ pub struct Limits {
     pub sigma: i32,
 }
 
-#[derive(Clone, Copy)]
-pub enum Edition {
-    Known(Limits),
-    Unknown,
-}
-
-pub fn limits_of(edition: u32) -> Edition
+// None for an edition that is not known.
+#[tactic(auto, unfolding(crate::specs::Editions::limits_of))]
+pub fn limits_of(edition: u32) -> Option<Limits>
     ensures { result ≡ limits_of edition }
 {
-    if edition == 1 {
-        return Edition::Known(Limits {
+    match edition {
+        1 => Some(Limits {
             deltas: 64,
             least: 0,
             greatest: 0,
             sigma: 400,
-        });
-    }
-    if edition == 2 {
-        return Edition::Known(Limits {
+        }),
+        2 => Some(Limits {
             deltas: 256,
             least: -8,
             greatest: 8,
             sigma: 1600,
-        });
+        }),
+        _ => None,
     }
-    Edition::Unknown
 }
