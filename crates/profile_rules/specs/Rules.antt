@@ -3,19 +3,19 @@
 use Rattle.std.specs.Prelude.{Bool, true, false, cond, List, ℕ, zero, suc, ◌+◌, ◌*◌, leb, ℤ, pos, get_or}
 use Rattle.std.specs.Int.Signed.{le_z}
 use Rattle.editions.specs.declared.Limits.{Limits}
-use Rattle.profile_rules.specs.declared.Finding.{Finding}
+use Rattle.profile_rules.specs.Finding.{Finding, Kept, Broken}
 
 -- ---- findings
 
 -- a rule of a spline, kept where the test passes
 abbrev pub kept : Bool → ℕ → ℕ → Finding
-kept true rule spline = Finding.Kept
-kept false rule spline = Finding.Broken rule spline
+kept true rule spline = Kept
+kept false rule spline = Broken rule spline
 
 -- the first broken rule of two findings
 abbrev pub first_finding : Finding → Finding → Finding
-first_finding Finding.Kept b = b
-first_finding (Finding.Broken rule spline) b = Finding.Broken rule spline
+first_finding Kept b = b
+first_finding (Broken rule spline) b = Broken rule spline
 
 -- ---- tests
 

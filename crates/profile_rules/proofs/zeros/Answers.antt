@@ -10,27 +10,25 @@ loop-i-init c =
     let a = c.args in
     let z : a.from + 0 ≡ a.from = omega arith in
     let n : a.n - 0 ≡ a.n = omega arith in
-    (omega arith, rw (z, n))
+    rw (z, n)
 
 pub returns-then-not-within_at : goal.returns-then-not-within_at
 returns-then-not-within_at c =
     let a = c.args in
     let v = c.loop-i in
-    sym (v.invariant.1 ∙ zero_fails a.c.now (a.from + v.i) (a.n - v.i) (omega arith) (sym c.within_at.ensures ∙ c.if-not-within_at.true))
+    sym (v.invariant ∙ zero_fails a.c.now (a.from + v.i) (a.n - v.i) (omega arith) (sym c.within_at.ensures ∙ c.if-not-within_at.true))
 
 pub loop-i-preserved : goal.loop-i-preserved
 loop-i-preserved c =
     let a = c.args in
     let v = c.loop-i in
     let p : suc (a.from + v.i) ≡ a.from + (v.i + 1) = omega arith in
-    let q : a.n - v.i - 1 ≡ a.n - (v.i + 1) = omega arith in (
-      omega arith,
-      v.invariant.1 ∙ zero_passes a.c.now (a.from + v.i) (a.n - v.i) (omega arith) (sym c.within_at.ensures ∙ c.if-not-within_at.false)
-          ∙ ap (λ (m : ℕ). zero_from a.c.now m (a.n - v.i - 1)) p ∙ ap (λ (m : ℕ). zero_from a.c.now (a.from + (v.i + 1)) m) q,
-    )
+    let q : a.n - v.i - 1 ≡ a.n - (v.i + 1) = omega arith in
+    v.invariant ∙ zero_passes a.c.now (a.from + v.i) (a.n - v.i) (omega arith) (sym c.within_at.ensures ∙ c.if-not-within_at.false)
+    ∙ ap (λ (m : ℕ). zero_from a.c.now m (a.n - v.i - 1)) p ∙ ap (λ (m : ℕ). zero_from a.c.now (a.from + (v.i + 1)) m) q
 
 pub returns : goal.returns
 returns c =
     let a = c.args in
     let v = c.loop-i in
-    sym (v.invariant.1 ∙ zero_end a.c.now (a.from + v.i) (a.n - v.i) (omega arith))
+    sym (v.invariant ∙ zero_end a.c.now (a.from + v.i) (a.n - v.i) (omega arith))
