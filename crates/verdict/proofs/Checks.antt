@@ -9,7 +9,7 @@ use Rattle.codes.specs.declared.Code.TheVariants as Code
 use Rattle.shape.proofs.Shape.{shaped_is}
 use Rattle.dequantize.specs.Judge.{Description, Shaped, judge_of}
 use Rattle.dequantize.specs.declared.Given.{Given}
-use Rattle.dequantize.specs.declared.judge.Judged.TheVariants.{Fine}
+use Rattle.dequantize.specs.Answers.{Fine}
 use Rattle.verdict.specs.Verdict.{sized, shaped, or_refused, verdict_of}
 
 -- both of two tests

@@ -3,7 +3,7 @@ use Rattle.std.specs.Prelude.{Bool, true, false, ◌&&◌, ℕ, suc, ◌^◌, le
 use Rattle.codes.specs.declared.Code.{Code}
 use Rattle.shape.specs.Shape as Shape
 use Rattle.dequantize.specs.declared.Given.{Given}
-use Rattle.dequantize.specs.declared.judge.Judged.{Judged}
+use Rattle.dequantize.specs.Answers.{Judged, Refused}
 use Rattle.dequantize.specs.Judge.{Description, judge_of}
 
 abbrev pub sized : ℕ → ℕ → Bool
@@ -15,7 +15,7 @@ shaped d = Shape.shaped d.counts d.starts d.deltas d.coefficients
 
 abbrev pub or_refused : Bool → Code → Judged → Judged
 or_refused true code rest = rest
-or_refused false code rest = Judged.Refused code 0
+or_refused false code rest = Refused code 0
 
 -- SIZE, SHAPE, ROOM for the row starts, then every spline judged
 unfoldable pub verdict_of : Description → Given → ℕ → ℕ → ℕ → Judged
