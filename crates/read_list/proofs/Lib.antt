@@ -1,2 +1,3 @@
 -- The laws of the crate `read_list`.
 pub mod Whole
+pub mod Answers

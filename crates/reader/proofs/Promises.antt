@@ -7,7 +7,8 @@ use lib.IntN.{ℤ}
 use Rattle.codes.specs.declared.Code.{Code}
 use Rattle.list.specs.List.{ListRooms, Got, got, stop, Described, described, limit_of, read_of, list_of, Valid}
 use Rattle.list.proofs.RoundTrip.{Holds, written_is_read}
-use Rattle.read_list.specs.declared.ReadAnswer.{ReadAnswer}
+use Rattle.codes.specs.Refusal.{refused}
+use Rattle.codes.proofs.Refusals.{same_refusal}
 use Rattle.reader.specs.Read.{ReadOutcome, outcome, read_outcome}
 use Rattle.reader.specs.Refusals.{ReadRefusal, ReadRefused}
 use Rattle.reader.proofs.Refusals as table
@@ -19,17 +20,14 @@ module _ (configured pixels : ℕ) (rooms : ListRooms) (list : List ℕ) where
 
   module _ (o : ReadOutcome) (is : o ≡ read_outcome configured pixels rooms list) where
     -- what is refused is in the table
-    pub refused_exactly : (c : Code) (p : ℕ) → o.answer ≡ ReadAnswer.Refused c p → ReadRefusal (limit_of configured pixels) rooms list c p
+    pub refused_exactly : (c : Code) (p : ℕ) → o.answer ≡ refused c p → ReadRefusal (limit_of configured pixels) rooms list c p
     refused_exactly c p e =
         table.refused_exactly (limit_of configured pixels) rooms list c p
         (stopped (read_of (limit_of configured pixels) rooms list) (sym (ap ReadOutcome.answer is) ∙ e))
       where
-        stopped : (g : Got Described) → (outcome rooms g).answer ≡ ReadAnswer.Refused c p → g ≡ stop c p
+        stopped : (g : Got Described) → (outcome rooms g).answer ≡ refused c p → g ≡ stop c p
         stopped (got (described a zs ns ds cs) l) e = cc
-        stopped (stop k q) e =
-            let x : k ≡ c = cc in
-            let y : q ≡ p = cc in
-            rw (x, y)
+        stopped (stop k q) e = let same = same_refusal e in cc
 
     -- what is in the table is refused, and leaves zeros
     pub given_exactly : (c : Code) (p : ℕ) → ReadRefusal (limit_of configured pixels) rooms list c p → ReadRefused rooms c p o

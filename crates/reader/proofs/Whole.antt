@@ -7,10 +7,12 @@ use lib.ListN.{length, drop, replicate, length-replicate}
 use lib.IntN.{ℤ, pos}
 use lib.Ieee.{Float}
 use Rattle.codes.specs.declared.Code.{Code}
-use Rattle.shape.specs.Shape.{points_of}
 use Rattle.list.specs.List.{ListRooms, Got, got, stop, Described, described, limit_of, read_of}
 use Rattle.list.specs.Steps.{f32_of, zero_f32}
-use Rattle.read_list.specs.declared.ReadAnswer.{ReadAnswer}
+use Rattle.codes.specs.Refusal.{refused}
+use Rattle.codes.proofs.Refusals.{same_refusal}
+use Rattle.read_list.specs.Answer.{done}
+use Rattle.read_list.proofs.Answers.{same_done}
 use Rattle.reader.specs.Read.{leaves, rooms_of, outcome, read_outcome}
 use Rattle.reader.specs.Rest.{ListLeft, Wiped}
 
@@ -21,30 +23,27 @@ drop_replicate zero n z = rw sub-zero
 drop_replicate (suc k) zero z = rw zero-sub
 drop_replicate (suc k) (suc n) z = rw suc-sub-suc (drop_replicate k n z)
 
-pub refused : (g : Got Described) (k : Code) (p : ℕ) (n n' : List ℕ) (s s' : List Float) (d d' c c' : List ℤ) (rooms : ListRooms) → ListLeft g (ReadAnswer.Refused k p) n n' s s' d d' c c'
-    → leaves (ReadAnswer.Refused k p) (replicate rooms.counts 0) (replicate rooms.starts zero_f32) (replicate rooms.deltas (pos 0)) (replicate rooms.coefficients (pos 0)) ≡ outcome rooms g
-refused (got (described a zs ns ds cs) l) k p n n' s s' d d' c c' rooms h = cc h.0
-refused (stop j q) k p n n' s s' d d' c c' rooms h =
-    let x : j ≡ k = cc in
-    let y : q ≡ p = cc in
-    rw (x, y)
+pub stopped : (g : Got Described) (k : Code) (p : ℕ) (n n' : List ℕ) (s s' : List Float) (d d' c c' : List ℤ) (rooms : ListRooms) → ListLeft g (refused k p) n n' s s' d d' c c'
+    → leaves (refused k p) (replicate rooms.counts 0) (replicate rooms.starts zero_f32) (replicate rooms.deltas (pos 0)) (replicate rooms.coefficients (pos 0)) ≡ outcome rooms g
+stopped (got (described a zs ns ds cs) l) k p n n' s s' d d' c c' rooms h = cc h.0
+stopped (stop j q) k p n n' s s' d d' c c' rooms h =
+    let same = same_refusal h in
+    rw (same.0, same.1)
 
-pub done : (g : Got Described) (i m : ℕ) (a : ℤ) (n' : List ℕ) (s' : List Float) (d' c' : List ℤ) (rooms : ListRooms)
-    → ListLeft g (ReadAnswer.Done i m a) (replicate rooms.counts 0) n' (replicate rooms.starts zero_f32) s' (replicate rooms.deltas (pos 0)) d' (replicate rooms.coefficients (pos 0)) c'
-    → leaves (ReadAnswer.Done i m a) n' s' d' c' ≡ outcome rooms g
-done (stop j q) i m a n' s' d' c' rooms h = cc
-done (got (described b zs ns ds cs) l) i m a n' s' d' c' rooms h =
-    let x : i ≡ length ns = cc h.0 in
-    let y : m ≡ points_of ns = cc h.0 in
-    let w : a ≡ b = cc h.0 in
+pub read_all : (g : Got Described) (i m : ℕ) (a : ℤ) (n' : List ℕ) (s' : List Float) (d' c' : List ℤ) (rooms : ListRooms)
+    → ListLeft g (done i m a) (replicate rooms.counts 0) n' (replicate rooms.starts zero_f32) s' (replicate rooms.deltas (pos 0)) d' (replicate rooms.coefficients (pos 0)) c'
+    → leaves (done i m a) n' s' d' c' ≡ outcome rooms g
+read_all (stop j q) i m a n' s' d' c' rooms h = cc
+read_all (got (described b zs ns ds cs) l) i m a n' s' d' c' rooms h =
+    let same = same_done h.0 in
     rw (
       h.1,
       h.2,
       h.3,
       h.4,
-      x,
-      y,
-      w,
+      same.0,
+      same.1,
+      same.2,
       drop_replicate {A = ℕ} (length ns) rooms.counts 0,
       drop_replicate (length (map f32_of zs)) rooms.starts zero_f32,
       drop_replicate (length ds) rooms.deltas (pos 0),
@@ -62,18 +61,18 @@ module _ (configured pixels limit : ℕ) (el : limit ≡ limit_of configured pix
       )
 
   pub read_done : (i m : ℕ) (a : ℤ) (n' : List ℕ) (s' : List Float) (d' c' : List ℤ)
-      → ListLeft (read_of limit (rooms_of wn ws wd wc) list) (ReadAnswer.Done i m a) wn n' ws s' wd d' wc c'
-      → leaves (ReadAnswer.Done i m a) n' s' d' c' ≡ read_outcome configured pixels (rooms_of n s d c) list
+      → ListLeft (read_of limit (rooms_of wn ws wd wc) list) (done i m a) wn n' ws s' wd d' wc c'
+      → leaves (done i m a) n' s' d' c' ≡ read_outcome configured pixels (rooms_of n s d c) list
   read_done i m a n' s' d' c' h =
-      done (read_of (limit_of configured pixels) (rooms_of n s d c) list) i m a n' s' d' c' (rooms_of n s d c)
+      read_all (read_of (limit_of configured pixels) (rooms_of n s d c) list) i m a n' s' d' c' (rooms_of n s d c)
       (rw (same, el, w.counts, w.starts, w.deltas, w.coefficients) at h)
 
   pub read_refused : (k : Code) (p : ℕ) (n' n'' : List ℕ) (s' s'' : List Float) (d' d'' c' c'' : List ℤ)
-      → ListLeft (read_of limit (rooms_of wn ws wd wc) list) (ReadAnswer.Refused k p) wn n' ws s' wd d' wc c'
+      → ListLeft (read_of limit (rooms_of wn ws wd wc) list) (refused k p) wn n' ws s' wd d' wc c'
       → length n' ≡ length wn → length s' ≡ length ws → length d' ≡ length wd → length c' ≡ length wc → Wiped n' n'' s' s'' d' d'' c' c''
-      → leaves (ReadAnswer.Refused k p) n'' s'' d'' c'' ≡ read_outcome configured pixels (rooms_of n s d c) list
+      → leaves (refused k p) n'' s'' d'' c'' ≡ read_outcome configured pixels (rooms_of n s d c) list
   read_refused k p n' n'' s' s'' d' d'' c' c'' h ln ls ld lc v =
       rw (v.counts, v.starts, v.deltas, v.coefficients, ln ∙ ap ListRooms.counts same, ls ∙ ap ListRooms.starts same, ld ∙ ap ListRooms.deltas same, lc ∙ ap ListRooms.coefficients same)
-      (refused (read_of (limit_of configured pixels) (rooms_of n s d c) list) k p wn n' ws s' wd d' wc c' (rooms_of n s d c) (rw (same, el) at h))
+      (stopped (read_of (limit_of configured pixels) (rooms_of n s d c) list) k p wn n' ws s' wd d' wc c' (rooms_of n s d c) (rw (same, el) at h))
 
 -- Assumes nothing.

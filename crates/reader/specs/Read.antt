@@ -5,7 +5,9 @@ use Rattle.codes.specs.Codes.{number_of}
 use Rattle.shape.specs.Shape.{points_of}
 use Rattle.list.specs.List.{Got, got, stop, ListRooms, Described, described, limit_of, read_of}
 use Rattle.list.specs.Steps.{f32_of, zero_f32}
-use Rattle.read_list.specs.declared.ReadAnswer.{ReadAnswer}
+use Rattle.std.specs.Prelude.{Ok}
+use Rattle.codes.specs.Refusal.{refused}
+pub use Rattle.read_list.specs.Answer.{ReadAnswer, done}
 pub use Rattle.read_list.specs.Rest.{rooms_of}
 
 -- an answer in the terms of the table of codes: the code's number, the place, and the counts
@@ -18,8 +20,8 @@ pub record ReadTold : Type 0 where
 
 -- a success is number 0 at place 0; a refusal has counts of 0
 abbrev pub told_of : ReadAnswer → ReadTold
-told_of (ReadAnswer.Done s n a) = record { number = 0; place = 0; splines = s; points = n; adjustment = a }
-told_of (ReadAnswer.Refused c p) = record { number = number_of c; place = p; splines = 0; points = 0; adjustment = pos 0 }
+told_of (Ok r) = record { number = 0; place = 0; splines = r.splines; points = r.points; adjustment = r.adjustment }
+told_of (refused c p) = record { number = number_of c; place = p; splines = 0; points = 0; adjustment = pos 0 }
 
 -- the answer, what it tells, and the four lent buffers
 pub record ReadOutcome : Type 0 where
@@ -36,7 +38,7 @@ leaves r ns zs ds cs = record { answer = r; told = told_of r; counts = ns; start
 -- what was read, or a refusal with every cell zero
 abbrev pub outcome : ListRooms → Got Described → ReadOutcome
 outcome rooms (got (described a zs ns ds cs) l) = record {
-  answer = ReadAnswer.Done (length ns) (points_of ns) a;
+  answer = done (length ns) (points_of ns) a;
   told = record { number = 0; place = 0; splines = length ns; points = points_of ns; adjustment = a };
   counts = padded rooms.counts 0 ns;
   starts = padded rooms.starts zero_f32 (map f32_of zs);
@@ -44,7 +46,7 @@ outcome rooms (got (described a zs ns ds cs) l) = record {
   coefficients = padded rooms.coefficients (pos 0) cs;
 }
 outcome rooms (stop c p) = record {
-  answer = ReadAnswer.Refused c p;
+  answer = refused c p;
   told = record { number = number_of c; place = p; splines = 0; points = 0; adjustment = pos 0 };
   counts = replicate rooms.counts 0;
   starts = replicate rooms.starts zero_f32;

@@ -7,7 +7,7 @@ use Rattle.codes.specs.declared.Code.{Code}
 use Rattle.list.specs.List.{unpack_signed, pos_limit, delta_limit, ListRooms, coordinate}
 use Rattle.list.specs.Steps.{zero_f32}
 use Rattle.reader.specs.Read.{ReadTold, ReadOutcome}
-use Rattle.read_list.specs.declared.ReadAnswer.{ReadAnswer}
+use Rattle.codes.specs.Refusal.{refused}
 
 -- what the list holds next
 pub data Due : Type 0 where
@@ -106,7 +106,7 @@ pub record ReadRefusal (limit : ℕ) (rooms : ListRooms) (l : List ℕ) (c : Cod
 
 -- an outcome of a refusal: the code's number, its place, and nothing but zeros
 pub record ReadRefused (rooms : ListRooms) (c : Code) (p : ℕ) (o : ReadOutcome) : Type 0 where
-  pub answer : o.answer ≡ ReadAnswer.Refused c p
+  pub answer : o.answer ≡ refused c p
   pub told : ◌≡◌ {A = ReadTold} o.told (record { number = number_of c; place = p; splines = 0; points = 0; adjustment = pos 0 })
   pub counts : o.counts ≡ replicate rooms.counts 0
   pub starts : o.starts ≡ replicate rooms.starts zero_f32

@@ -5,18 +5,19 @@ ghost use Rattle.std.specs.Prelude.{◌≡◌};
 ghost use Rattle.reader.specs.Read.{leaves, rooms_of, read_outcome};
 ghost use Rattle.reader.specs.Rest.{Wiped};
 
-use buffers::{clear_f32, clear_i32, clear_u32};
+use buffers::clear;
+use codes::Refusal;
 use list::limit;
-pub use read_list::ReadAnswer;
+pub use read_list::Read;
 use read_list::read_list;
 
 pub fn wipe(counts: &mut [u32], starts: &mut [f32], deltas: &mut [i32], coefficients: &mut [i32])
     ensures { Wiped counts.old counts.new starts.old starts.new deltas.old deltas.new coefficients.old coefficients.new }
 {
-    clear_u32(counts);
-    clear_f32(starts);
-    clear_i32(deltas);
-    clear_i32(coefficients);
+    clear(counts);
+    clear(starts);
+    clear(deltas);
+    clear(coefficients);
 }
 
 pub fn read(
@@ -27,17 +28,17 @@ pub fn read(
     starts: &mut [f32],
     deltas: &mut [i32],
     coefficients: &mut [i32],
-) -> ReadAnswer
+) -> Result<Read, Refusal>
     ensures { leaves result counts.new starts.new deltas.new coefficients.new
         ≡ read_outcome configured pixels (rooms_of counts.old starts.old deltas.old coefficients.old) list.now }
 {
     let most = limit(configured, pixels);
     wipe(counts, starts, deltas, coefficients);
     match read_list(list, most, counts, starts, deltas, coefficients) {
-        ReadAnswer::Done(s, n, a) => ReadAnswer::Done(s, n, a),
-        ReadAnswer::Refused(c, p) => {
+        Ok(read) => Ok(read),
+        Err(refusal) => {
             wipe(counts, starts, deltas, coefficients);
-            ReadAnswer::Refused(c, p)
+            Err(refusal)
         }
     }
 }

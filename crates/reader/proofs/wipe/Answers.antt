@@ -1,12 +1,13 @@
--- `wipe`: four buffers, cleared one after the other.
+-- `wipe`: four buffers, cleared one after the other; the zero of f32 is that of the clauses.
+use borrow.Author.Rules.{rules}
 use lib.ListN.{length}
 use Rattle.list.proofs.Buffers.{zeros_f32}
 use Rattle.reader.proofs.wipe.Goals as goal
 
 pub returns : goal.returns
 returns c = record {
-  counts = c.clear_u32.ensures;
-  starts = zeros_f32 (length c.args.starts.now) c.clear_f32.ensures;
-  deltas = c.clear_i32.ensures;
-  coefficients = c.clear_i32-2.ensures;
+  counts = search rules;
+  starts = zeros_f32 (length c.args.starts.now) (search rules);
+  deltas = search rules;
+  coefficients = search rules;
 }
