@@ -19,7 +19,8 @@ use Rattle.list.specs.Steps.{f32_of, zero_f32}
 use Rattle.list.proofs.RoundTrip.{Holds, written_is_read, read_is_written, read_is_valid}
 use Rattle.reader.specs.Read.{ReadOutcome, read_outcome}
 use Rattle.reader.specs.Read as reading
-use Rattle.read_list.specs.declared.ReadAnswer.{ReadAnswer}
+use Rattle.read_list.specs.Answer.{done}
+use Rattle.read_list.proofs.Answers.{same_done}
 use Rattle.writer.specs.Write.{Check, check, first_fault, content_checks, whole_of, values_of, WriteOutcome, leaves, outcome, write_of}
 use Rattle.write_judge.specs.Verdict.{Verdict}
 use Rattle.write_judge.specs.Verdict.{Fine, Fault}
@@ -75,7 +76,7 @@ module _ (ns : List ℕ) (ss : List Float) (ds cs : List ℤ) (a : ℤ) (configu
 pub written_then_read : (ns : List ℕ) (ss : List Float) (ds cs : List ℤ) (a : ℤ) (configured pixels room : ℕ) (o : WriteOutcome) (n : ℕ)
     → Floats ss → o ≡ write_of ns ss ds cs a configured pixels room → o.answer ≡ Done n
     → (rooms : ListRooms) → Enough rooms ns ss ds cs → (q : ReadOutcome) → q ≡ read_outcome configured pixels rooms (take n o.list)
-    → q ≡ reading.leaves (ReadAnswer.Done (length ns) (points_of ns) a) (padded rooms.counts 0 ns) (padded rooms.starts zero_f32 ss)
+    → q ≡ reading.leaves (done (length ns) (points_of ns) a) (padded rooms.counts 0 ns) (padded rooms.starts zero_f32 ss)
     (padded rooms.deltas (pos 0) ds) (padded rooms.coefficients (pos 0) cs)
 unfolding values_of
 written_then_read ns ss ds cs a configured pixels room o n f p e rooms h q r =
@@ -108,26 +109,24 @@ pub record Taken (limit : ℕ) (rooms : ListRooms) (l : List ℕ) (q : ReadOutco
   pub coefficients : q.coefficients ≡ padded rooms.coefficients (pos 0) cs
 
 pub done_read : (configured pixels : ℕ) (rooms : ListRooms) (l : List ℕ) (q : ReadOutcome) (s p : ℕ) (a : ℤ) → q ≡ read_outcome configured pixels rooms l
-    → q.answer ≡ ReadAnswer.Done s p a → Taken (limit_of configured pixels) rooms l q s p a
+    → q.answer ≡ done s p a → Taken (limit_of configured pixels) rooms l q s p a
 done_read configured pixels rooms l q s p a r e =
     go (read_of (limit_of configured pixels) rooms l) refl r (sym (ap (λ (u : ReadOutcome). u.answer) r) ∙ e)
   where
-    go : (g : Got Described) → read_of (limit_of configured pixels) rooms l ≡ g → q ≡ reading.outcome rooms g → (reading.outcome rooms g).answer ≡ ReadAnswer.Done s p a
+    go : (g : Got Described) → read_of (limit_of configured pixels) rooms l ≡ g → q ≡ reading.outcome rooms g → (reading.outcome rooms g).answer ≡ done s p a
         → Taken (limit_of configured pixels) rooms l q s p a
     go (stop c k) g r e = let z : ◌≡◌ {A = ℕ} 0 1 = cc in absurd (omega arith)
     go (got (described b zs ns ds cs) rest) g r e =
-        let x : length ns ≡ s = cc in
-        let y : points_of ns ≡ p = cc in
-        let z : b ≡ a = cc in
+        let same = same_done e in
         record {
           zs = zs;
           ns = ns;
           ds = ds;
           cs = cs;
           rest = rest;
-          got_it = g ∙ ap (λ (k : ℤ). got (described k zs ns ds cs) rest) z;
-          splines = sym x;
-          points = sym y;
+          got_it = g ∙ ap (λ (k : ℤ). got (described k zs ns ds cs) rest) same.2;
+          splines = sym same.0;
+          points = sym same.1;
           counts = ap (λ (u : ReadOutcome). u.counts) r;
           starts = ap (λ (u : ReadOutcome). u.starts) r;
           deltas = ap (λ (u : ReadOutcome). u.deltas) r;
@@ -136,7 +135,7 @@ done_read configured pixels rooms l q s p a r e =
 
 -- the list that a description was read from is written from it, every value, and zeros after it
 pub read_then_written : (configured pixels : ℕ) (rooms : ListRooms) (l : List ℕ) (q : ReadOutcome) (s p : ℕ) (a : ℤ) → q ≡ read_outcome configured pixels rooms l
-    → q.answer ≡ ReadAnswer.Done s p a → (room : ℕ) → length l ≤ room → (o : WriteOutcome)
+    → q.answer ≡ done s p a → (room : ℕ) → length l ≤ room → (o : WriteOutcome)
     → o ≡ write_of (take s q.counts) (take (2 * s) q.starts) (take (2 * p) q.deltas) (take (128 * s) q.coefficients) a configured pixels room
     → o ≡ leaves (Done (length l)) (l ++ replicate (room - length l) 0)
 unfolding values_of
@@ -153,7 +152,7 @@ read_then_written configured pixels rooms l q s p a r e room h o w =
     = ap (take (128 * s)) t.coefficients ∙ take_at t.cs _ (128 * s) (omega (arith, v.coefficients, t.splines)) in
     let values : values_of t.ns ss t.ds t.cs a ≡ l
     = ap (λ (zs : List ℤ). list_of (described a zs t.ns t.ds t.cs)) (wholes_back (length t.ns) true t.zs v.starts v.near) ∙ list in
-    let done = accepted t.ns ss t.ds t.cs a configured pixels room (valid_fine limit t.zs t.ns t.ds t.cs v) (omega (arith, ap length values)) in
-    w ∙ rw (ns-is, ss-is, ds-is, cs-is) (done ∙ ap (λ (k : List ℕ). leaves (Done (length k)) (k ++ replicate (room - length k) 0)) values)
+    let written = accepted t.ns ss t.ds t.cs a configured pixels room (valid_fine limit t.zs t.ns t.ds t.cs v) (omega (arith, ap length values)) in
+    w ∙ rw (ns-is, ss-is, ds-is, cs-is) (written ∙ ap (λ (k : List ℕ). leaves (Done (length k)) (k ++ replicate (room - length k) 0)) values)
 
 -- Assumes nothing.
