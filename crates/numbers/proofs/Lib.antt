@@ -7,5 +7,4 @@ pub mod Units
 pub mod Shift
 pub mod Near
 pub mod Signs
-pub mod Products
 pub mod Logs

@@ -23,22 +23,7 @@ nan_no nan h = absurd (true≢false (sym nan_differs ∙ h))
 nan_no (inf s) h = refl
 nan_no (fin s m e) h = refl
 
--- ---- zero
-null_fits : (s t : Bool) (e : ℤ) → T (fits binary32 (fin s 0 e)) → T (fits binary32 (fin t 0 e))
-unfolding fits
-null_fits s t e F = F
-
-one_null : T (fits binary32 null)
-unfolding fits
-one_null = tt
-
-pub abs_null : (x : Float) → T (fits binary32 x) → T (eq x null) → null ≡ abs_of x
-unfolding abs_of eq
-abs_null nan F a = absurd a
-abs_null (inf s) F a = absurd a
-abs_null (fin s zero e) F a = whole_unique binary32 null (fin false 0 e) false 0 one_null (null_fits s false e F) (refl, refl) (refl, ap (λ (z : ℕ). z * 1) (zero-mul (up e)) ∙ sym (zero-mul (down e)))
-abs_null (fin s (suc m) e) F a = absurd (not_zero s m e a)
-
+-- ---- the magnitude
 pub abs_minus : (x : Float) → T (lt x null) → neg x ≡ abs_of x
 unfolding lt neg abs_of
 abs_minus nan a = absurd a
@@ -46,15 +31,6 @@ abs_minus (inf true) a = refl
 abs_minus (inf false) a = absurd a
 abs_minus (fin true m e) a = refl
 abs_minus (fin false m e) a = absurd (not_under m e a)
-
-pub abs_plus : (x : Float) → T (not (lt x null)) → T (not (eq x null)) → x ≡ abs_of x
-unfolding lt eq abs_of
-abs_plus nan a b = refl
-abs_plus (inf true) a b = absurd a
-abs_plus (inf false) a b = refl
-abs_plus (fin false m e) a b = refl
-abs_plus (fin true zero e) a b = absurd (T_not (eq (fin true 0 e) null) b (zero_is true e))
-abs_plus (fin true (suc m) e) a b = absurd (T_not (lt (fin true (suc m) e) null) a (under m e))
 
 -- ---- the sign
 pub sign_null : (x : Float) → T (eq x null) → lt (div binary32 (fin false 1 (pos 0)) x) null ≡ sign_of x

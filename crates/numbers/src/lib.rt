@@ -16,23 +16,17 @@ ghost use Rattle.numbers.specs.Saturating.{sat_add, sat_mul, floor_log2, ceil_lo
 pub fn abs(x: f32) -> f32
     ensures { result ≡ abs_of x }
 {
-    if x < 0.0 {
-        -x
-    } else if x == 0.0 {
-        0.0
-    } else {
-        x
-    }
+    x.abs()
 }
 
-// Whether x has the sign of a negative number. A NaN has none.
+// Whether x has the sign of a negative number. A NaN has none: `is_sign_negative` wants a number.
 pub fn negative(x: f32) -> bool
     ensures { result ≡ sign_of x }
 {
     if x == 0.0 { 1.0 / x < 0.0 } else { x < 0.0 }
 }
 
-// The magnitude of x with the sign s.
+// The magnitude of x with the sign s, which `copysign` takes from a number alone.
 pub fn with_sign(s: bool, x: f32) -> f32
     ensures { result ≡ with_sign s x }
 {
@@ -40,13 +34,14 @@ pub fn with_sign(s: bool, x: f32) -> f32
     if s { -a } else { a }
 }
 
-// The greater of two magnitudes, by the total order.
+// The greater of two magnitudes, by the total order; `total_cmp` wants two numbers.
+#[tactic(auto, unfolding(crate::specs::Magnitude::top_of))]
 pub fn top(a: f32, b: f32) -> f32
     ensures { result ≡ top_of a b }
 {
-    if a != a {
+    if a.is_nan() {
         a
-    } else if b != b {
+    } else if b.is_nan() {
         b
     } else if a < b {
         b
@@ -55,11 +50,12 @@ pub fn top(a: f32, b: f32) -> f32
     }
 }
 
-// Rust's `a.min(b)`: a NaN gives the other one.
+// Rust's `a.min(b)`: a NaN gives the other one. Of two zeros it is the first, which std's `min` leaves open.
+#[tactic(auto, unfolding(crate::specs::Magnitude::min_of))]
 pub fn min(a: f32, b: f32) -> f32
     ensures { result ≡ min_of a b }
 {
-    if a != a {
+    if a.is_nan() {
         b
     } else if b < a {
         b
@@ -68,11 +64,12 @@ pub fn min(a: f32, b: f32) -> f32
     }
 }
 
-// Rust's `a.max(b)`: a NaN gives the other one.
+// Rust's `a.max(b)`, in the same way.
+#[tactic(auto, unfolding(crate::specs::Magnitude::max_of))]
 pub fn max(a: f32, b: f32) -> f32
     ensures { result ≡ max_of a b }
 {
-    if a != a {
+    if a.is_nan() {
         return b;
     }
     if a < b { b } else { a }
@@ -82,38 +79,30 @@ pub fn max(a: f32, b: f32) -> f32
 pub fn is_infinite(x: f32) -> bool
     ensures { result ≡ is_infinite x }
 {
-    abs(x) == 1.0 / 0.0
+    x.is_infinite()
 }
 
 // ---- u64
 
+#[tactic(auto, unfolding(crate::specs::Saturating::sat_add))]
 pub fn saturating_add(a: u64, b: u64) -> u64
     ensures { result ≡ sat_add a b }
 {
-    if a <= 18446744073709551615 - b {
-        a + b
-    } else {
-        18446744073709551615
-    }
+    a.saturating_add(b)
 }
 
+#[tactic(auto, unfolding(crate::specs::Saturating::sat_mul))]
 pub fn saturating_mul(a: u64, b: u64) -> u64
     ensures { result ≡ sat_mul a b }
 {
-    if a == 0 {
-        0
-    } else if b <= 18446744073709551615 / a {
-        a * b
-    } else {
-        18446744073709551615
-    }
+    a.saturating_mul(b)
 }
 
 fn floor_log2(n: u64) -> u64
     requires { 0 < n }
     ensures { result ≡ floor_log2 n }
 {
-    (64 - u64::leading_zeros(n) - 1) as u64
+    (64 - n.leading_zeros() - 1) as u64
 }
 
 pub fn ceil_log2(n: u64) -> u64

@@ -1,6 +1,5 @@
 -- Each branch is the definition's; at 0 it is computed.
 use native.Mathlib.Omega.{arith}
-use borrow.Author.Rules.{rules}
 use borrow.Author.Tests.{eq-eqb, ne_eqb}
 use lib.Count.{leading_of_zero}
 use Rattle.numbers.specs.Saturating.{floor_log2, ceil_log2}

@@ -3,7 +3,6 @@ use mathlib.Core.Path.{refl}
 use native.Mathlib.Omega.{arith}
 use Rattle.numbers.specs.Saturating.{floor_log2}
 use lib.Count.{leading_le, leading_top}
-use borrow.Author.Rules.{rules}
 use Rattle.numbers.proofs.floor_log2.Goals as goal
 
 pub overflow_sub-result : goal.overflow_sub-result

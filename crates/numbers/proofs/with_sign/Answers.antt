@@ -1,7 +1,6 @@
 -- The magnitude, turned or not.
 use mathlib.Core.Path.{◌∙◌, ap, sym}
 use mathlib.Core.Bool.{Bool}
-use borrow.Author.Rules.{rules}
 use lib.Ieee.{neg}
 use Rattle.numbers.specs.Magnitude.{with_sign}
 use Rattle.numbers.proofs.Signs.{signed_minus, signed_plus}

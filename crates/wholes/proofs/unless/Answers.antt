@@ -1,8 +1,0 @@
--- By the test, each branch is its case of `cond`.
-use Rattle.wholes.proofs.unless.Goals as goal
-
-pub returns-then-test : goal.returns-then-test
-returns-then-test c = rw c.if-test.true
-
-pub returns-else-test : goal.returns-else-test
-returns-else-test c = rw c.if-test.false
