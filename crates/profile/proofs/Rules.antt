@@ -1,31 +1,28 @@
 -- Laws of the rules: a turn of the loop over splines.
-use mathlib.Core.Path.{◌≡◌, refl}
+use mathlib.Core.Path.{◌≡◌}
 use mathlib.Core.List.{List}
-use Prim.Native.Nat.{ℕ, suc, ◌≤◌, ◌<◌}
+use Prim.Native.Nat.{ℕ, ◌+◌, ◌≤◌, ◌<◌}
+use native.Mathlib.Numerals.{add-one}
 use lib.IntN.{ℤ}
 use lib.ListN.{length, get_or, drop, drop_of_length-le}
 use lib.Seq.{drop-cons}
+use Rattle.std.specs.Prelude.{Err}
 use Rattle.editions.specs.declared.Limits.{Limits}
-use Rattle.profile_rules.specs.declared.Finding.{Finding}
-use Rattle.profile.specs.Profile.{first_finding, spline_finding, splines_finding}
+use Rattle.profile_rules.specs.Finding.{Kept}
+use Rattle.profile.specs.Profile.{spline_finding, splines_finding}
 
-pub first_assoc : (a b c : Finding) → first_finding a (first_finding b c) ≡ first_finding (first_finding a b) c
-first_assoc Finding.Kept b c = refl
-first_assoc (Finding.Broken r k) b c = refl
-
-pub first_end : (a : Finding) → first_finding a Finding.Kept ≡ a
-first_end Finding.Kept = refl
-first_end (Finding.Broken r k) = refl
-
-module _ (l : Limits) (ns : List ℕ) (cs : List ℤ) where
-  -- the spline k is next: what it and those before it say, and the rest
-  pub spline_turn : (found : Finding) (k : ℕ) → k < length ns
-      → first_finding found (splines_finding l (drop k ns) cs k) ≡ first_finding (first_finding found (spline_finding l (get_or ns k 0) cs k)) (splines_finding l (drop (suc k) ns) cs (suc k))
+module _ (l : Limits) (ns : List ℕ) (cs : List ℤ) (k : ℕ) where
+  -- the spline k is next: what it says, or the rest
+  pub spline_kept : k < length ns → spline_finding l (get_or ns k 0) cs k ≡ Kept → splines_finding l (drop k ns) cs k ≡ splines_finding l (drop (k + 1) ns) cs (k + 1)
   unfolding splines_finding
-  spline_turn found k h = rw (drop-cons ns k 0 h) (first_assoc found (spline_finding l (get_or ns k 0) cs k) (splines_finding l (drop (suc k) ns) cs (suc k)))
+  spline_kept h e = rw (drop-cons ns k 0 h, e, add-one k)
 
-  pub splines_end : (found : Finding) (k : ℕ) → length ns ≤ k → first_finding found (splines_finding l (drop k ns) cs k) ≡ found
+  pub spline_broken : k < length ns → {rule : ℕ × ℕ} → spline_finding l (get_or ns k 0) cs k ≡ Err rule → splines_finding l (drop k ns) cs k ≡ Err rule
   unfolding splines_finding
-  splines_end found k h = rw (drop_of_length-le ns h) (first_end found)
+  spline_broken h e = rw (drop-cons ns k 0 h, e)
+
+  pub splines_end : length ns ≤ k → splines_finding l (drop k ns) cs k ≡ Kept
+  unfolding splines_finding
+  splines_end h = rw (drop_of_length-le ns h)
 
 -- Assumes nothing.

@@ -1,2 +1,3 @@
 -- The definitions of the crate `profile`.
+pub mod Answers
 pub mod Profile

@@ -5,22 +5,21 @@ use Rattle.codes.specs.declared.Code.TheVariants as Code
 use Rattle.shape.specs.Shape as Shape
 use Rattle.dequantize.specs.Judge.{Description}
 use Rattle.editions.specs.declared.Limits.{Limits}
-use Rattle.editions.specs.declared.Edition.{Edition}
-use Rattle.editions.specs.declared.Edition.TheVariants.{Known, Unknown}
-use Rattle.profile_rules.specs.declared.Finding.{Finding}
+use Rattle.editions.specs.Editions.{Edition, Known, Unknown}
+use Rattle.profile_rules.specs.Finding.{Finding}
+use Rattle.profile_rules.specs.Finding as found
 pub use Rattle.editions.specs.Editions.{edition1, edition2}
 unfoldable pub use Rattle.editions.specs.Editions.{limits_of}
 pub use Rattle.profile_rules.specs.Rules.{kept, first_finding, counted, within}
 unfoldable pub use Rattle.profile_rules.specs.Rules.{zero_from, deltas_finding, sigma_finding, colour_finding, spline_finding}
-use Rattle.profile.specs.declared.ProfileAnswer.{ProfileAnswer}
-use Rattle.profile.specs.declared.ProfileAnswer.TheVariants.{Meets, Broken, Refused}
+use Rattle.profile.specs.Answers.{ProfileAnswer, Meets, Broken, Refused}
 use Rattle.profile.specs.declared.ProfileTold.{ProfileTold}
 
 -- ---- a description
 
 -- splines with these counts, of which the first is the spline k
 unfoldable pub splines_finding : Limits → List ℕ → List ℤ → ℕ → Finding
-splines_finding l [] cs k = Finding.Kept
+splines_finding l [] cs k = found.Kept
 splines_finding l (n ∷ ns) cs k = first_finding (spline_finding l n cs k) (splines_finding l ns cs (suc k))
 
 -- 1: 1 to 4096 splines; 3: the adjustment; then spline by spline
@@ -31,8 +30,8 @@ rules_finding l ns cs adjustment =
     (splines_finding l ns cs 0))
 
 abbrev pub answered : Finding → ProfileAnswer
-answered Finding.Kept = Meets
-answered (Finding.Broken rule spline) = Broken rule spline
+answered found.Kept = Meets
+answered (found.Broken rule spline) = Broken rule spline
 
 -- ---- what a check answers
 

@@ -2,99 +2,90 @@
 #![tactic(auto)]
 
 ghost use Rattle.std.specs.Prelude.{◌≡◌, ◌*◌, ◌≤◌, length};
-ghost use Rattle.dequantize.specs.Judge.{description_of};
-ghost use Rattle.profile.specs.Profile.{told_of, splines_finding, rules_finding, answered, tells, profile_of};
+ghost use Rattle.shape.specs.Description.{description_in};
+ghost use Rattle.profile.specs.Profile.{told_of, splines_finding, rules_finding, tells, profile_of};
 
 use codes::Code;
-use editions::{Edition, Limits, limits_of};
-use profile_rules::{Finding, counted, first_of, kept, spline_finding, within};
+use editions::{Limits, limits_of};
+use profile_rules::{Broken, counted, kept, spline_finding, within};
+use shape::Description;
 
-// The description meets the profile; or the first broken rule and its spline; or a code and its place.
-#[derive(Clone, Copy)]
-pub enum ProfileAnswer {
-    Meets,
+// Why a description does not meet the profile: the first broken rule and its spline; or a code and its place.
+#[derive(Clone, Copy, Debug, PartialEq, Eq)]
+pub enum Unmet {
     Broken(u32, usize),
     Refused(Code, usize),
 }
 
+impl From<Broken> for Unmet {
+    ghost use Rattle.profile.specs.declared.Unmet.{Unmet};
+
+    ghost from_gives = { λ broken unmet. unmet ≡ Unmet.Broken broken.0 broken.1 };
+
+    fn from((rule, spline): Broken) -> Unmet {
+        Unmet::Broken(rule, spline)
+    }
+}
+
 // An answer in the terms of the table of codes: the code's number, the place, and the first count.
-#[derive(Clone, Copy)]
+#[derive(Clone, Copy, Debug, PartialEq, Eq)]
 pub struct ProfileTold {
     pub number: u32,
     pub place: usize,
     pub first: u32,
 }
 
-fn splines_finding(counts: &[u32], c: &[i32], limits: Limits) -> Finding
+fn splines_finding(counts: &[u32], c: &[i32], limits: Limits) -> Result<(), Broken>
     requires { 128 * length counts.now ≤ length c.now }
     ensures { result ≡ splines_finding limits counts.now c.now 0 }
 {
-    let mut found = Finding::Kept;
-    let mut k = 0;
-    while k < counts.len() {
-        let spline = spline_finding(counts[k], c, k, limits);
-        found = first_of(found, spline);
-        k += 1;
+    for (k, n) in counts.iter().enumerate() {
+        spline_finding(*n, c, k, limits)?;
     }
-    found
+    Ok(())
 }
 
-fn rules_finding(counts: &[u32], c: &[i32], adjustment: i32, limits: Limits) -> Finding
+#[tactic(auto, unfolding(crate::specs::Profile::rules_finding))]
+fn rules_finding(counts: &[u32], c: &[i32], adjustment: i32, limits: Limits) -> Result<(), Broken>
     requires { 128 * length counts.now ≤ length c.now }
     ensures { result ≡ rules_finding limits counts.now c.now adjustment }
 {
-    let many = kept(counted(counts.len(), 4096), 1, 0);
-    let adjusted = kept(within(adjustment, limits.least, limits.greatest), 3, 0);
-    let each = splines_finding(counts, c, limits);
-    first_of(many, first_of(adjusted, each))
-}
-
-fn answered(finding: Finding) -> ProfileAnswer
-    ensures { result ≡ answered finding }
-{
-    match finding {
-        Finding::Kept => ProfileAnswer::Meets,
-        Finding::Broken(rule, spline) => ProfileAnswer::Broken(rule, spline),
-    }
+    kept(counted(counts.len(), 4096), 1, 0)?;
+    kept(within(adjustment, limits.least, limits.greatest), 3, 0)?;
+    splines_finding(counts, c, limits)
 }
 
 // SHAPE, EDITION, then the rules.
-pub fn profile(
-    counts: &[u32],
-    starts: &[f32],
-    deltas: &[i32],
-    coefficients: &[i32],
-    adjustment: i32,
-    edition: u32,
-) -> ProfileAnswer
-    ensures { tells result ≡ profile_of (description_of counts.now starts.now deltas.now coefficients.now) adjustment edition }
+#[tactic(auto, using(shape::proofs::Shape::shaped_is), unfolding(crate::specs::Profile::profile_of, crate::specs::Profile::answer_of))]
+pub fn profile(description: &Description<'_>, adjustment: i32, edition: u32) -> Result<(), Unmet>
+    ensures { tells result ≡ profile_of (description_in description.now) adjustment edition }
 {
-    if !shape::shape_good(counts, starts, deltas, coefficients) {
-        return ProfileAnswer::Refused(Code::Shape, 0);
+    if !shape::is_shaped(description) {
+        return Err(Unmet::Refused(Code::Shape, 0));
     }
-    match limits_of(edition) {
-        Edition::Unknown => ProfileAnswer::Refused(Code::Edition, 0),
-        Edition::Known(limits) => answered(rules_finding(counts, coefficients, adjustment, limits)),
-    }
+    let limits = limits_of(edition).ok_or(Unmet::Refused(Code::Edition, 0))?;
+    let c = description.coefficients;
+    rules_finding(description.counts, c, adjustment, limits)?;
+    Ok(())
 }
 
 // A broken rule is PROFILE at its spline, and the rule is its first count.
-pub fn told(answer: ProfileAnswer) -> ProfileTold
+pub fn told(answer: Result<(), Unmet>) -> ProfileTold
     ensures { result ≡ told_of answer }
 {
     match answer {
-        ProfileAnswer::Meets => ProfileTold {
+        Ok(()) => ProfileTold {
             number: 0,
             place: 0,
             first: 0,
         },
-        ProfileAnswer::Broken(rule, spline) => ProfileTold {
-            number: codes::number_of(Code::Profile),
+        Err(Unmet::Broken(rule, spline)) => ProfileTold {
+            number: u32::from(Code::Profile),
             place: spline,
             first: rule,
         },
-        ProfileAnswer::Refused(code, place) => ProfileTold {
-            number: codes::number_of(code),
+        Err(Unmet::Refused(code, place)) => ProfileTold {
+            number: u32::from(code),
             place,
             first: 0,
         },

@@ -1,26 +1,18 @@
-use mathlib.Core.Path.{◌≡◌, refl, sym, ◌∙◌}
-use Prim.Native.Nat.{suc, ◌+◌}
+use mathlib.Core.Path.{sym, ◌∙◌}
 use native.Mathlib.Omega.{arith}
-use lib.ListN.{get_or, drop}
-use Rattle.profile.specs.Profile.{first_finding, spline_finding, splines_finding}
-use Rattle.profile.proofs.Rules.{spline_turn, splines_end}
+use Rattle.std.proofs.Common.{rules}
+use Rattle.profile.proofs.Rules.{spline_kept, spline_broken, splines_end}
 use Rattle.profile.proofs.splines_finding.Goals as goal
 
-pub loop-k-init : goal.loop-k-init
-loop-k-init c = (omega arith, c.requires, refl)
+pub returns-in_err-spline_finding : goal.returns-in_err-spline_finding
+returns-in_err-spline_finding c =
+    let l = c.loop-k in
+    rw (l.invariant ∙ spline_broken _ _ _ l.k (omega arith) (sym c.spline_finding.ensures ∙ c.in_err-spline_finding.was)) (search rules)
 
 pub loop-k-preserved : goal.loop-k-preserved
 loop-k-preserved c =
-    let a = c.args in
-    let v = c.loop-k in
-    let s : v.k + 1 ≡ suc v.k = omega arith in
-    let found : first_finding (first_finding v.found (spline_finding a.limits (get_or a.counts.now v.k 0) a.c.now v.k)) (splines_finding a.limits (drop (suc v.k) a.counts.now) a.c.now (suc v.k))
-    ≡ first_finding c.first_of-found.result (splines_finding a.limits (drop (v.k + 1) a.counts.now) a.c.now (v.k + 1))
-    = rw (s, c.first_of-found.ensures, c.spline_finding-spline.ensures) in
-    (omega arith, v.invariant.1, v.invariant.2 ∙ spline_turn a.limits a.counts.now a.c.now v.found v.k (omega arith) ∙ found)
+    let l = c.loop-k in
+    l.invariant ∙ spline_kept _ _ _ l.k (omega arith) (sym c.spline_finding.ensures ∙ c.in_ok-spline_finding.was)
 
 pub returns : goal.returns
-returns c =
-    let a = c.args in
-    let v = c.loop-k in
-    sym (v.invariant.2 ∙ splines_end a.limits a.counts.now a.c.now v.found v.k (omega arith))
+returns c = sym (c.loop-k.invariant ∙ splines_end _ _ _ c.loop-k.k (omega arith))
