@@ -24,8 +24,7 @@ use Rattle.joins.proofs.Joins.{same_range}
 use Rattle.hull.specs.Reach.{reach_over}
 use Rattle.hull.proofs.Hulls.{joined_over, joined_over_lem}
 use Rattle.band_sums.specs.declared.BandNumbers.{BandNumbers}
-use Rattle.band_sums.specs.declared.Summed.{Summed}
-use Rattle.band_sums.specs.declared.Summed.TheVariants.{Good, Bad}
+use Rattle.band_sums.specs.Summed.{Summed, Good, Bad}
 use Rattle.band_sums.specs.Numbers.{bands_in, row_of_band, rows_in, rows_good_from, band_good, shown_from, least_of, greatest_of, numbers_over, band_numbers}
 use Rattle.band_sums.specs.Steps.{nothing, least_with, with_one, summed, good_or, sum_over, sum_row, sum_rows}
 

@@ -8,8 +8,7 @@ use Rattle.checks.specs.Tables.{Table, shown_of}
 use Rattle.checks.specs.Checks.{all_below, row_good_for}
 use Rattle.joins.specs.Joins.{joined, columns_below}
 use Rattle.band_sums.specs.declared.BandNumbers.{BandNumbers}
-use Rattle.band_sums.specs.declared.Summed.{Summed}
-use Rattle.band_sums.specs.declared.Summed.TheVariants.{Good, Bad}
+use Rattle.band_sums.specs.Summed.{Summed, Good, Bad}
 use Rattle.band_sums.specs.Numbers.{rows_good_from, shown_from}
 
 -- of no entry

@@ -6,8 +6,5 @@ use Rattle.band_sums.proofs.least_with.Goals as goal
 pub returns-then-sum-eq0 : goal.returns-then-sum-eq0
 returns-then-sum-eq0 c = rw (le-ltb 0 c.args.sum.entries (omega arith)) (omega arith)
 
-pub returns-then-sum-i : goal.returns-then-sum-i
-returns-then-sum-i c = rw (lt-ltb 0 c.args.sum.entries (omega arith)) (omega arith)
-
-pub returns-else-sum-i : goal.returns-else-sum-i
-returns-else-sum-i c = rw (lt-ltb 0 c.args.sum.entries (omega arith)) (omega arith)
+pub returns : goal.returns
+returns c = rw (lt-ltb 0 c.args.sum.entries (omega arith)) c.min.ensures

@@ -2,15 +2,12 @@
 use mathlib.Core.Path.{◌≡◌}
 use Prim.Native.Nat.{◌-◌, ◌≤◌}
 use lib.ListN.{get_or}
-use Rattle.desks.specs.Desks.{sight_of}
-use Rattle.checks.specs.Tables.{table_of}
+use Rattle.desks.specs.Desks.{sight_in}
+use Rattle.checks.specs.Tables.{table_in}
 use Rattle.band_sums.specs.Steps.{nothing, sum_rows}
 use Rattle.band_sums.proofs.sum_rows.Given as goal
 
 abbrev pub invariant-loop-at : goal.invariant-loop-at
 invariant-loop-at l =
-    (l.at ≤ l.end) × (l.end ≤ l.height) × (l.sum.entries ≤ get_or l.row_starts l.at 0)
-    × (sum_rows (table_of l.segments l.segment_count l.entries l.entry_count l.row_starts l.height) (sight_of l.owners l.splines l.bits l.desk) l.width nothing l.y (l.end - l.y) ≡ sum_rows (table_of l.segments l.segment_count l.entries l.entry_count l.row_starts l.height) (sight_of l.owners l.splines l.bits l.desk) l.width l.sum l.at (l.end - l.at))
-
-abbrev pub decreases-loop-at : goal.decreases-loop-at
-decreases-loop-at l = l.end - l.at
+    let sums = sum_rows (table_in l.table) (sight_in l.sight) l.width in
+    (l.sum.entries ≤ get_or l.table.row_starts.now l.at 0) × (sums nothing l.y (l.end - l.y) ≡ sums l.sum l.at (l.end - l.at))

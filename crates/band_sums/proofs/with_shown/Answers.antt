@@ -1,6 +1,4 @@
 -- The five numbers of the sum, each with the entry.
-use mathlib.Core.Path.{◌≡◌}
-use Prim.Native.Nat.{max}
 use native.Mathlib.Omega.{arith}
 use Rattle.band_sums.proofs.Sums.{one_is}
 use Rattle.band_sums.proofs.with_shown.Goals as goal
@@ -8,5 +6,4 @@ use Rattle.band_sums.proofs.with_shown.Goals as goal
 pub returns : goal.returns
 returns c =
     let A = c.args in
-    let g : c.if-sum-i.greatest ≡ max A.sum.greatest A.i = elim c.if-sum-i.branch [ goal.then-sum-i w ↦ omega arith | goal.else-sum-i w ↦ omega arith ] in
-    one_is A.segments.now A.width A.sum A.i _ c.at.ensures c.with_segment-joined.ensures c.least_with-least.ensures (omega arith) (omega arith) (omega arith) g
+    one_is A.segments.now A.width A.sum A.i _ c.at.ensures c.with_segment-joined.ensures c.least_with-least.ensures (omega arith) (omega arith) (omega arith) c.max.ensures
