@@ -14,15 +14,13 @@ use Rattle.shade.proofs.Edits.{lt_or_ge}
 use Rattle.desks.specs.Desks.{Sight, desk_good, bytes_good}
 use Rattle.checks.specs.Tables.{Table}
 use Rattle.checks.specs.Checks.{counts_good_for, row_good_for, or_fault}
-use Rattle.checks.specs.declared.Verdict.{Verdict}
-use Rattle.checks.specs.declared.Verdict.TheVariants.{Fine, Fault}
+use Rattle.checks.specs.Verdict.{Verdict, Fine, Fault}
 use Rattle.checks.proofs.Checks.{passed_check, counts_facts_for}
 use Rattle.band_sums.specs.declared.BandNumbers.{BandNumbers}
-use Rattle.band_sums.specs.declared.Summed.TheVariants.{Good, Bad}
+use Rattle.band_sums.specs.Summed.{Good, Bad}
 use Rattle.band_sums.specs.Steps.{good_or}
 use Rattle.band_sums.proofs.Sums.{was_good, was_bad}
-use Rattle.bands.specs.declared.BandsAnswer.{BandsAnswer}
-use Rattle.bands.specs.declared.BandsAnswer.TheVariants.{Done, Refused}
+use Rattle.bands.specs.BandsAnswer.{BandsAnswer, Done, Refused}
 use Rattle.bands.specs.Bands.{bands_in, row_of_band, rows_in, rows_good_from, band_good, band_numbers, band_cells, put_band, put_bands}
 use Rattle.bands.specs.Calls.{before_rows, judge_bands, judge_band, by_verdict, told_of, leaves, fresh_cells, bands_of, band_of}
 use Rattle.bands.specs.Refusals.{SummaryFits}

@@ -5,10 +5,8 @@ use Rattle.codes.specs.declared.Code.{Code}
 use Rattle.desks.specs.Desks.{Sight, desk_good, bytes_good}
 use Rattle.checks.specs.Tables.{Table}
 use Rattle.checks.specs.Checks.{counts_good_for, or_fault}
-use Rattle.checks.specs.declared.Verdict.{Verdict}
-use Rattle.checks.specs.declared.Verdict.TheVariants.{Fine, Fault}
-use Rattle.bands.specs.declared.BandsAnswer.{BandsAnswer}
-use Rattle.bands.specs.declared.BandsAnswer.TheVariants.{Done, Refused}
+use Rattle.checks.specs.Verdict.{Verdict, Fine, Fault}
+use Rattle.bands.specs.BandsAnswer.{BandsAnswer, Done, Refused}
 use Rattle.bands.specs.Bands.{bands_in, rows_good_from, band_good, band_numbers, put_band, put_bands}
 
 -- ---- the checks

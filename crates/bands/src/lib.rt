@@ -3,34 +3,30 @@
 
 ghost use Rattle.std.specs.Prelude.{◌≡◌, true, ◌+◌, ◌*◌, ◌^◌, ◌≤◌, length};
 ghost use Rattle.std.proofs.lemmas.List.Edits.{sets};
-ghost use Rattle.desks.specs.Desks.{sight_of};
-ghost use Rattle.checks.specs.Tables.{table_of};
+ghost use Rattle.desks.specs.Desks.{sight_in};
+ghost use Rattle.checks.specs.Tables.{table_in};
 ghost use Rattle.checks.specs.Refusals.{Lent};
-ghost use Rattle.checks.specs.declared.Verdict.TheVariants.{Fine};
+ghost use Rattle.checks.specs.Verdict.{Fine};
 ghost use Rattle.bands.specs.Bands.{bands_in, rows_good_from, band_numbers, band_cells, put_bands};
 ghost use Rattle.bands.specs.Calls.{before_rows, leaves, bands_of, band_of};
 
-use band_sums::{BandNumbers, Summed, sum_band};
-use checks::Verdict;
-use codes::Code;
-
-// How many bands the table has, or a code.
-#[derive(Clone, Copy)]
-pub enum BandsAnswer {
-    Done(u32),
-    Refused(Code, usize),
-}
+use band_sums::{BandNumbers, sum_band};
+use checks::Table;
+use codes::{Code, Refusal};
+use desks::Sight;
 
 // The five numbers, written from cell k on.
 fn put(cells: &mut [u32], k: usize, numbers: BandNumbers)
     requires { k + 5 ≤ length cells.old }
     ensures { cells.new ≡ sets cells.old k (band_cells numbers) }
 {
-    cells[k] = numbers.entries;
-    cells[k + 1] = numbers.least;
-    cells[k + 2] = numbers.greatest;
-    cells[k + 3] = numbers.first;
-    cells[k + 4] = numbers.past;
+    cells[k..k + 5].copy_from_slice(&[
+        numbers.entries,
+        numbers.least,
+        numbers.greatest,
+        numbers.first,
+        numbers.past,
+    ]);
 }
 
 // How many bands there are of so many rows.
@@ -42,206 +38,89 @@ fn bands_in(height: u32) -> u32
 }
 
 // The numbers of every band, written into their cells; whether every row is good.
-fn fill(
-    segments: &[f32],
-    owners: &[u64],
-    segment_count: u32,
-    entries: &[u32],
-    entry_count: u32,
-    row_starts: &[u32],
-    height: u32,
-    splines: u64,
-    bits: &[u8],
-    desk: u32,
-    width: u32,
-    cells: &mut [u32],
-) -> bool
-    requires lent { Lent (table_of segments.now segment_count entries.now entry_count row_starts.now height) (sight_of owners.now splines bits.now desk) }
-    requires height_in_bounds { (5 * bands_in height ≤ length cells.old) × (width ≤ 2 ^ 23) }
-    ensures value { result ≡ rows_good_from (table_of segments.now segment_count entries.now entry_count row_starts.now height) (sight_of owners.now splines bits.now desk) 0 height }
-    ensures cells_after { result ≡ true → cells.new ≡ put_bands cells.old (band_numbers (table_of segments.now segment_count entries.now entry_count row_starts.now height) (sight_of owners.now splines bits.now desk) width) (bands_in height) }
+fn fill(table: &Table<'_>, sight: &Sight<'_>, width: u32, cells: &mut [u32]) -> bool
+    requires lent { Lent (table_in table.now) (sight_in sight.now) }
+    requires height_in_bounds { (5 * bands_in table.now.height ≤ length cells.old) × (width ≤ 2 ^ 23) }
+    ensures value { result ≡ rows_good_from (table_in table.now) (sight_in sight.now) 0 table.now.height }
+    ensures cells_after { result ≡ true → cells.new ≡ put_bands cells.old (band_numbers (table_in table.now) (sight_in sight.now) width) (bands_in table.now.height) }
 {
-    let bands = bands_in(height);
-    let mut b = 0;
-    while b < bands {
-        let Summed::Good(sum) = sum_band(
-            segments,
-            owners,
-            segment_count,
-            entries,
-            entry_count,
-            row_starts,
-            height,
-            splines,
-            bits,
-            desk,
-            width,
-            b,
-        ) else {
+    let bands = bands_in(table.height);
+    for b in 0..bands {
+        let Some(sum) = sum_band(table, sight, width, b) else {
             return false;
         };
         put(cells, 5 * (b as usize), sum);
-        b += 1;
     }
     true
 }
 
 // The checks before any row, in their order: the width, the counts, the desk, the bytes, and the room for all bands.
-fn judge(
-    segments: &[f32],
-    owners: &[u64],
-    segment_count: u32,
-    entries: &[u32],
-    entry_count: u32,
-    row_starts: &[u32],
-    height: u32,
-    splines: u64,
-    bits: &[u8],
-    desk: u32,
-    width: u32,
-    room: usize,
-) -> Verdict
-    ensures { result ≡ before_rows (table_of segments.now segment_count entries.now entry_count row_starts.now height) (sight_of owners.now splines bits.now desk) width room Fine }
+fn judge(table: &Table<'_>, sight: &Sight<'_>, width: u32, room: usize) -> Result<(), Code>
+    ensures { result ≡ before_rows (table_in table.now) (sight_in sight.now) width room Fine }
 {
     if 8388608 < width {
-        return Verdict::Fault(Code::Size);
+        return Err(Code::Size);
     }
-    let counted = checks::counts_good(
-        segments,
-        owners,
-        segment_count,
-        entries,
-        entry_count,
-        row_starts,
-        height,
-    );
+    let counted = checks::counts_good(table, sight);
     if !counted {
-        return Verdict::Fault(Code::Table);
+        return Err(Code::Table);
     }
-    if 2 <= desk {
-        return Verdict::Fault(Code::Desk);
+    if 2 <= sight.desk {
+        return Err(Code::Desk);
     }
-    if bits.len() < splines as usize {
-        return Verdict::Fault(Code::Trace);
+    if sight.bits.len() < sight.splines as usize {
+        return Err(Code::Trace);
     }
-    if room < 5 * (bands_in(height) as usize) {
-        return Verdict::Fault(Code::Room);
+    if room < 5 * (bands_in(table.height) as usize) {
+        return Err(Code::Room);
     }
-    Verdict::Fine
+    Ok(())
 }
 
 // Makes the summary: five cells a band, and zeros behind the last band. A refusal leaves zeros.
 pub fn make(
-    segments: &[f32],
-    owners: &[u64],
-    segment_count: u32,
-    entries: &[u32],
-    entry_count: u32,
-    row_starts: &[u32],
-    height: u32,
-    splines: u64,
-    bits: &[u8],
-    desk: u32,
+    table: &Table<'_>,
+    sight: &Sight<'_>,
     width: u32,
     cells: &mut [u32],
-) -> BandsAnswer
-    ensures { leaves result cells.new ≡ bands_of (table_of segments.now segment_count entries.now entry_count row_starts.now height) (sight_of owners.now splines bits.now desk) width (length cells.old) }
+) -> Result<u32, Refusal>
+    ensures { leaves result cells.new ≡ bands_of (table_in table.now) (sight_in sight.now) width (length cells.old) }
 {
-    buffers::clear_u32(cells);
-    match judge(
-        segments,
-        owners,
-        segment_count,
-        entries,
-        entry_count,
-        row_starts,
-        height,
-        splines,
-        bits,
-        desk,
-        width,
-        cells.len(),
-    ) {
-        Verdict::Fault(code) => BandsAnswer::Refused(code, 0),
-        Verdict::Fine => {
-            if fill(
-                segments,
-                owners,
-                segment_count,
-                entries,
-                entry_count,
-                row_starts,
-                height,
-                splines,
-                bits,
-                desk,
-                width,
-                cells,
-            ) {
-                return BandsAnswer::Done(bands_in(height));
+    buffers::clear(cells);
+    match judge(table, sight, width, cells.len()) {
+        Err(code) => Err((code, 0)),
+        Ok(()) => {
+            if fill(table, sight, width, cells) {
+                return Ok(bands_in(table.height));
             }
-            buffers::clear_u32(cells);
-            BandsAnswer::Refused(Code::Table, 0)
+            buffers::clear(cells);
+            Err((Code::Table, 0))
         }
     }
 }
 
 // Makes the five cells of one band anew. A refusal changes nothing.
 pub fn refresh(
-    segments: &[f32],
-    owners: &[u64],
-    segment_count: u32,
-    entries: &[u32],
-    entry_count: u32,
-    row_starts: &[u32],
-    height: u32,
-    splines: u64,
-    bits: &[u8],
-    desk: u32,
+    table: &Table<'_>,
+    sight: &Sight<'_>,
     width: u32,
     cells: &mut [u32],
     band: u32,
-) -> BandsAnswer
-    ensures { leaves result cells.new ≡ band_of (table_of segments.now segment_count entries.now entry_count row_starts.now height) (sight_of owners.now splines bits.now desk) width band cells.old }
+) -> Result<u32, Refusal>
+    ensures { leaves result cells.new ≡ band_of (table_in table.now) (sight_in sight.now) width band cells.old }
 {
-    match judge(
-        segments,
-        owners,
-        segment_count,
-        entries,
-        entry_count,
-        row_starts,
-        height,
-        splines,
-        bits,
-        desk,
-        width,
-        cells.len(),
-    ) {
-        Verdict::Fault(code) => BandsAnswer::Refused(code, 0),
-        Verdict::Fine => {
-            let bands = bands_in(height);
+    match judge(table, sight, width, cells.len()) {
+        Err(code) => Err((code, 0)),
+        Ok(()) => {
+            let bands = bands_in(table.height);
             if bands <= band {
-                return BandsAnswer::Refused(Code::Band, 0);
+                return Err((Code::Band, 0));
             }
-            let Summed::Good(sum) = sum_band(
-                segments,
-                owners,
-                segment_count,
-                entries,
-                entry_count,
-                row_starts,
-                height,
-                splines,
-                bits,
-                desk,
-                width,
-                band,
-            ) else {
-                return BandsAnswer::Refused(Code::Table, 0);
+            let Some(sum) = sum_band(table, sight, width, band) else {
+                return Err((Code::Table, 0));
             };
             put(cells, 5 * (band as usize), sum);
-            BandsAnswer::Done(bands)
+            Ok(bands)
         }
     }
 }

@@ -17,15 +17,14 @@ use Rattle.desks.specs.Agree.{Agree}
 use Rattle.desks.proofs.Shown.{shown_listed, agree_owned}
 use Rattle.checks.specs.Tables.{Table, row_of}
 use Rattle.checks.specs.Checks.{counts_good_for, row_good, row_good_for, or_fault}
-use Rattle.checks.specs.declared.Verdict.{Verdict}
-use Rattle.checks.specs.declared.Verdict.TheVariants.{Fine, Fault}
+use Rattle.checks.specs.Verdict.{Verdict, Fine, Fault}
 use Rattle.checks.proofs.Checks.{counts_facts_for, row_facts, row_facts_for}
 use Rattle.checks.proofs.Refusals.{counts_fit_for, below_each}
 use Rattle.checks.proofs.Alike.{alike_row, alike_named, alike_shown, agree_alike}
 use Rattle.hull.specs.Reach.{touched, reach_over}
 use Rattle.hull.proofs.Hulls.{hull_cong}
 use Rattle.band_sums.specs.declared.BandNumbers.{BandNumbers}
-use Rattle.bands.specs.declared.BandsAnswer.TheVariants.{Done}
+use Rattle.bands.specs.BandsAnswer.{Done}
 use Rattle.bands.specs.Bands.{bands_in, row_of_band, rows_in, shown_from, shown_in, rows_good_from, band_good, numbers_over, band_numbers, put_band, put_bands}
 use Rattle.bands.specs.Calls.{before_rows, judge_bands, judge_band, leaves, by_verdict, fresh_cells, bands_of, band_of}
 use Rattle.bands_laws.specs.Summaries.{AlikeWhole}

@@ -10,8 +10,8 @@ use Rattle.shade.proofs.Edits.{lt_or_ge}
 use Rattle.desks.specs.Desks.{Sight}
 use Rattle.checks.specs.Tables.{Table, shown_of}
 use Rattle.hull.specs.Reach.{reach_of}
-use Rattle.hull.specs.declared.ReachAnswer.TheVariants as Reaching
-use Rattle.bands.specs.declared.BandsAnswer.TheVariants.{Done}
+use Rattle.hull.specs.ReachAnswer as Reaching
+use Rattle.bands.specs.BandsAnswer.{Done}
 use Rattle.bands.specs.Bands.{bands_in, row_of_band, rows_in, shown_in, rows_good_from, band_good, numbers_over, band_numbers, band_cells, put_band}
 use Rattle.bands.specs.Calls.{BandsOutcome, fresh_cells, bands_of, band_of}
 use Rattle.bands_laws.specs.Done.{BandsDone, BandDone}

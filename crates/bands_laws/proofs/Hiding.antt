@@ -17,7 +17,7 @@ use Rattle.checks.specs.Tables.{Table, row_of}
 use Rattle.checks.specs.Refusals.{RowBadFor}
 use Rattle.checks.specs.Refusals as codes
 use Rattle.picture.specs.Picture.{Found}
-use Rattle.bands.specs.declared.BandsAnswer.TheVariants.{Done}
+use Rattle.bands.specs.BandsAnswer.{Done}
 use Rattle.bands.specs.Bands.{bands_in, row_of_band, rows_in, numbers_over, band_numbers, band_cells}
 use Rattle.bands.specs.Calls.{BandsOutcome, leaves, fresh_cells, bands_of, band_of}
 use Rattle.bands_laws.specs.Done.{BandsDone, BandDone}

@@ -15,10 +15,10 @@ use Rattle.segments.specs.declared.Range.{Range}
 use Rattle.desks.specs.Desks.{Sight}
 use Rattle.checks.specs.Tables.{Table, shown_of}
 use Rattle.checks.specs.Refusals.{Lent}
-use Rattle.checks.specs.declared.Verdict.TheVariants.{Fine}
+use Rattle.checks.specs.Verdict.{Fine}
 use Rattle.checks.proofs.Refusals.{counts_fit_for}
 use Rattle.hull.specs.Reach.{none, touched, reach_over, judge_reach_of, ReachOutcome, reach_of}
-use Rattle.hull.specs.declared.ReachAnswer.TheVariants as Reaching
+use Rattle.hull.specs.ReachAnswer as Reaching
 use Rattle.hull.proofs.Hulls.{Least, one_less, one_least, least_none, Passing, least_hull, touched_by, touched_if}
 use Rattle.hull.proofs.Reaches.{reach_done, reached}
 use Rattle.picture.specs.Picture.{Found}

@@ -13,11 +13,9 @@ use Rattle.desks.specs.Desks.{Sight}
 use Rattle.checks.specs.Tables.{Table}
 use Rattle.checks.specs.Refusals.{Lent}
 use Rattle.checks.specs.Checks.{or_fault}
-use Rattle.checks.specs.declared.Verdict.{Verdict}
-use Rattle.checks.specs.declared.Verdict.TheVariants.{Fine, Fault}
+use Rattle.checks.specs.Verdict.{Verdict, Fine, Fault}
 use Rattle.checks.proofs.Refusals.{counts_fit_for, counts_overrun_for, fit_or_overrun_for}
-use Rattle.bands.specs.declared.BandsAnswer.{BandsAnswer}
-use Rattle.bands.specs.declared.BandsAnswer.TheVariants.{Done, Refused}
+use Rattle.bands.specs.BandsAnswer.{BandsAnswer, Done, Refused}
 use Rattle.bands.specs.Bands.{bands_in, row_of_band, rows_in, rows_good_from, band_good, band_numbers, put_band}
 use Rattle.bands.specs.Calls.{before_rows, judge_bands, judge_band, BandsOutcome, leaves, by_verdict, fresh_cells, bands_of, band_of}
 use Rattle.bands.specs.Refusals.{RowsBadFor, EarlyRefusal, SummaryFits, BandsRefusal, BandRefusal}

@@ -8,7 +8,7 @@ use Rattle.checks.specs.Alike.{AlikeFor}
 use Rattle.picture.specs.Picture.{Found}
 use Rattle.bands.specs.Bands.{bands_in, row_of_band, rows_in, shown_in}
 use Rattle.bands.specs.Calls.{BandsOutcome, band_of}
-use Rattle.bands.specs.declared.BandsAnswer.{BandsAnswer}
+use Rattle.bands.specs.BandsAnswer as BandsAnswer
 
 -- ---- the rows and cells of a band
 
