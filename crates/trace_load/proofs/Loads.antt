@@ -17,7 +17,7 @@ use Rattle.list.specs.List.{ListRooms, got}
 use Rattle.list.specs.Steps.{f32_of}
 use Rattle.read_steps.specs.Steps.{Front}
 use Rattle.reader.specs.Rest.{ListLeft}
-use Rattle.read_list.specs.declared.ReadAnswer.{ReadAnswer}
+use Rattle.read_list.specs.Answer.{done}
 use Rattle.writer.specs.Write.{first_fault}
 use Rattle.write_judge.specs.Verdict.{Fine}
 use Rattle.little.specs.Little.{numbers_in, signed_in}
@@ -87,7 +87,7 @@ pub all_loaded : (h : ℕ) (bytes : List ℕ) (rooms : ListRooms) (s p : ℕ) (a
     → Loadable bytes h (splines_in (numbers_in bytes)) (points_in (numbers_in bytes)) rooms
     → s ≡ splines_in (numbers_in bytes) → p ≡ points_in (numbers_in bytes) → a ≡ signed_in (get_or (numbers_in bytes) 3 0)
     → Loaded (numbers_in bytes) h s p n n' f f' d d' c c'
-    → ListLeft (got (described_in h (numbers_in bytes)) []) (ReadAnswer.Done s p a) n n' f f' d d' c c'
+    → ListLeft (got (described_in h (numbers_in bytes)) []) (done s p a) n n' f f' d d' c c'
 unfolding described_in
 all_loaded h bytes rooms s p a n n' f f' d d' c c' g is ip ia l =
     let ns = numbers_in bytes in

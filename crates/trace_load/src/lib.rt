@@ -1,14 +1,14 @@
 // A trace file in which no fault was found, loaded into the fronts of lent buffers: its four parts, and what the header says of them. No number is tested here.
 #![tactic(auto)]
 
-ghost use Rattle.std.specs.Prelude.{◌≡◌, Bool, [], map, ◌+◌, ◌*◌, ◌≤◌, length};
+ghost use Rattle.std.specs.Prelude.{◌≡◌, Bool, [], map, ◌+◌, ◌*◌, ◌≤◌, length, Ok};
 ghost use Rattle.codes.specs.declared.Code.{Code};
 ghost use Rattle.list.specs.List.{Got};
 ghost use Rattle.read_steps.specs.Steps.{Front};
 ghost use Rattle.reader.specs.Read.{rooms_of};
 ghost use Rattle.reader.specs.Rest.{ListLeft};
 ghost use Rattle.writer.specs.Write.{first_fault};
-ghost use Rattle.write_judge.specs.Verdict.{Verdict};
+ghost use Rattle.write_judge.specs.Verdict.{Fine};
 ghost use Rattle.little.specs.Little.{numbers_in, signed_in};
 ghost use Rattle.trace.specs.Trace.{part, number_checks};
 ghost use Rattle.trace.specs.Read.{splines_in, points_in, misplaced, described_in};
@@ -16,19 +16,17 @@ ghost use Rattle.trace_load.specs.Steps.{start_in, Loadable, Loaded};
 
 use little::{number_at, signed};
 use read_steps::start_of;
-use reader::ReadAnswer;
+use reader::Read;
 
-// ---- a part of the file
+// ---- a part of the file: a loop for each kind of number, since a start asks that its number was judged
 
 // n counts, from an index on.
 fn load_counts(bytes: &[u8], from: usize, n: usize, out: &mut [u32])
     requires { (4 * (from + n) ≤ length bytes.now) × (n ≤ length out.old) }
     ensures { Front (part from n (numbers_in bytes.now)) out.old out.new }
 {
-    let mut i = 0;
-    while i < n {
+    for i in 0..n {
         out[i] = number_at(bytes, from + i);
-        i += 1;
     }
 }
 
@@ -37,10 +35,8 @@ fn load_signed(bytes: &[u8], from: usize, n: usize, out: &mut [i32])
     requires { (4 * (from + n) ≤ length bytes.now) × (n ≤ length out.old) }
     ensures { Front (map signed_in (part from n (numbers_in bytes.now))) out.old out.new }
 {
-    let mut i = 0;
-    while i < n {
+    for i in 0..n {
         out[i] = signed(number_at(bytes, from + i));
-        i += 1;
     }
 }
 
@@ -49,18 +45,16 @@ fn start_in(number: u32) -> f32
     requires { misplaced number ≡ Bool.false }
     ensures { result ≡ start_in number }
 {
-    start_of(signed(number) as i64)
+    start_of(i64::from(signed(number)))
 }
 
 // n numbers of starts.
 fn load_starts(bytes: &[u8], from: usize, n: usize, out: &mut [f32])
-    requires { (4 * (from + n) ≤ length bytes.now) × (n ≤ length out.old) × (first_fault (number_checks misplaced Code.Coord from (part from n (numbers_in bytes.now))) ≡ Verdict.Fine) }
+    requires { (4 * (from + n) ≤ length bytes.now) × (n ≤ length out.old) × (first_fault (number_checks misplaced Code.Coord from (part from n (numbers_in bytes.now))) ≡ Fine) }
     ensures { Front (map start_in (part from n (numbers_in bytes.now))) out.old out.new }
 {
-    let mut i = 0;
-    while i < n {
+    for i in 0..n {
         out[i] = start_in(number_at(bytes, from + i));
-        i += 1;
     }
 }
 
@@ -93,9 +87,9 @@ pub fn load(
     starts: &mut [f32],
     deltas: &mut [i32],
     coefficients: &mut [i32],
-) -> ReadAnswer
+) -> Read
     requires { Loadable bytes.now 8 (splines_in (numbers_in bytes.now)) (points_in (numbers_in bytes.now)) (rooms_of counts.old starts.old deltas.old coefficients.old) }
-    ensures { ListLeft (Got.got (described_in 8 (numbers_in bytes.now)) []) result counts.old counts.new starts.old starts.new deltas.old deltas.new coefficients.old coefficients.new }
+    ensures { ListLeft (Got.got (described_in 8 (numbers_in bytes.now)) []) (Ok result) counts.old counts.new starts.old starts.new deltas.old deltas.new coefficients.old coefficients.new }
 {
     let s = number_at(bytes, 1);
     let p = number_at(bytes, 2);
@@ -110,5 +104,9 @@ pub fn load(
         deltas,
         coefficients,
     );
-    ReadAnswer::Done(s, p, adjustment)
+    Read {
+        splines: s,
+        points: p,
+        adjustment,
+    }
 }

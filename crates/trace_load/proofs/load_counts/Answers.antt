@@ -1,14 +1,10 @@
-use mathlib.Core.Path.{refl, sym, ◌∙◌}
+use mathlib.Core.Path.{sym, ◌∙◌}
 use native.Mathlib.Omega.{arith}
-use lib.ListN.{length-set}
 use Rattle.little.specs.Little.{numbers_in}
 use Rattle.trace.specs.Trace.{part}
 use Rattle.trace.proofs.Checks.{part_at}
 use Rattle.trace_load.proofs.Loads.{front_more, front_all, held_length}
 use Rattle.trace_load.proofs.load_counts.Goals as goal
-
-pub loop-i-init : goal.loop-i-init
-loop-i-init c = (omega arith, refl, refl)
 
 pub loop-i-preserved : goal.loop-i-preserved
 loop-i-preserved c =
@@ -16,15 +12,12 @@ loop-i-preserved c =
     let v = c.loop-i in
     let ns = numbers_in a.bytes.now in
     let k = held_length a.bytes.now a.from a.n (omega arith) in
-    let at = part_at a.from a.n ns v.i (omega arith) in (
-      omega arith,
-      simp length-set v.invariant.1,
-      front_more (part a.from a.n ns) a.out.now v.out 0 _ v.i (omega arith) (omega arith) (c.number_at.ensures ∙ sym at) v.invariant.2,
-    )
+    let at = part_at a.from a.n ns v.i (omega arith) in
+    front_more (part a.from a.n ns) a.out.now v.out 0 _ v.i (omega arith) (omega arith) (c.number_at.ensures ∙ sym at) v.invariant
 
 pub returns : goal.returns
 returns c =
     let a = c.args in
     let v = c.loop-i in
     let k = held_length a.bytes.now a.from a.n (omega arith) in
-    front_all _ a.out.now v.out v.i (omega arith) v.invariant.2
+    front_all _ a.out.now v.out v.i (omega arith) v.invariant

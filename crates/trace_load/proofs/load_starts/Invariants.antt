@@ -1,15 +1,11 @@
 -- `load_starts` meets its contract: the first i numbers stand in front, and each that is due was judged.
 use mathlib.Core.Path.{◌≡◌}
 use mathlib.Core.List.{◌++◌, map}
-use Prim.Native.Nat.{◌-◌, ◌≤◌}
-use lib.ListN.{length, take, drop}
+use lib.ListN.{take, drop}
 use Rattle.little.specs.Little.{numbers_in}
 use Rattle.trace.specs.Trace.{part}
 use Rattle.trace_load.specs.Steps.{start_in}
 use Rattle.trace_load.proofs.load_starts.Given as goal
 
 abbrev pub invariant-loop-i : goal.invariant-loop-i
-invariant-loop-i l = (l.i ≤ l.n) × (length l.out ≡ length l.initial.out) × (l.out ≡ take l.i (map start_in (part l.from l.n (numbers_in l.bytes))) ++ drop l.i l.initial.out)
-
-abbrev pub decreases-loop-i : goal.decreases-loop-i
-decreases-loop-i l = l.n - l.i
+invariant-loop-i l = l.out ≡ take l.i (map start_in (part l.from l.n (numbers_in l.bytes))) ++ drop l.i l.initial.out
