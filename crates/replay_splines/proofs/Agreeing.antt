@@ -10,18 +10,18 @@ use lib.IntN.{ℤ}
 use lib.ListN.{length, get_or, take, replicate}
 use lib.Seq.{length-take-le}
 use lib.Ieee.{Float}
+use Rattle.std.specs.Prelude.{Result}
 use Rattle.dequantize.specs.declared.Given.{Given}
 use Rattle.dequantize.specs.declared.Spline.{Spline}
 use Rattle.control_points.specs.declared.Pair.{Pair}
-use Rattle.control_points.specs.declared.Start.{Start}
-use Rattle.control_points.specs.declared.Start.TheVariants.{At}
+use Rattle.codes.specs.declared.Code.{Code}
+use Rattle.control_points.specs.Answers.{Start, At}
 use Rattle.dequantize.specs.Coefficients.{table}
 use Rattle.control_points.specs.ControlPoints.{starting_point}
 use Rattle.dequantize.specs.Dequantize.{dequantize_of}
 use Rattle.dequantize.proofs.Tables.{length_table}
 use Rattle.numbers.specs.Arith.{f}
-use Rattle.curve.specs.declared.Curved.{Curved}
-use Rattle.curve.specs.declared.Curved.TheVariants.{Points}
+use Rattle.curve.specs.Curved.{Curved, Points}
 use Rattle.curve.specs.Curve.{path_of, curved_of, curved_on}
 use Rattle.stored.proofs.Begun.{no_true}
 use Rattle.stored.specs.Stored.{float_in, signed_in, long_in, Begins}
@@ -79,13 +79,13 @@ module _ (input output : List ℕ) where
   abbrev Dequantized : Float → Float → Given → List ℤ → List ℤ → Type 0
   Dequantized x y g ds c = DequantizeAgrees g.limit (starting_point x y) ds (dequantize_of x y ds c g) output
 
-  pub numbers_agree : (ds c : List ℤ) {x y : Float} {g : Given} {s : Spline} → x ≡ float_in input 5 → y ≡ float_in input 6 → g ≡ given_in input → s ≡ dequantize_of x y ds c g
+  pub numbers_agree : (ds c : List ℤ) {x y : Float} {g : Given} {s : Result Spline Code} → x ≡ float_in input 5 → y ≡ float_in input 6 → g ≡ given_in input → s ≡ dequantize_of x y ds c g
       → DequantizeAgrees g.limit (starting_point x y) ds s output → Dequantized (float_in input 5) (float_in input 6) (given_in input) ds c
   numbers_agree ds c {x} {y} {g} {s} p q r t a =
       subst (λ (v : Float). Dequantized v (float_in input 6) (given_in input) ds c) p
       (subst (λ (v : Float). Dequantized x v (given_in input) ds c) q
       (subst (λ (v : Given). Dequantized x y v ds c) r
-      (subst (λ (v : Spline). DequantizeAgrees g.limit (starting_point x y) ds v output) t a)))
+      (subst (λ (v : Result Spline Code). DequantizeAgrees g.limit (starting_point x y) ds v output) t a)))
 
   abbrev Cased : List ℤ → List ℤ → Type 0
   Cased ds c = Dequantized (float_in input 5) (float_in input 6) (given_in input) ds c

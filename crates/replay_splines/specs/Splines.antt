@@ -1,19 +1,18 @@
 -- What it means that the definitions of one spline agree with a stored case: vectors/README.md has the words. Definitions only.
-use Rattle.std.specs.Prelude.{◌≡◌, List, ℕ, ◌+◌, ◌-◌, ◌*◌, ◌/◌, ◌<◌, eqb, ℤ, length, get_or, take, drop, replicate}
+use Rattle.std.specs.Prelude.{◌≡◌, List, ℕ, ◌+◌, ◌-◌, ◌*◌, ◌/◌, ◌<◌, eqb, ℤ, length, get_or, take, drop, replicate, Result, Ok, Err}
 use Rattle.std.specs.Float.{binary32}
 use Rattle.std.specs.Float.Ieee.{of_bits, of_int}
 use Rattle.codes.specs.Codes.{number_of}
+use Rattle.codes.specs.declared.Code.{Code}
 use Rattle.dequantize.specs.declared.Given.{Given}
 use Rattle.dequantize.specs.declared.Spline.{Spline}
 use Rattle.control_points.specs.declared.Pair.{Pair}
 use Rattle.control_points.specs.declared.Run.{Run}
-use Rattle.control_points.specs.declared.Start.{Start}
-use Rattle.control_points.specs.declared.Start.TheVariants.{At, Out}
-use Rattle.control_points.specs.declared.Traced.TheVariants.{On}
+use Rattle.control_points.specs.Answers.{Start, At, Out, On}
 use Rattle.dequantize.specs.Coefficients.{table}
 use Rattle.control_points.specs.ControlPoints.{trace_of}
 use Rattle.numbers.specs.Arith.{f}
-use Rattle.curve.specs.declared.Curved.TheVariants.{Points}
+use Rattle.curve.specs.Curved.{Points}
 use Rattle.curve.specs.Curve.{path_of, curved_of, curved_on}
 use Rattle.stored.specs.Stored.{float_in, signed_in, long_in, refusal_word, Begins}
 
@@ -58,10 +57,10 @@ pub record TakenAgrees (limit : ℕ) (start : Start) (ds : List ℤ) (s : Spline
   pub points : PointsFrom limit start ds (part 2 (2 + 2 * get_or output 1 0) output)
   pub rows : RowsAgree s (part (2 + 2 * get_or output 1 0) (length output) output)
 
--- the code, and what follows it where it is 0
-pub record DequantizeAgrees (limit : ℕ) (start : Start) (ds : List ℤ) (s : Spline) (output : List ℕ) : Type 0 where
-  pub code : refusal_word (number_of s.code) ≡ get_or output 0 0
-  pub taken : get_or output 0 0 ≡ 0 → TakenAgrees limit start ds s output
+-- 0 and what follows it, or the code of a refusal
+abbrev pub DequantizeAgrees : ℕ → Start → List ℤ → Result Spline Code → List ℕ → Type 0
+DequantizeAgrees limit start ds (Ok s) output = (get_or output 0 0 ≡ 0) × TakenAgrees limit start ds s output
+DequantizeAgrees limit start ds (Err code) output = refusal_word (number_of code) ≡ get_or output 0 0
 
 -- ---- the curve
 

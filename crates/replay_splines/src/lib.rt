@@ -7,8 +7,8 @@ ghost use Rattle.dequantize.specs.Dequantize.{dequantize_of};
 ghost use Rattle.stored.specs.Stored.{float_in};
 ghost use Rattle.replay_splines.specs.Splines.{IsPoint, LeadsTo, PointsAgree, PointsFrom, RowsAgree, TakenAgrees, DequantizeAgrees, Sized, PathAgrees, CurveAgrees, given_in, deltas_in, coefficients_in};
 
-use control_points::{Pair, Start, Traced};
-use curve::Curved;
+use codes::Code;
+use control_points::Pair;
 use dequantize::{Given, Spline};
 
 // ---- the control points
@@ -16,10 +16,8 @@ use dequantize::{Given, Spline};
 fn is_point(point: Pair, x: u32, y: u32) -> bool
     ensures { result ≡ true → IsPoint point x y }
 {
-    if !stored::is_float(to_f32::nearest_i32_to_f32(point.x), x) {
-        return false;
-    }
-    stored::is_float(to_f32::nearest_i32_to_f32(point.y), y)
+    stored::is_float(to_f32::nearest_i32_to_f32(point.x), x)
+        && stored::is_float(to_f32::nearest_i32_to_f32(point.y), y)
 }
 
 // Whether the control point that the double deltas lead to is that of two words.
@@ -28,8 +26,8 @@ fn leads_to(start: Pair, deltas: &[i32], limit: u64, x: u32, y: u32) -> bool
     ensures { result ≡ true → LeadsTo limit start deltas.now x y }
 {
     match control_points::trace(start, deltas, limit) {
-        Traced::Stop(_) => false,
-        Traced::On(run) => is_point(run.point, x, y),
+        Err(_) => false,
+        Ok(run) => is_point(run.point, x, y),
     }
 }
 
@@ -38,8 +36,7 @@ fn points_agree(start: Pair, deltas: &[i32], limit: u64, points: &[u32]) -> bool
     requires { valid_point_pos start ≡ true }
     ensures { result ≡ true → PointsAgree limit start deltas.now points.now }
 {
-    let mut k = 0;
-    while k < points.len() / 2 {
+    for k in 0..points.len() / 2 {
         if deltas.len() / 2 < k {
             return false;
         }
@@ -52,7 +49,6 @@ fn points_agree(start: Pair, deltas: &[i32], limit: u64, points: &[u32]) -> bool
         ) {
             return false;
         }
-        k += 1;
     }
     true
 }
@@ -61,8 +57,8 @@ fn points_agree_from(x: f32, y: f32, deltas: &[i32], limit: u64, points: &[u32])
     ensures { result ≡ true → PointsFrom limit (starting_point x y) deltas.now points.now }
 {
     match control_points::starting_point(x, y) {
-        Start::Out => false,
-        Start::At(start) => points_agree(start, deltas, limit, points),
+        None => false,
+        Some(start) => points_agree(start, deltas, limit, points),
     }
 }
 
@@ -72,29 +68,13 @@ fn points_agree_from(x: f32, y: f32, deltas: &[i32], limit: u64, points: &[u32])
 fn is_finished(spline: Spline, words: &[u32]) -> bool
     ensures { result ≡ true → RowsAgree spline words.now }
 {
-    if words.len() != 131 {
-        return false;
-    }
-    let x = spline.x;
-    let y = spline.y;
-    let b = spline.b;
-    let sigma = spline.sigma;
-    if !stored::begin_f32(&x, &words[0..32]) {
-        return false;
-    }
-    if !stored::begin_f32(&y, &words[32..64]) {
-        return false;
-    }
-    if !stored::begin_f32(&b, &words[64..96]) {
-        return false;
-    }
-    if !stored::begin_f32(&sigma, &words[96..128]) {
-        return false;
-    }
-    if (words[130] == 1) != spline.coincide {
-        return false;
-    }
-    stored::is_long(spline.estimate, &words[128..130])
+    words.len() == 131
+        && stored::begin_f32(&spline.x, &words[0..32])
+        && stored::begin_f32(&spline.y, &words[32..64])
+        && stored::begin_f32(&spline.b, &words[64..96])
+        && stored::begin_f32(&spline.sigma, &words[96..128])
+        && (words[130] == 1) == spline.coincide
+        && stored::is_long(spline.estimate, &words[128..130])
 }
 
 // A spline that was taken: its control points, then the rest.
@@ -114,28 +94,24 @@ fn is_taken(spline: Spline, x: f32, y: f32, deltas: &[i32], limit: u64, output: 
     is_finished(spline, &output[points_end..])
 }
 
-// The code, and what follows it where it is 0.
+// The code of a refusal, or 0 and what follows it.
 fn is_dequantized(
-    spline: Spline,
+    dequantized: Result<Spline, Code>,
     x: f32,
     y: f32,
     deltas: &[i32],
     limit: u64,
     output: &[u32],
 ) -> bool
-    ensures { result ≡ true → DequantizeAgrees limit (starting_point x y) deltas.now spline output.now }
+    ensures { result ≡ true → DequantizeAgrees limit (starting_point x y) deltas.now dequantized output.now }
 {
     if output.len() < 1 {
         return false;
     }
-    let code = spline.code;
-    if stored::refusal_word(codes::number_of(code)) != output[0] {
-        return false;
+    match dequantized {
+        Ok(spline) => output[0] == 0 && is_taken(spline, x, y, deltas, limit, output),
+        Err(code) => output.len() == 1 && stored::refusal_word(u32::from(code)) == output[0],
     }
-    if output[0] != 0 {
-        return output.len() == 1;
-    }
-    is_taken(spline, x, y, deltas, limit, output)
 }
 
 // What all splines share, by the first words.
@@ -162,8 +138,8 @@ fn is_dequantized_from(input: &[u32], deltas: &[i32], coefficients: &[i32], outp
     let given = given_of(input);
     let x = stored::float(input[5]);
     let y = stored::float(input[6]);
-    let spline = dequantize::dequantize(x, y, deltas, coefficients, given);
-    is_dequantized(spline, x, y, deltas, given.limit, output)
+    let dequantized = dequantize::dequantize(x, y, deltas, coefficients, given);
+    is_dequantized(dequantized, x, y, deltas, given.limit, output)
 }
 
 pub fn dequantize(input: &[u32], output: &[u32]) -> bool
@@ -207,10 +183,8 @@ fn double_delta(points: &[f32], i: usize) -> i32 {
 fn double_deltas(points: &[f32], out: &mut [i32])
     ensures { Sized out.new (length out.old) }
 {
-    let mut i = 0;
-    while i < out.len() {
+    for i in 0..out.len() {
         out[i] = double_delta(points, i);
-        i += 1;
     }
 }
 
@@ -220,17 +194,12 @@ fn is_path(start: Pair, deltas: &[i32], output: &[u32]) -> bool
     ensures { result ≡ true → PathAgrees start deltas.now output.now }
 {
     match control_points::trace(start, deltas, 1099511627776) {
-        Traced::Stop(_) => false,
-        Traced::On(_) => {
+        Err(_) => false,
+        Ok(_) => {
             let mut path = [0.0f32; 256];
             match curve::curve(start, deltas, &mut path) {
-                Curved::Room => false,
-                Curved::Points(k) => {
-                    if k != output.len() / 2 {
-                        return false;
-                    }
-                    stored::begin_f32(&path, output)
-                }
+                None => false,
+                Some(k) => k == output.len() / 2 && stored::begin_f32(&path, output),
             }
         }
     }
@@ -251,8 +220,8 @@ fn is_curve(x: f32, y: f32, deltas: &[i32], points: &[u32], output: &[u32]) -> b
     ensures { result ≡ true → CurveAgrees points.now output.now }
 {
     match control_points::starting_point(x, y) {
-        Start::Out => false,
-        Start::At(start) => is_curve_from(start, deltas, points, output),
+        None => false,
+        Some(start) => is_curve_from(start, deltas, points, output),
     }
 }
 

@@ -4,14 +4,7 @@ use native.Mathlib.Omega.{arith}
 use lib.ListN.{length}
 use Rattle.replay_splines.proofs.Agreeing.{first_deltas, one_fewer}
 use borrow.Author.Rules.{rules}
-use Rattle.stored.proofs.Begun.{no_true}
 use Rattle.replay_splines.proofs.curve.Goals as goal
-
-pub returns-then-n-lt1 : goal.returns-then-n-lt1
-returns-then-n-lt1 c = λ e. absurd (no_true e)
-
-pub returns-then-n-gt32 : goal.returns-then-n-gt32
-returns-then-n-gt32 c = λ e. absurd (no_true e)
 
 pub slice_bounds-is_curve-end : goal.slice_bounds-is_curve-end
 slice_bounds-is_curve-end c =

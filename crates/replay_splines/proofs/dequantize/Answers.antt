@@ -3,17 +3,7 @@ use Rattle.replay_splines.proofs.Agreeing.{taken, case_agrees}
 use Prim.Native.Nat.{◌*◌}
 use native.Mathlib.Omega.{arith}
 use borrow.Author.Rules.{rules}
-use Rattle.stored.proofs.Begun.{no_true}
 use Rattle.replay_splines.proofs.dequantize.Goals as goal
-
-pub returns-then-input-lt8 : goal.returns-then-input-lt8
-returns-then-input-lt8 c = λ e. absurd (no_true e)
-
-pub returns-then-input-deltas_end : goal.returns-then-input-deltas_end
-returns-then-input-deltas_end c = λ e. absurd (no_true e)
-
-pub returns-then-n-gt32 : goal.returns-then-n-gt32
-returns-then-n-gt32 c = λ e. absurd (no_true e)
 
 pub slice_bounds-is_dequantized_from-end : goal.slice_bounds-is_dequantized_from-end
 slice_bounds-is_dequantized_from-end c =
