@@ -1,7 +1,7 @@
 // The bytes of a file, and the values of a text.
 #![tactic(auto)]
 
-ghost use Rattle.std.specs.Prelude.{◌≡◌, ◌≢◌, IfErr};
+ghost use Rattle.std.specs.Prelude.{◌≡◌, ◌≢◌, ◌≤◌, IfErr, IfOk, IfSome, length};
 
 use std::fmt::Display;
 use std::fs::File;
@@ -28,6 +28,7 @@ fn at_line<D: Display + Drop>(failure: Failure, name: &[u8], line: usize, what: 
 
 // The values of the text in the file of this name: how many there are.
 pub fn parse(name: &[u8], text: &[u8], values: &mut [u32]) -> Result<usize, Failure>
+    ensures held { IfOk result (λ n. n ≤ length values.new) }
     ensures told { IfErr result (λ failure. failure ≢ Failure.Quiet) }
 {
     let room = values.len();
@@ -96,6 +97,7 @@ pub fn make<R: Files<File = File>>(rt: &R, name: &[u8]) -> std::io::Result<File>
 
 // How many bytes the file of this name has, which is open; none where they fill the buffer, since there may be more.
 pub fn fill(name: &[u8], file: &File, bytes: &mut [u8]) -> Result<Option<usize>, Failure>
+    ensures held { IfOk result (λ some. IfSome some (λ n. n ≤ length bytes.new)) }
     ensures told { IfErr result (λ failure. failure ≡ Failure.WrongUse) }
 {
     let n = io::read_full(file.as_raw_fd(), bytes);
@@ -113,6 +115,7 @@ pub fn fill(name: &[u8], file: &File, bytes: &mut [u8]) -> Result<Option<usize>,
 
 // The same of a file by its name, which may not be open.
 pub fn load(named: Named<'_>, bytes: &mut [u8]) -> Result<Option<usize>, Failure>
+    ensures held { IfOk result (λ some. IfSome some (λ n. n ≤ length bytes.new)) }
     ensures told { IfErr result (λ failure. failure ≡ Failure.WrongUse) }
 {
     match named.opened {

@@ -44,27 +44,24 @@ fn line_of<D: Display + Drop>(sentence: D) -> Cursor<[u8; LINE]> {
     line
 }
 
-// The first n bytes, or all where there are fewer.
-fn first(text: &[u8], n: usize) -> &[u8] {
-    &text[..n.min(text.len())]
+// The bytes of a line.
+fn bytes_of(line: &Cursor<[u8; LINE]>) -> &[u8] {
+    let held = line.get_ref();
+    &held[..(line.position() as usize).min(held.len())]
 }
 
 // Writes the sentence to standard error.
 pub fn note<D: Display + Drop>(sentence: D)
     ensures { Unit {0} }
 {
-    let line = line_of(sentence);
-    let n = line.position() as usize;
-    io::write_all(2, first(line.get_ref(), n));
+    io::write_all(2, bytes_of(&line_of(sentence)));
 }
 
 // A sentence into a file, or why the whole of it was not written.
 pub fn tell<D: Display + Drop>(mut file: &File, sentence: D) -> std::io::Result<()>
     ensures { Unit {0} }
 {
-    let line = line_of(sentence);
-    let n = line.position() as usize;
-    file.write_all(first(line.get_ref(), n))
+    file.write_all(bytes_of(&line_of(sentence)))
 }
 
 // How many bytes stand before the last parenthesis and what parts it from them; all where there is none.
@@ -92,8 +89,7 @@ pub fn fail(failure: Failure, what: &[u8], why: Error) -> Failure
     ensures { result ≡ failure }
 {
     let line = line_of(why);
-    let n = line.position() as usize;
-    let text = first(line.get_ref(), n);
+    let text = bytes_of(&line);
     io::write_all(2, what);
     io::write_all(2, b": ");
     io::write_all(2, &text[..told_of(why, text)]);
@@ -113,9 +109,8 @@ fn unwritten(why: Error) -> Failure {
 pub fn out<D: Display + Drop>(mut to: Stdout, sentence: D) -> Result<(), Failure>
     ensures { Unit {0} }
 {
-    let line = line_of(sentence);
-    let n = line.position() as usize;
-    to.write_all(first(line.get_ref(), n)).map_err(unwritten)
+    to.write_all(bytes_of(&line_of(sentence)))
+        .map_err(unwritten)
 }
 
 // What is wrong, to standard error; and the failure that it leads to.
