@@ -1,9 +1,9 @@
 // The words that stand before a command: whether progress is told, the precision, what is hidden and for which desk, by which edition of the profile, and which edition a trace file holds.
-ghost use Rattle.std.specs.Prelude.{◌+◌, ◌≤◌};
+ghost use Rattle.std.specs.Prelude.{◌+◌, ◌≤◌, IfSome};
 
 use std::rt::Env;
 
-// `at` is the argument of the next word, `hide` that with the numbers of the hidden traces; `profile` and `edition` are editions, that of the profile and that of a trace file, each where one is asked for; `good` until a word stands twice or lacks its number.
+// `at` is the argument of the next word, `hide` that with the numbers of the hidden traces; `profile` and `edition` are editions, that of the profile and that of a trace file, each where one is asked for.
 #[derive(Clone, Copy)]
 pub struct Options {
     pub at: u8,
@@ -13,7 +13,6 @@ pub struct Options {
     pub desk: u32,
     pub profile: Option<u32>,
     pub edition: Option<u32>,
-    pub good: bool,
 }
 
 // An edition that is no number, or 0, is none that there is.
@@ -26,65 +25,61 @@ pub fn edition_at(rt: &impl Env, i: usize) -> u32
     }
 }
 
-// What the next word adds, where it is an option.
-fn with_word(rt: &impl Env, o: Options) -> Options
+// What the next word adds, where it is an option; nothing is asked for where one stands twice that may stand once.
+fn with_word(rt: &impl Env, o: Options) -> Option<Options>
     requires { o.at ≤ 40 }
-    ensures { result.at ≤ o.at + 2 }
+    ensures { IfSome result (λ with. with.at ≤ o.at + 2) }
 {
     let at = usize::from(o.at);
     if arguments::is_argument(rt, at, b"--progress") {
-        return Options {
+        return Some(Options {
             at: o.at + 1,
             progress: true,
             ..o
-        };
+        });
     }
     if arguments::is_argument(rt, at, b"--high") {
-        return Options {
+        return (!o.high).then_some(Options {
             at: o.at + 1,
             high: true,
-            good: o.good && !o.high,
             ..o
-        };
+        });
     }
     if arguments::is_argument(rt, at, b"--hide") {
-        return Options {
+        return o.hide.is_none().then_some(Options {
             at: o.at + 2,
             hide: Some(o.at + 1),
-            good: o.good && o.hide.is_none(),
             ..o
-        };
+        });
     }
     if arguments::is_argument(rt, at, b"--desk") {
-        return Options {
+        return Some(Options {
             at: o.at + 2,
             desk: arguments::argument(rt, at + 1).unwrap_or(2),
             ..o
-        };
+        });
     }
     if arguments::is_argument(rt, at, b"--profile") {
-        return Options {
+        return o.profile.is_none().then_some(Options {
             at: o.at + 2,
             profile: Some(edition_at(rt, at + 1)),
-            good: o.good && o.profile.is_none(),
             ..o
-        };
+        });
     }
     if arguments::is_argument(rt, at, b"--edition") {
-        return Options {
+        return o.edition.is_none().then_some(Options {
             at: o.at + 2,
             edition: Some(edition_at(rt, at + 1)),
-            good: o.good && o.edition.is_none(),
             ..o
-        };
+        });
     }
-    o
+    Some(o)
 }
 
-// The options that stand from argument `at` on. Progress is told where it is asked for, or where standard error is a terminal.
-pub fn options_from(rt: &impl Env, at: u8, terminal: bool) -> Options
+// The options that stand from argument `at` on, unless one stands twice. Progress is told where it is asked for, or where standard error is a terminal.
+pub fn options_from(rt: &impl Env, at: u8, terminal: bool) -> Option<Options>
     requires { at ≤ 2 }
-    ensures { result.at ≤ 20 }
+    ensures { IfSome result (λ options. options.at ≤ 20) }
 {
     let mut options = Options {
         at,
@@ -94,10 +89,9 @@ pub fn options_from(rt: &impl Env, at: u8, terminal: bool) -> Options
         desk: 0,
         profile: None,
         edition: None,
-        good: true,
     };
     for _i in 0..6u8 {
-        options = with_word(rt, options);
+        options = with_word(rt, options)?;
     }
-    options
+    Some(options)
 }
