@@ -2,35 +2,22 @@
 #![tactic(auto)]
 
 ghost use Rattle.std.specs.Prelude.{◌≡◌, ◌+◌, ◌≤◌, ◌<◌, length};
-ghost use Rattle.estimate.specs.Estimate.{to_u64, greater, share_at, row_color, tinted_of, log_color, weight_limit, weight_at, width_estimate, estimate_of};
-
-use control_points::unsigned_abs;
-use kinds::KindU64;
+ghost use Rattle.estimate.specs.Estimate.{to_u64, share_at, row_color, tinted_of, log_color, weight_limit, weight_at, width_estimate, estimate_of};
 
 // An f32 as a u64: no number and what is below the range count 0, and what is above it the largest u64.
 fn whole(x: f32) -> u64
     ensures { result ≡ to_u64 x }
 {
-    match kinds::cut_to_u64(x) {
-        KindU64::Exact(n) => n,
-        KindU64::NotNumber => 0,
-        KindU64::Below => 0,
-        KindU64::Above => 18446744073709551615,
-    }
-}
-
-fn greater(a: u64, b: u64) -> u64
-    ensures { result ≡ greater a b }
-{
-    if a <= b { b } else { a }
+    kinds::saturating_f32_to_u64(x)
 }
 
 // The magnitude of coefficient k times the inverse quant, made whole upward.
+#[tactic(auto, unfolding(crate::specs::Estimate::share_at))]
 fn share(c: &[i32], k: usize, quant: f32) -> f32
     requires { k < length c.now }
     ensures { result ≡ share_at c.now quant k }
 {
-    wholes::ceil(quant * to_f32::nearest_u64_to_f32(unsigned_abs(c[k])))
+    wholes::ceil(quant * to_f32::nearest_u32_to_f32(c[k].unsigned_abs()))
 }
 
 fn color(c: &[i32], from: usize, quant: f32) -> u64
@@ -38,14 +25,13 @@ fn color(c: &[i32], from: usize, quant: f32) -> u64
     ensures { result ≡ row_color c.now from quant }
 {
     let mut sum = 0;
-    let mut i = 0;
-    while i < 32 {
+    for i in 0..32 {
         sum = numbers::saturating_add(sum, whole(share(c, from + i, quant)));
-        i += 1;
     }
     sum
 }
 
+#[tactic(auto, unfolding(crate::specs::Estimate::tinted_by))]
 fn tinted(color: u64, k: f32, y: u64) -> u64
     ensures { result ≡ tinted_of color k y }
 {
@@ -58,17 +44,18 @@ fn tinted(color: u64, k: f32, y: u64) -> u64
 fn log_color(x: u64, y: u64, b: u64, y_to_x: f32, y_to_b: f32) -> u64
     ensures { result ≡ log_color x y b y_to_x y_to_b }
 {
-    let max_color = greater(greater(tinted(x, y_to_x, y), y), tinted(b, y_to_b, y));
-    greater(1, numbers::ceil_log2(numbers::saturating_add(1, max_color)))
+    let max_color = tinted(x, y_to_x, y).max(y).max(tinted(b, y_to_b, y));
+    numbers::ceil_log2(numbers::saturating_add(1, max_color)).max(1)
 }
 
 fn weight_limit(limit: u64, log: u64, manhattan: u64) -> f32
     ensures { result ≡ weight_limit limit log manhattan }
 {
     let area = to_f32::nearest_u64_to_f32(limit) / to_f32::nearest_u64_to_f32(log);
-    wholes::ceil(roots::root(area / to_f32::nearest_u64_to_f32(greater(manhattan, 1))))
+    wholes::ceil(roots::root(area / to_f32::nearest_u64_to_f32(manhattan.max(1))))
 }
 
+#[tactic(auto, unfolding(crate::specs::Estimate::weight_by))]
 fn weight(c: &[i32], k: usize, quant: f32, most: f32) -> u64
     requires { k < length c.now }
     ensures { result ≡ weight_at c.now quant most k }
@@ -81,18 +68,17 @@ fn width_estimate(c: &[i32], quant: f32, most: f32, log: u64) -> u64
     ensures { result ≡ width_estimate c.now quant most log }
 {
     let mut sum = 0;
-    let mut i = 0;
-    while i < 32 {
+    for i in 0..32 {
         let w = weight(c, 96 + i, quant, most);
         sum = numbers::saturating_add(
             sum,
             numbers::saturating_mul(numbers::saturating_mul(w, w), log),
         );
-        i += 1;
     }
     sum
 }
 
+#[tactic(auto, unfolding(crate::specs::Estimate::estimate_by))]
 pub fn estimated_area(
     c: &[i32],
     quant: f32,

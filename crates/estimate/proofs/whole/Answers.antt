@@ -1,16 +1,7 @@
--- Each arm is the definition's case of the kind.
-use mathlib.Core.Path.{ap, sym, ◌∙◌}
-use Rattle.kinds.specs.Kind.{saturated_u64}
+-- The saturating conversion is the kind held to the range.
+use mathlib.Core.Path.{sym, ◌∙◌}
+use Rattle.kinds.proofs.ByKind.{saturated_u64_lem}
 use Rattle.estimate.proofs.whole.Goals as goal
 
-pub returns-in-Exact : goal.returns-in-Exact
-returns-in-Exact c = ap saturated_u64 (sym c.in-Exact.is ∙ c.cut_to_u64.ensures)
-
-pub returns-in-NotNumber : goal.returns-in-NotNumber
-returns-in-NotNumber c = ap saturated_u64 (sym c.in-NotNumber.is ∙ c.cut_to_u64.ensures)
-
-pub returns-in-Below : goal.returns-in-Below
-returns-in-Below c = ap saturated_u64 (sym c.in-Below.is ∙ c.cut_to_u64.ensures)
-
-pub returns-in-Above : goal.returns-in-Above
-returns-in-Above c = ap saturated_u64 (sym c.in-Above.is ∙ c.cut_to_u64.ensures)
+pub returns : goal.returns
+returns c = c.saturating_f32_to_u64.ensures ∙ sym (saturated_u64_lem c.args.x)
