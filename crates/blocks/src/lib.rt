@@ -25,11 +25,9 @@ fn squares(v: &mut [f32; 32], m: usize, x: u32, center_x: f32, dy2: f32)
     requires { (m ≤ 32) × (length v.old ≡ 32) × (x + m ≤ 2 ^ 24) }
     ensures { v.new ≡ edit (first_cells m (λ k w. sqd center_x dy2 (x + k))) v.old }
 {
-    let mut k: usize = 0;
-    while k < m {
+    for k in 0..m {
         let dx = float_of(x + (k as u32)) - center_x;
         v[k] = dx * dx + dy2;
-        k += 1;
     }
 }
 
@@ -38,10 +36,8 @@ pub fn roots(v: &mut [f32; 32], m: usize, table: &[u64; 128])
     requires { (m ≤ 32) × (length v.old ≡ 32) }
     ensures { v.new ≡ edit (first_cells m (λ k w. sqrt_of binary32 w)) v.old }
 {
-    let mut k: usize = 0;
-    while k < m {
+    for k in 0..m {
         v[k] = roots::root_by(v[k], table);
-        k += 1;
     }
 }
 
@@ -50,10 +46,8 @@ fn intensities(segment: Segment, v: &mut [f32; 32], m: usize)
     requires { (m ≤ 32) × (length v.old ≡ 32) }
     ensures { v.new ≡ edit (first_cells m (λ k w. intensity_at segment w)) v.old }
 {
-    let mut k: usize = 0;
-    while k < m {
+    for k in 0..m {
         v[k] = shade::intensity(segment, v[k]);
-        k += 1;
     }
 }
 

@@ -51,12 +51,11 @@ pub fn add(segment: Segment, locals: &[f32; 32], r0: &mut [f32], r1: &mut [f32],
     ensures r1_after { r1.new ≡ edit (λ k v. shaded_by_intensity segment (get_or locals.now k nan) 1 v) r1.old }
     ensures r2_after { r2.new ≡ edit (λ k v. shaded_by_intensity segment (get_or locals.now k nan) 2 v) r2.old }
 {
-    let mut k: usize = 0;
-    while k < r0.len() {
+    let n = r0.len();
+    for k in 0..n {
         let local = locals[k];
         r0[k] = segment.color0 * local + r0[k];
         r1[k] = segment.color1 * local + r1[k];
         r2[k] = segment.color2 * local + r2[k];
-        k += 1;
     }
 }

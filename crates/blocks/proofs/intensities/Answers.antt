@@ -4,7 +4,7 @@ use Rattle.shade.proofs.Edits.{edit_none, edit_until, stored}
 use Rattle.blocks.proofs.intensities.Goals as goal
 
 pub loop-k-init : goal.loop-k-init
-loop-k-init c = (omega arith, omega arith, omega arith, edit_none _ _)
+loop-k-init c = (omega arith, omega arith, edit_none _ _)
 
 pub intensity-requires : goal.intensity-requires
 intensity-requires c = tt
@@ -13,9 +13,9 @@ pub loop-k-preserved : goal.loop-k-preserved
 loop-k-preserved c =
     let l = c.loop-k in
     let g = c.intensity.ensures in
-    (omega arith, simp length-set l.invariant.1, l.invariant.2, stored _ _ _ l.k _ (omega arith) l.invariant.3 (rw g))
+    (simp length-set l.invariant.0, l.invariant.1, stored _ _ _ l.k _ (omega arith) l.invariant.2 (rw g))
 
 pub returns : goal.returns
 returns c =
     let l = c.loop-k in
-    edit_until _ _ _ l.invariant.0 c.loop-k-test.false l.invariant.3
+    edit_until _ _ _ (omega arith) (omega arith) l.invariant.2

@@ -1,6 +1,5 @@
 -- The cells below k are roots of what stood there, from turn to turn.
 use mathlib.Core.Path.{◌≡◌}
-use Prim.Native.Nat.{◌-◌, ◌≤◌}
 use lib.ListN.{length}
 use lib.Ieee.{binary32}
 use Rattle.roots.specs.Root.{sqrt_of}
@@ -9,7 +8,4 @@ use Rattle.blocks.proofs.roots.Given as goal
 
 abbrev pub invariant-loop-k : goal.invariant-loop-k
 invariant-loop-k l =
-    (l.k ≤ l.m) × (length l.v ≡ 32) × (length l.initial.v ≡ 32) × (l.v ≡ edit (first_cells l.k (λ j w. sqrt_of binary32 w)) l.initial.v)
-
-abbrev pub decreases-loop-k : goal.decreases-loop-k
-decreases-loop-k l = l.m - l.k
+    (length l.v ≡ 32) × (length l.initial.v ≡ 32) × (l.v ≡ edit (first_cells l.k (λ j w. sqrt_of binary32 w)) l.initial.v)

@@ -1,6 +1,6 @@
 -- The cells below k are the squares, from turn to turn.
 use mathlib.Core.Path.{◌≡◌}
-use Prim.Native.Nat.{◌+◌, ◌-◌, ◌≤◌}
+use Prim.Native.Nat.{◌+◌}
 use lib.ListN.{length}
 use Rattle.shade.specs.Edit.{edit, first_cells}
 use Rattle.shade.specs.Shade.{sqd}
@@ -8,7 +8,4 @@ use Rattle.blocks.proofs.squares.Given as goal
 
 abbrev pub invariant-loop-k : goal.invariant-loop-k
 invariant-loop-k l =
-    (l.k ≤ l.m) × (length l.v ≡ 32) × (length l.initial.v ≡ 32) × (l.v ≡ edit (first_cells l.k (λ j w. sqd l.center_x l.dy2 (l.x + j))) l.initial.v)
-
-abbrev pub decreases-loop-k : goal.decreases-loop-k
-decreases-loop-k l = l.m - l.k
+    (length l.v ≡ 32) × (length l.initial.v ≡ 32) × (l.v ≡ edit (first_cells l.k (λ j w. sqd l.center_x l.dy2 (l.x + j))) l.initial.v)
