@@ -1,12 +1,16 @@
 -- What an answer of building by profile tells. Definitions only.
+use Rattle.std.specs.Prelude.{ℕ, Ok}
 use Rattle.codes.specs.Codes.{number_of}
-use Rattle.codes.specs.declared.Code.TheVariants as Code
-use Rattle.profile_told.specs.declared.ProfileBuildAnswer.{ProfileBuildAnswer}
-use Rattle.profile_told.specs.declared.ProfileBuildAnswer.TheVariants.{Done, Broken, Refused}
+use Rattle.codes.specs.declared.Code.{Code}
+use Rattle.profile_told.specs.Answers.{ProfileBuildAnswer, Broken, Refused}
 use Rattle.profile_told.specs.declared.ProfileBuildTold.{ProfileBuildTold}
+
+-- a refusal has counts of 0, but for the rule that is broken
+abbrev pub refusal_told : Code → ℕ → ℕ → ProfileBuildTold
+refusal_told c p rule = record { number = number_of c; place = p; first = rule; second = 0; third = 0; fourth = 0 }
 
 -- a success has the counts of a build: segments, entries, the estimate, and how many segments are faint; a broken rule is PROFILE at its spline, with the rule as first count; any other refusal has counts of 0
 abbrev pub told_of : ProfileBuildAnswer → ProfileBuildTold
-told_of (Done s n a f) = record { number = 0; place = 0; first = s; second = n; third = a; fourth = f }
-told_of (Broken rule spline) = record { number = number_of Code.Profile; place = spline; first = rule; second = 0; third = 0; fourth = 0 }
-told_of (Refused c p) = record { number = number_of c; place = p; first = 0; second = 0; third = 0; fourth = 0 }
+told_of (Ok b) = record { number = 0; place = 0; first = b.segments; second = b.entries; third = b.estimate; fourth = b.faint }
+told_of (Broken rule spline) = refusal_told Code.Profile spline rule
+told_of (Refused c p) = refusal_told c p 0

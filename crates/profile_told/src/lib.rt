@@ -1,22 +1,15 @@
-// What building by profile answers and tells, and SIZE, which it tests first.
+// What building by profile answers and tells.
 #![tactic(auto)]
 
 ghost use Rattle.std.specs.Prelude.{◌≡◌};
-ghost use Rattle.verdict.specs.Verdict.{sized};
-ghost use Rattle.profile_told.specs.Told.{told_of};
+ghost use Rattle.profile_told.specs.Told.{refusal_told, told_of};
 
+use build_answer::Built;
 use codes::Code;
-
-// What a build answers; or the first broken rule and its spline.
-#[derive(Clone, Copy)]
-pub enum ProfileBuildAnswer {
-    Done(u32, u32, u64, u32),
-    Broken(u32, usize),
-    Refused(Code, usize),
-}
+use profile::Unmet;
 
 // An answer in the terms of the table of codes: the code's number, the place, and the counts.
-#[derive(Clone, Copy)]
+#[derive(Clone, Copy, Debug, PartialEq, Eq)]
 pub struct ProfileBuildTold {
     pub number: u32,
     pub place: usize,
@@ -26,43 +19,36 @@ pub struct ProfileBuildTold {
     pub fourth: u32,
 }
 
-pub fn size_good(width: u32, height: u32) -> bool
-    ensures { result ≡ sized width height }
-{
-    if 8388608 < width {
-        return false;
-    }
-    height <= 8388608
-}
-
-// A broken rule is PROFILE at its spline, and the rule is its first count.
-pub fn told(answer: ProfileBuildAnswer) -> ProfileBuildTold
-    ensures { result ≡ told_of answer }
-{
-    match answer {
-        ProfileBuildAnswer::Done(segments, entries, estimate, faint) => ProfileBuildTold {
-            number: 0,
-            place: 0,
-            first: segments,
-            second: entries,
-            third: estimate,
-            fourth: faint,
-        },
-        ProfileBuildAnswer::Broken(rule, spline) => ProfileBuildTold {
-            number: codes::number_of(Code::Profile),
-            place: spline,
+impl ProfileBuildTold {
+    // What refuses tells no counts, but for the rule that is broken.
+    fn refusal(code: Code, place: usize, rule: u32) -> ProfileBuildTold
+        ensures { result ≡ refusal_told code place rule }
+    {
+        ProfileBuildTold {
+            number: u32::from(code),
+            place,
             first: rule,
             second: 0,
             third: 0,
             fourth: 0,
+        }
+    }
+}
+
+// A broken rule is PROFILE at its spline, and the rule is its first count.
+pub fn told(answer: Result<Built, Unmet>) -> ProfileBuildTold
+    ensures { result ≡ told_of answer }
+{
+    match answer {
+        Ok(built) => ProfileBuildTold {
+            number: 0,
+            place: 0,
+            first: built.segments,
+            second: built.entries,
+            third: built.estimate,
+            fourth: built.faint,
         },
-        ProfileBuildAnswer::Refused(code, place) => ProfileBuildTold {
-            number: codes::number_of(code),
-            place,
-            first: 0,
-            second: 0,
-            third: 0,
-            fourth: 0,
-        },
+        Err(Unmet::Broken(rule, spline)) => ProfileBuildTold::refusal(Code::Profile, spline, rule),
+        Err(Unmet::Refused(code, place)) => ProfileBuildTold::refusal(code, place, 0),
     }
 }
