@@ -15,6 +15,9 @@ pub record Layout : Type 0 where
   pub version : ℕ
   pub header : ℕ
 
+abbrev pub layout_of : ℕ → ℕ → Layout
+layout_of version header = record { version = version; header = header }
+
 -- version 1: eight numbers, so that the parts begin at byte 32
 abbrev pub version1 : Layout
 version1 = record { version = 1; header = 8 }

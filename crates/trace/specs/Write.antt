@@ -4,6 +4,7 @@ use Rattle.std.specs.Float.{nan, inf, fin}
 use Rattle.std.specs.Float.Ieee.{up, down}
 use Rattle.codes.specs.declared.Code.TheVariants.{Coord, Delta, Room, Shape, Header}
 use Rattle.shape.specs.Shape.{points_of}
+use Rattle.shape.specs.Description.{Description}
 use Rattle.list.specs.List.{described, pos_limit}
 use Rattle.writer.specs.Write.{Check, check, first_fault, misshapen, whole_of, WriteOutcome, outcome}
 use Rattle.trace.specs.Trace.{version1, starts_from, deltas_from, coefficients_from, numbers_of, file_of, wild, number_checks}
@@ -45,3 +46,10 @@ unfoldable pub write_trace_of : List ℕ → List Float → List ℤ → List �
 write_trace_of counts starts deltas coefficients adjustment room =
     outcome room (file_of version1 [] (described adjustment (map whole_of starts) counts deltas coefficients))
     (first_fault (write_checks 8 counts starts deltas coefficients ++ check (ltb room (4 * numbers_of 8 (length counts) (points_of counts))) Room 0 ∷ []))
+
+-- the same of a description
+abbrev pub checks_in : ℕ → Description → List Check
+checks_in h d = write_checks h d.counts d.starts d.deltas d.coefficients
+
+abbrev pub write_trace_in : Description → ℤ → ℕ → WriteOutcome
+write_trace_in d adjustment room = write_trace_of d.counts d.starts d.deltas d.coefficients adjustment room
