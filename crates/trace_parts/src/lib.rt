@@ -3,16 +3,15 @@
 #![tactic(auto)]
 
 ghost use Rattle.std.specs.Prelude.{◌≡◌, ◌+◌, ◌*◌, ◌≤◌, eqb, length};
-ghost use Rattle.codes.specs.declared.Code.{Code};
 ghost use Rattle.shape.specs.Shape.{points_of};
 ghost use Rattle.writer.specs.Write.{first_fault};
 ghost use Rattle.little.specs.Little.{numbers_in};
 ghost use Rattle.trace.specs.Trace.{numbers_of, part, number_checks};
 ghost use Rattle.trace.specs.Read.{part_checks, misplaced, too_wild};
+ghost use Rattle.trace_parts.specs.Kinds.{code_of, refused_by};
 
-use codes::Code;
+use codes::{Code, Refusal};
 use little::number_at;
-use write_judge::Verdict;
 
 // ---- numbers of the file
 
@@ -20,21 +19,40 @@ use write_judge::Verdict;
 fn no_start(number: u32) -> bool
     ensures { result ≡ misplaced number }
 {
-    if number < 8388608 {
-        false
-    } else {
-        number < 4286578688
-    }
+    8388608 <= number && number < 4286578688
 }
 
 // Whether a number is no double delta: neither below 2^30 nor within 2^30 of 2^32.
 fn no_delta(number: u32) -> bool
     ensures { result ≡ too_wild number }
 {
-    if number < 1073741824 {
-        false
-    } else {
-        number <= 3221225472
+    1073741824 <= number && number <= 3221225472
+}
+
+// The numbers that are judged one by one.
+#[derive(Clone, Copy, Debug, PartialEq, Eq)]
+pub enum Kind {
+    Start,
+    Delta,
+}
+
+// The code that refuses one.
+fn code(kind: Kind) -> Code
+    ensures { result ≡ code_of kind }
+{
+    match kind {
+        Kind::Start => Code::Coord,
+        Kind::Delta => Code::Delta,
+    }
+}
+
+// Whether a number is none of the kind.
+fn is_refused(kind: Kind, number: u32) -> bool
+    ensures { result ≡ refused_by kind number }
+{
+    match kind {
+        Kind::Start => no_start(number),
+        Kind::Delta => no_delta(number),
     }
 }
 
@@ -46,56 +64,37 @@ fn sum_is(bytes: &[u8], from: usize, n: usize, points: usize) -> bool
     ensures { result ≡ eqb (points_of (part from n (numbers_in bytes.now))) points }
 {
     let mut left = points;
-    let mut i = 0;
-    while i < n {
+    for i in 0..n {
         let count = number_at(bytes, from + i) as usize;
         if left < count {
             return false;
         }
         left -= count;
-        i += 1;
     }
     left == 0
 }
 
-fn judge_starts(bytes: &[u8], from: usize, n: usize) -> Verdict
+// The first of n numbers, from an index on, that is none of the kind.
+fn judge_numbers(bytes: &[u8], from: usize, n: usize, kind: Kind) -> Result<(), Refusal>
     requires { 4 * (from + n) ≤ length bytes.now }
-    ensures { result ≡ first_fault (number_checks misplaced Code.Coord from (part from n (numbers_in bytes.now))) }
+    ensures { result ≡ first_fault (number_checks (refused_by kind) (code_of kind) from (part from n (numbers_in bytes.now))) }
 {
-    let mut i = 0;
-    while i < n {
-        if no_start(number_at(bytes, from + i)) {
-            return Verdict::Fault(Code::Coord, 4 * (from + i));
+    for i in 0..n {
+        if is_refused(kind, number_at(bytes, from + i)) {
+            return Err((code(kind), 4 * (from + i)));
         }
-        i += 1;
     }
-    Verdict::Fine
-}
-
-fn judge_deltas(bytes: &[u8], from: usize, n: usize) -> Verdict
-    requires { 4 * (from + n) ≤ length bytes.now }
-    ensures { result ≡ first_fault (number_checks too_wild Code.Delta from (part from n (numbers_in bytes.now))) }
-{
-    let mut i = 0;
-    while i < n {
-        if no_delta(number_at(bytes, from + i)) {
-            return Verdict::Fault(Code::Delta, 4 * (from + i));
-        }
-        i += 1;
-    }
-    Verdict::Fine
+    Ok(())
 }
 
 // The first fault of the parts of a file that is as long as it should be.
-pub fn judge_parts(bytes: &[u8], h: usize, s: usize, p: usize) -> Verdict
+pub fn judge_parts(bytes: &[u8], h: usize, s: usize, p: usize) -> Result<(), Refusal>
     requires { length bytes.now ≡ 4 * numbers_of h s p }
     ensures { result ≡ first_fault (part_checks h s p (numbers_in bytes.now)) }
 {
     if !sum_is(bytes, h, s, p) {
-        return Verdict::Fault(Code::Shape, 0);
+        return Err((Code::Shape, 0));
     }
-    match judge_starts(bytes, h + s, 2 * s) {
-        Verdict::Fault(c, place) => Verdict::Fault(c, place),
-        Verdict::Fine => judge_deltas(bytes, h + 3 * s, 2 * p),
-    }
+    judge_numbers(bytes, h + s, 2 * s, Kind::Start)?;
+    judge_numbers(bytes, h + 3 * s, 2 * p, Kind::Delta)
 }

@@ -16,7 +16,7 @@ returns-then-left-count c =
     let ns = part a.from a.n (numbers_in a.bytes.now) in
     let k = held_length a.bytes.now a.from a.n (omega arith) in
     let n = part_at a.from a.n (numbers_in a.bytes.now) v.i (omega arith) ∙ sym c.number_at-count.ensures in
-    sym (ne_eqb (points_of ns) a.points (λ e. omega (arith, sum_turn ns v.i (omega arith), v.invariant.2, n)))
+    sym (ne_eqb (points_of ns) a.points (λ e. omega (arith, sum_turn ns v.i (omega arith), v.invariant.1, n)))
 
 pub loop-i-preserved : goal.loop-i-preserved
 loop-i-preserved c =
@@ -25,7 +25,7 @@ loop-i-preserved c =
     let ns = part a.from a.n (numbers_in a.bytes.now) in
     let k = held_length a.bytes.now a.from a.n (omega arith) in
     let n = part_at a.from a.n (numbers_in a.bytes.now) v.i (omega arith) ∙ sym c.number_at-count.ensures in
-    omega (arith, sum_turn ns v.i (omega arith), v.invariant.2, n)
+    omega (arith, sum_turn ns v.i (omega arith), v.invariant.1, n)
 
 pub returns : goal.returns
 returns c =
@@ -33,4 +33,4 @@ returns c =
     let v = c.loop-i in
     let ns = part a.from a.n (numbers_in a.bytes.now) in
     let k = held_length a.bytes.now a.from a.n (omega arith) in
-    sum_left ns a.points v.left v.invariant.1 (rw (sum_end ns v.i (omega arith)) at v.invariant.2)
+    sum_left ns a.points v.left v.invariant.0 (rw (sum_end ns v.i (omega arith)) at v.invariant.1)

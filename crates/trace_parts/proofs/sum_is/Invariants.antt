@@ -8,7 +8,4 @@ use Rattle.trace_parts.proofs.sum_is.Given as goal
 
 abbrev pub invariant-loop-i : goal.invariant-loop-i
 invariant-loop-i l =
-    (l.i ≤ l.n) × (l.left ≤ l.points) × (points_of (drop l.i (part l.from l.n (numbers_in l.bytes))) + (l.points - l.left) ≡ points_of (part l.from l.n (numbers_in l.bytes)))
-
-abbrev pub decreases-loop-i : goal.decreases-loop-i
-decreases-loop-i l = l.n - l.i
+    (l.left ≤ l.points) × (points_of (drop l.i (part l.from l.n (numbers_in l.bytes))) + (l.points - l.left) ≡ points_of (part l.from l.n (numbers_in l.bytes)))

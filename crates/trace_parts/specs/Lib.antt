@@ -1,0 +1,2 @@
+-- The definitions of the crate `trace_parts`.
+pub mod Kinds
