@@ -9,10 +9,9 @@ ghost use Rattle.trace.specs.Trace.{version1};
 ghost use Rattle.trace.specs.Read.{offset_checks, length_checks, body_checks, read_checks};
 ghost use Rattle.trace_judge.specs.Counted.{Counted};
 
-use codes::Code;
+use codes::{Code, Refusal};
 use little::number_at;
 use trace_parts::judge_parts;
-use write_judge::Verdict;
 
 // ---- numbers of the file
 
@@ -27,63 +26,59 @@ fn wrong(bytes: &[u8], i: usize, due: usize) -> bool
 // ---- the checks
 
 // The first wrong offset of the parts.
-pub fn judge_offsets(bytes: &[u8], h: usize, s: usize, p: usize) -> Verdict
+pub fn judge_offsets(bytes: &[u8], h: usize, s: usize, p: usize) -> Result<(), Refusal>
     requires { Counted bytes.now h s p }
     ensures { result ≡ first_fault (offset_checks h (numbers_in bytes.now)) }
 {
     if wrong(bytes, 4, 4 * h) {
-        return Verdict::Fault(Code::Header, 16);
+        return Err((Code::Header, 16));
     }
     if wrong(bytes, 5, 4 * (h + s)) {
-        return Verdict::Fault(Code::Header, 20);
+        return Err((Code::Header, 20));
     }
     if wrong(bytes, 6, 4 * (h + 3 * s)) {
-        return Verdict::Fault(Code::Header, 24);
+        return Err((Code::Header, 24));
     }
     if wrong(bytes, 7, 4 * (h + (3 * s + 2 * p))) {
-        return Verdict::Fault(Code::Header, 28);
+        return Err((Code::Header, 28));
     }
-    Verdict::Fine
+    Ok(())
 }
 
 // Whether a file is too short or too long.
-fn judge_length(size: usize, due: usize) -> Verdict
+fn judge_length(size: usize, due: usize) -> Result<(), Refusal>
     ensures { result ≡ first_fault (length_checks size due) }
 {
     if size < due {
-        return Verdict::Fault(Code::Short, size);
+        return Err((Code::Short, size));
     }
     if due < size {
-        return Verdict::Fault(Code::Trail, due);
+        return Err((Code::Trail, due));
     }
-    Verdict::Fine
+    Ok(())
 }
 
 // The first fault behind the header.
-pub fn judge_body(bytes: &[u8], h: usize, s: usize, p: usize) -> Verdict
+pub fn judge_body(bytes: &[u8], h: usize, s: usize, p: usize) -> Result<(), Refusal>
     requires { Counted bytes.now h s p }
     ensures { result ≡ first_fault (body_checks h (length bytes.now) (numbers_in bytes.now)) }
 {
-    match judge_length(bytes.len(), 4 * (h + (131 * s + 2 * p))) {
-        Verdict::Fault(c, place) => Verdict::Fault(c, place),
-        Verdict::Fine => judge_parts(bytes, h, s, p),
-    }
+    judge_length(bytes.len(), 4 * (h + (131 * s + 2 * p)))?;
+    judge_parts(bytes, h, s, p)
 }
 
 // The first fault of a file of version 1, but for the room.
-pub fn judge(bytes: &[u8]) -> Verdict
+pub fn judge(bytes: &[u8]) -> Result<(), Refusal>
     ensures { result ≡ first_fault (read_checks version1 (length bytes.now) (numbers_in bytes.now)) }
 {
     if bytes.len() < 32 {
-        return Verdict::Fault(Code::Short, bytes.len());
+        return Err((Code::Short, bytes.len()));
     }
     if wrong(bytes, 0, 1) {
-        return Verdict::Fault(Code::Header, 0);
+        return Err((Code::Header, 0));
     }
     let s = number_at(bytes, 1) as usize;
     let p = number_at(bytes, 2) as usize;
-    match judge_offsets(bytes, 8, s, p) {
-        Verdict::Fault(c, place) => Verdict::Fault(c, place),
-        Verdict::Fine => judge_body(bytes, 8, s, p),
-    }
+    judge_offsets(bytes, 8, s, p)?;
+    judge_body(bytes, 8, s, p)
 }
