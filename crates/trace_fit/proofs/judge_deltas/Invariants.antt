@@ -9,7 +9,4 @@ use Rattle.trace_fit.proofs.judge_deltas.Given as goal
 
 abbrev pub invariant-loop-i : goal.invariant-loop-i
 invariant-loop-i l =
-    (l.i ≤ length l.deltas) × (first_fault (number_checks wild Delta l.from l.deltas) ≡ first_fault (number_checks wild Delta (l.from + l.i) (drop l.i l.deltas)))
-
-abbrev pub decreases-loop-i : goal.decreases-loop-i
-decreases-loop-i l = length l.deltas - l.i
+    first_fault (number_checks wild Delta l.from l.deltas) ≡ first_fault (number_checks wild Delta (l.from + l.i) (drop l.i l.deltas))

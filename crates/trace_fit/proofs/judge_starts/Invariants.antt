@@ -10,7 +10,4 @@ use Rattle.trace_fit.proofs.judge_starts.Given as goal
 
 abbrev pub invariant-loop-i : goal.invariant-loop-i
 invariant-loop-i l =
-    (l.i ≤ length l.starts) × (first_fault (number_checks misfit Coord l.from l.starts) ≡ first_fault (number_checks misfit Coord (l.from + l.i) (drop l.i l.starts)))
-
-abbrev pub decreases-loop-i : goal.decreases-loop-i
-decreases-loop-i l = length l.starts - l.i
+    first_fault (number_checks misfit Coord l.from l.starts) ≡ first_fault (number_checks misfit Coord (l.from + l.i) (drop l.i l.starts))
