@@ -2,40 +2,33 @@
 #![tactic(auto)]
 
 ghost use Rattle.std.specs.Prelude.{◌≡◌, length};
+ghost use Rattle.shape.specs.Description.{description_in};
 ghost use Rattle.writer.specs.Write.{leaves};
-ghost use Rattle.trace.specs.Write.{write_trace_of};
+ghost use Rattle.trace.specs.Write.{write_trace_in};
 
-use buffers::clear_u8;
-use codes::Code;
+use buffers::clear;
+use codes::{Code, Refusal};
+use shape::Description;
 use trace_fit::judge;
 use trace_put::{put_header, put_parts};
-use write_judge::Verdict;
-use writer::WriteAnswer;
 
 pub fn trace_write(
-    counts: &[u32],
-    starts: &[f32],
-    deltas: &[i32],
-    coefficients: &[i32],
+    description: &Description<'_>,
     adjustment: i32,
     bytes: &mut [u8],
-) -> WriteAnswer
+) -> Result<usize, Refusal>
     ensures { leaves result bytes.new
-        ≡ write_trace_of counts.now starts.now deltas.now coefficients.now adjustment (length bytes.old) }
+        ≡ write_trace_in (description_in description.now) adjustment (length bytes.old) }
 {
-    clear_u8(bytes);
-    match judge(counts, starts, deltas, coefficients, 8) {
-        Verdict::Fault(c, place) => WriteAnswer::Refused(c, place),
-        Verdict::Fine => {
-            let s = counts.len();
-            let p = deltas.len() / 2;
-            let size = 4 * (8 + (131 * s + 2 * p));
-            if bytes.len() < size {
-                return WriteAnswer::Refused(Code::Room, 0);
-            }
-            put_header(bytes, s as u32, p as u32, adjustment);
-            put_parts(counts, starts, deltas, coefficients, bytes);
-            WriteAnswer::Done(size)
-        }
+    clear(bytes);
+    judge(description, 8)?;
+    let s = description.counts.len();
+    let p = description.deltas.len() / 2;
+    let size = 4 * (8 + (131 * s + 2 * p));
+    if bytes.len() < size {
+        return Err((Code::Room, 0));
     }
+    put_header(bytes, 1, 8, s as u32, p as u32, adjustment);
+    put_parts(description, 8, bytes);
+    Ok(size)
 }

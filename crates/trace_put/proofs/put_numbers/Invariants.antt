@@ -8,7 +8,4 @@ use Rattle.trace_put.proofs.put_numbers.Given as goal
 
 abbrev pub invariant-loop-i : goal.invariant-loop-i
 invariant-loop-i l =
-    (l.i ≤ length l.numbers) × (length l.bytes ≡ length l.initial.bytes) × (sets l.bytes (4 * (l.from + l.i)) (bytes_of (drop l.i (l.numbers))) ≡ sets l.initial.bytes (4 * l.from) (bytes_of (l.numbers)))
-
-abbrev pub decreases-loop-i : goal.decreases-loop-i
-decreases-loop-i l = length l.numbers - l.i
+    (length l.bytes ≡ length l.initial.bytes) × (sets l.bytes (4 * (l.from + l.i)) (bytes_of (drop l.i (l.numbers))) ≡ sets l.initial.bytes (4 * l.from) (bytes_of (l.numbers)))

@@ -4,7 +4,6 @@ use Rattle.trace_put.proofs.put_parts.Goals as goal
 
 pub returns : goal.returns
 returns c =
-    let a = c.args in
-    let h = c.requires in
-    parts_put 8 a.counts.now a.starts.now a.deltas.now a.coefficients.now a.bytes.now _ _ _ _ h.pairs
+    let d = c.args.description.now in
+    parts_put c.args.h d.counts.now d.starts.now d.deltas.now d.coefficients.now c.args.bytes.now _ _ _ _ c.requires.pairs
     c.put_numbers.ensures c.put_starts.ensures c.put_signed.ensures c.put_signed-2.ensures

@@ -9,7 +9,4 @@ use Rattle.trace_put.proofs.put_signed.Given as goal
 
 abbrev pub invariant-loop-i : goal.invariant-loop-i
 invariant-loop-i l =
-    (l.i ≤ length l.numbers) × (length l.bytes ≡ length l.initial.bytes) × (sets l.bytes (4 * (l.from + l.i)) (bytes_of (drop l.i (map unsigned_of l.numbers))) ≡ sets l.initial.bytes (4 * l.from) (bytes_of (map unsigned_of l.numbers)))
-
-abbrev pub decreases-loop-i : goal.decreases-loop-i
-decreases-loop-i l = length l.numbers - l.i
+    (length l.bytes ≡ length l.initial.bytes) × (sets l.bytes (4 * (l.from + l.i)) (bytes_of (drop l.i (map unsigned_of l.numbers))) ≡ sets l.initial.bytes (4 * l.from) (bytes_of (map unsigned_of l.numbers)))

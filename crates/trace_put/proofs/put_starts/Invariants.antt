@@ -10,7 +10,4 @@ use Rattle.trace_put.proofs.put_starts.Given as goal
 
 abbrev pub invariant-loop-i : goal.invariant-loop-i
 invariant-loop-i l =
-    (l.i ≤ length l.starts) × (length l.bytes ≡ length l.initial.bytes) × (sets l.bytes (4 * (l.from + l.i)) (bytes_of (drop l.i (map start_number l.starts))) ≡ sets l.initial.bytes (4 * l.from) (bytes_of (map start_number l.starts)))
-
-abbrev pub decreases-loop-i : goal.decreases-loop-i
-decreases-loop-i l = length l.starts - l.i
+    (length l.bytes ≡ length l.initial.bytes) × (sets l.bytes (4 * (l.from + l.i)) (bytes_of (drop l.i (map start_number l.starts))) ≡ sets l.initial.bytes (4 * l.from) (bytes_of (map start_number l.starts)))
