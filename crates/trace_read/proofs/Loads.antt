@@ -1,6 +1,6 @@
 -- Laws of the room, of a file with no fault, and of the whole.
-use mathlib.Core.Path.{◌≡◌, sym, ap, ◌∙◌}
-use mathlib.Core.Bool.{true, false, ◌||◌}
+use mathlib.Core.Path.{◌≡◌, refl, sym, ap, ◌∙◌}
+use mathlib.Core.Bool.{Bool, true, false, ◌||◌}
 use mathlib.Core.List.{List, [], ◌∷◌}
 use Prim.Native.Nat.{ℕ, ◌*◌, ◌≤◌, ◌<◌}
 use native.Mathlib.Omega.{arith}
@@ -16,8 +16,10 @@ use Rattle.list.specs.List.{ListRooms, got, stop, Described, described, lacking}
 use Rattle.list.specs.Steps.{zero_f32}
 use Rattle.reader.specs.Read.{leaves, rooms_of, outcome}
 use Rattle.reader.specs.Rest.{ListLeft, Wiped}
-use Rattle.read_list.specs.declared.ReadAnswer.{ReadAnswer}
-use Rattle.reader.proofs.Whole.{done}
+use Rattle.std.specs.Prelude.{Ok}
+use Rattle.codes.specs.Refusal.{refused}
+use Rattle.read_list.specs.Answer.{ReadAnswer}
+use Rattle.reader.proofs.Whole.{read_all}
 use Rattle.writer.specs.Write.{Check, check, first_fault}
 use Rattle.write_judge.specs.Verdict.{Fine, Fault}
 use Rattle.write_judge.proofs.Checks.{neither, fails, passed, faults_before, fine_before, both_fine}
@@ -30,27 +32,33 @@ use Rattle.trace_read.specs.Steps.{rooms_from}
 
 -- ---- the room
 
+-- the value of `s || t`, where a test takes one of two ways
+pub or_then : {v s : Bool} (t : Bool) → s ≡ true → v ≡ s → v ≡ s || t
+or_then {v} {s} t p q = rw (q, p)
+
+pub or_else : {v t s : Bool} → s ≡ false → v ≡ t → v ≡ s || t
+or_else {v} {t} {s} p q = rw (p, q)
+
+or_assoc : (s t u : Bool) → (s || t) || u ≡ s || (t || u)
+or_assoc true t u = refl
+or_assoc false t u = refl
+
 module _ (a b d e s p : ℕ) where
   abbrev Rooms : ListRooms
   Rooms = rooms_from a b d e
 
-  pub tight_counts : a < s → true ≡ tight Rooms s p
-  unfolding tight
-  tight_counts h = rw (lt-ltb a s h)
+  -- the tests of the cells, of which each stands on those before it
+  module _ (v w : Bool) (first : v ≡ ltb a s || ltb b (2 * s)) (second : w ≡ v || ltb e (128 * s)) where
+    cells : w ≡ lacking Rooms s
+    cells = second ∙ rw first (or_assoc (ltb a s) (ltb b (2 * s)) (ltb e (128 * s)))
 
-  module _ (x : s ≤ a) where
-    pub tight_starts : b < 2 * s → true ≡ tight Rooms s p
+    pub tight_cells : w ≡ true → w ≡ tight Rooms s p
     unfolding tight
-    tight_starts h = rw (le-ltb a s x, lt-ltb b (2 * s) h)
+    tight_cells h = h ∙ sym (ap (λ (t : Bool). t || ltb d (2 * p)) (sym cells ∙ h))
 
-    module _ (y : 2 * s ≤ b) where
-      pub tight_coefficients : e < 128 * s → true ≡ tight Rooms s p
-      unfolding tight
-      tight_coefficients h = rw (le-ltb a s x, le-ltb b (2 * s) y, lt-ltb e (128 * s) h)
-
-      pub tight_deltas : 128 * s ≤ e → ltb d (2 * p) ≡ tight Rooms s p
-      unfolding tight
-      tight_deltas h = rw (le-ltb a s x, le-ltb b (2 * s) y, le-ltb e (128 * s) h)
+    pub tight_deltas : w ≡ false → ltb d (2 * p) ≡ tight Rooms s p
+    unfolding tight
+    tight_deltas h = sym (ap (λ (t : Bool). t || ltb d (2 * p)) (sym cells ∙ h))
 
   pub roomy : tight Rooms s p ≡ false → (s ≤ a) × (2 * s ≤ b) × (128 * s ≤ e) × (2 * p ≤ d)
   unfolding tight
@@ -137,8 +145,8 @@ module _ (rooms : ListRooms) (bytes : List ℕ) where
 left_done : (x : Described) (rooms : ListRooms) (r : ReadAnswer) (n' : List ℕ) (s' : List Float) (d' c' : List ℤ)
     → ListLeft (got x []) r (replicate rooms.counts 0) n' (replicate rooms.starts zero_f32) s' (replicate rooms.deltas (pos 0)) d' (replicate rooms.coefficients (pos 0)) c'
     → leaves r n' s' d' c' ≡ outcome rooms (got x [])
-left_done x rooms (ReadAnswer.Done i m a) n' s' d' c' h = done (got x []) i m a n' s' d' c' rooms h
-left_done (described b zs ns ds cs) rooms (ReadAnswer.Refused k p) n' s' d' c' h = let z : ◌≡◌ {A = ℕ} 0 1 = cc h.0 in absurd (omega arith)
+left_done x rooms (Ok r) n' s' d' c' h = read_all (got x []) r.splines r.points r.adjustment n' s' d' c' rooms h
+left_done (described b zs ns ds cs) rooms (refused k p) n' s' d' c' h = let z : ◌≡◌ {A = ℕ} 0 1 = cc h.0 in absurd (omega arith)
 
 module _ (bytes n wn : List ℕ) (s ws : List Float) (d wd c wc : List ℤ) (w : Wiped n wn s ws d wd c wc) where
   -- clearing keeps the lengths
@@ -152,7 +160,7 @@ module _ (bytes n wn : List ℕ) (s ws : List Float) (d wd c wc : List ℤ) (w :
       )
 
   -- what a call that clears its buffers first leaves, whatever it reads
-  pub wiped_refused : (k : Code) (q : ℕ) → leaves (ReadAnswer.Refused k q) wn ws wd wc ≡ outcome (rooms_of n s d c) (stop k q)
+  pub wiped_refused : (k : Code) (q : ℕ) → leaves (refused k q) wn ws wd wc ≡ outcome (rooms_of n s d c) (stop k q)
   wiped_refused k q = rw (w.counts, w.starts, w.deltas, w.coefficients)
 
   pub wiped_done : (x : Described) (r : ReadAnswer) (n' : List ℕ) (s' : List Float) (d' c' : List ℤ) → ListLeft (got x []) r wn n' ws s' wd d' wc c'
@@ -160,7 +168,7 @@ module _ (bytes n wn : List ℕ) (s ws : List Float) (d wd c wc : List ℤ) (w :
   wiped_done x r n' s' d' c' h = left_done x (rooms_of n s d c) r n' s' d' c' (rw (w.counts, w.starts, w.deltas, w.coefficients) at h)
 
   pub read_refused : (k : Code) (q : ℕ) → first_fault (whole_checks (rooms_of wn ws wd wc) bytes) ≡ Fault k q
-      → leaves (ReadAnswer.Refused k q) wn ws wd wc ≡ read_trace_of (rooms_of n s d c) bytes
+      → leaves (refused k q) wn ws wd wc ≡ read_trace_of (rooms_of n s d c) bytes
   unfolding read_trace_of
   read_refused k q e = rw (judged_fault (rooms_of n s d c) bytes k q (rw same_rooms at e)) (wiped_refused k q)
 

@@ -8,12 +8,11 @@ ghost use Rattle.writer.specs.Write.{first_fault};
 ghost use Rattle.trace.specs.Read.{tight, whole_checks, read_trace_of};
 ghost use Rattle.trace_read.specs.Steps.{rooms_from};
 
-use codes::Code;
+use codes::{Code, Refusal};
 use little::number_at;
-use reader::{ReadAnswer, wipe};
+use reader::{Read, wipe};
 use trace_judge::judge;
 use trace_load::load;
-use write_judge::Verdict;
 
 // Whether buffers of these lengths lack room for s splines and p points.
 pub fn lacks_room(
@@ -27,16 +26,7 @@ pub fn lacks_room(
     requires { (s < 2 ^ 32) × (p < 2 ^ 32) }
     ensures { result ≡ tight (rooms_from counts starts deltas coefficients) s p }
 {
-    if counts < s {
-        return true;
-    }
-    if starts < 2 * s {
-        return true;
-    }
-    if coefficients < 128 * s {
-        return true;
-    }
-    deltas < 2 * p
+    counts < s || starts < 2 * s || coefficients < 128 * s || deltas < 2 * p
 }
 
 // The first fault of a file, with buffers of these lengths.
@@ -46,20 +36,16 @@ fn judge_whole(
     starts: usize,
     deltas: usize,
     coefficients: usize,
-) -> Verdict
+) -> Result<(), Refusal>
     ensures { result ≡ first_fault (whole_checks (rooms_from counts starts deltas coefficients) bytes.now) }
 {
-    match judge(bytes) {
-        Verdict::Fault(c, place) => Verdict::Fault(c, place),
-        Verdict::Fine => {
-            let s = number_at(bytes, 1) as usize;
-            let p = number_at(bytes, 2) as usize;
-            if lacks_room(counts, starts, deltas, coefficients, s, p) {
-                return Verdict::Fault(Code::Room, 0);
-            }
-            Verdict::Fine
-        }
+    judge(bytes)?;
+    let s = number_at(bytes, 1) as usize;
+    let p = number_at(bytes, 2) as usize;
+    if lacks_room(counts, starts, deltas, coefficients, s, p) {
+        return Err((Code::Room, 0));
     }
+    Ok(())
 }
 
 pub fn trace_read(
@@ -68,19 +54,17 @@ pub fn trace_read(
     starts: &mut [f32],
     deltas: &mut [i32],
     coefficients: &mut [i32],
-) -> ReadAnswer
+) -> Result<Read, Refusal>
     ensures { leaves result counts.new starts.new deltas.new coefficients.new
         ≡ read_trace_of (rooms_of counts.old starts.old deltas.old coefficients.old) bytes.now }
 {
     wipe(counts, starts, deltas, coefficients);
-    match judge_whole(
+    judge_whole(
         bytes,
         counts.len(),
         starts.len(),
         deltas.len(),
         coefficients.len(),
-    ) {
-        Verdict::Fault(c, place) => ReadAnswer::Refused(c, place),
-        Verdict::Fine => load(bytes, counts, starts, deltas, coefficients),
-    }
+    )?;
+    Ok(load(bytes, counts, starts, deltas, coefficients))
 }

@@ -1,15 +1,21 @@
 -- `lacks_room` meets its contract: four comparisons.
-use Rattle.trace_read.proofs.Loads.{tight_counts, tight_starts, tight_coefficients, tight_deltas}
+use borrow.Author.Tests.{lt-ltb, le-ltb}
+use Rattle.trace_read.proofs.Loads.{or_then, or_else, tight_cells, tight_deltas}
 use Rattle.trace_read.proofs.lacks_room.Goals as goal
-
-pub returns-then-counts-s : goal.returns-then-counts-s
-returns-then-counts-s c = let a = c.args in tight_counts a.counts a.starts a.deltas a.coefficients a.s a.p c.if-counts-s.true
-
-pub returns-then-starts-s : goal.returns-then-starts-s
-returns-then-starts-s c = let a = c.args in tight_starts a.counts a.starts a.deltas a.coefficients a.s a.p c.if-counts-s.false c.if-starts-s.true
+use Rattle.trace_read.proofs.lacks_room.Goals.{then-counts-s, else-counts-s, then-starts-s, else-starts-s}
 
 pub returns-then-coefficients-s : goal.returns-then-coefficients-s
-returns-then-coefficients-s c = let a = c.args in tight_coefficients a.counts a.starts a.deltas a.coefficients a.s a.p c.if-counts-s.false c.if-starts-s.false c.if-coefficients-s.true
+returns-then-coefficients-s c =
+    let a = c.args in
+    tight_cells a.counts a.starts a.deltas a.coefficients a.s a.p c.if-counts-s.value c.if-starts-s.value
+    (elim c.if-counts-s.branch [ then-counts-s w ↦ or_then _ (lt-ltb _ _ w.if-counts-s.true) w.value-is | else-counts-s w ↦ or_else (le-ltb _ _ w.if-counts-s.false) w.value-is ])
+    (elim c.if-starts-s.branch [ then-starts-s w ↦ or_then _ w.if-starts-s.true w.value-is | else-starts-s w ↦ or_else w.if-starts-s.false w.value-is ])
+    c.if-coefficients-s.true
 
-pub returns : goal.returns
-returns c = let a = c.args in tight_deltas a.counts a.starts a.deltas a.coefficients a.s a.p c.if-counts-s.false c.if-starts-s.false c.if-coefficients-s.false
+pub returns-else-coefficients-s : goal.returns-else-coefficients-s
+returns-else-coefficients-s c =
+    let a = c.args in
+    tight_deltas a.counts a.starts a.deltas a.coefficients a.s a.p c.if-counts-s.value c.if-starts-s.value
+    (elim c.if-counts-s.branch [ then-counts-s w ↦ or_then _ (lt-ltb _ _ w.if-counts-s.true) w.value-is | else-counts-s w ↦ or_else (le-ltb _ _ w.if-counts-s.false) w.value-is ])
+    (elim c.if-starts-s.branch [ then-starts-s w ↦ or_then _ w.if-starts-s.true w.value-is | else-starts-s w ↦ or_else w.if-starts-s.false w.value-is ])
+    c.if-coefficients-s.false
