@@ -3,215 +3,122 @@
 
 ghost use Rattle.std.specs.Prelude.{◌≤◌, length};
 
-use profile::ProfileAnswer;
+use profile::Unmet;
+use shape::Description;
+use std::fmt::Display;
 use std::io::Stdout;
+use words::{Failure, out, wrong};
 
-// Where the first number other than 0 stands, from one index up to another; the latter where there is none.
-fn first_other(c: &[i32], from: usize, to: usize) -> usize
-    requires { (from ≤ to) × (to ≤ length c.now) }
-    ensures { (from ≤ result) × (result ≤ to) }
-{
-    let mut i = from;
-    while i < to {
-        if c[i] != 0 {
-            return i;
-        }
-        i += 1;
-    }
-    to
+// A rule that is broken.
+fn broken<D: Display + Drop>(what: D) -> Failure {
+    wrong(Failure::Refused, format_args!("PROFILE (21){what}\n"))
 }
 
-fn wide(n: u32) -> u64 {
-    n as u64
-}
-
-// A number of either sign as the value that a list holds for it.
-fn packed(v: i32) -> u64 {
-    list::pack_signed(v) as u64
-}
-
-fn say_splines(splines: usize) -> u8
-    ensures { result ≤ 3 }
-{
-    words::wrong(
-        1,
-        b"PROFILE (21), rule 1: # splines, and 1 to 4096 are allowed\n",
-        &[splines as u64],
-    )
-}
-
-fn say_deltas(spline: usize, counts: &[u32], edition: u32) -> u8
-    ensures { result ≤ 3 }
-{
-    if counts.len() <= spline {
-        return 1;
-    }
+fn of_deltas(spline: usize, counts: &[u32], edition: u32) -> Failure {
+    let Some(count) = counts.get(spline) else {
+        return Failure::Refused;
+    };
     let most = if edition == 1 { 64 } else { 256 };
-    words::wrong(
-        1,
-        b"PROFILE (21) at spline #, rule 2: # double deltas, and 1 to # are allowed\n",
-        &[spline as u64, wide(counts[spline]), most],
-    )
+    broken(format_args!(
+        " at spline {spline}, rule 2: {count} double deltas, and 1 to {most} are allowed"
+    ))
 }
 
-fn say_adjustment(adjustment: i32, edition: u32) -> u8
-    ensures { result ≤ 3 }
-{
-    let told = packed(adjustment);
-    if edition == 1 {
-        return words::wrong(
-            1,
-            b"PROFILE (21), rule 3: the adjustment is ~, and 0 is allowed\n",
-            &[told],
-        );
-    }
-    words::wrong(
-        1,
-        b"PROFILE (21), rule 3: the adjustment is ~, and -8 to 8 are allowed\n",
-        &[told],
-    )
+fn of_adjustment(adjustment: i32, edition: u32) -> Failure {
+    let allowed = if edition == 1 { "0 is" } else { "-8 to 8 are" };
+    broken(format_args!(", rule 3: the adjustment is {adjustment}, and {allowed} allowed"))
 }
 
-fn say_sigma(spline: usize, value: i32, edition: u32) -> u8
-    ensures { result ≤ 3 }
-{
+fn of_sigma(spline: usize, value: i32, edition: u32) -> Failure {
     let most = if edition == 1 { 400 } else { 1600 };
-    words::wrong(
-        1,
-        b"PROFILE (21) at spline #, rule 5: the first sigma coefficient is ~, and 1 to # are allowed\n",
-        &[spline as u64, packed(value), most],
-    )
+    broken(format_args!(
+        " at spline {spline}, rule 5: the first sigma coefficient is {value}, and 1 to {most} are allowed"
+    ))
 }
 
-// A coefficient that is to be 0, by its number among those of its kind.
-fn say_coefficient(text: &[u8], spline: usize, k: usize, value: i32) -> u8
-    ensures { result ≤ 3 }
-{
-    words::wrong(1, text, &[spline as u64, k as u64, packed(value)])
+// The first coefficient of a kind, from one of them on, that is to be 0 and is not; c are the 32 of the kind.
+fn of_kind(rule: u32, spline: usize, kind: &str, c: &[i32], from: usize) -> Option<Failure> {
+    for (k, value) in c.iter().enumerate() {
+        if from <= k && *value != 0 {
+            return Some(broken(format_args!(
+                " at spline {spline}, rule {rule}: {kind} coefficient {k} is {value}, and 0 is allowed"
+            )));
+        }
+    }
+    None
 }
 
 // The first X coefficient of a spline other than 0, or the first such B coefficient; c are its 128.
-fn say_colour(spline: usize, c: &[i32]) -> u8
+fn of_colour(spline: usize, c: &[i32]) -> Option<Failure>
     requires { 128 ≤ length c.now }
-    ensures { result ≤ 3 }
 {
-    let x = first_other(c, 0, 32);
-    if x < 32 {
-        return say_coefficient(
-            b"PROFILE (21) at spline #, rule 6: X coefficient # is ~, and 0 is allowed\n",
-            spline,
-            x,
-            c[x],
-        );
+    match of_kind(6, spline, "X", &c[0..32], 0) {
+        None => of_kind(6, spline, "B", &c[64..96], 0),
+        told => told,
     }
-    let b = first_other(c, 64, 96);
-    if b < 96 {
-        return say_coefficient(
-            b"PROFILE (21) at spline #, rule 6: B coefficient # is ~, and 0 is allowed\n",
-            spline,
-            b - 64,
-            c[b],
-        );
-    }
-    1
-}
-
-fn say_thickness(spline: usize, c: &[i32]) -> u8
-    requires { 128 ≤ length c.now }
-    ensures { result ≤ 3 }
-{
-    let s = first_other(c, 97, 128);
-    if s < 128 {
-        return say_coefficient(
-            b"PROFILE (21) at spline #, rule 4: sigma coefficient # is ~, and 0 is allowed\n",
-            spline,
-            s - 96,
-            c[s],
-        );
-    }
-    1
 }
 
 // A rule that the coefficients of a spline break.
-fn say_spline(rule: u32, spline: usize, c: &[i32], edition: u32) -> u8
+fn of_spline(rule: u32, spline: usize, c: &[i32], edition: u32) -> Option<Failure>
     requires { 128 ≤ length c.now }
-    ensures { result ≤ 3 }
 {
-    if rule == 4 {
-        return say_thickness(spline, c);
+    match rule {
+        4 => of_kind(4, spline, "sigma", &c[96..128], 1),
+        5 => Some(of_sigma(spline, c[96], edition)),
+        _ => of_colour(spline, c),
     }
-    if rule == 5 {
-        return say_sigma(spline, c[96], edition);
-    }
-    say_colour(spline, c)
 }
 
-fn say_rule(
+fn of_rule(
     rule: u32,
     spline: usize,
-    counts: &[u32],
-    coefficients: &[i32],
+    description: &Description<'_>,
     adjustment: i32,
     edition: u32,
-) -> u8
-    ensures { result ≤ 3 }
-{
-    if rule == 1 {
-        return say_splines(counts.len());
+) -> Failure {
+    let splines = description.counts.len();
+    match rule {
+        1 => broken(format_args!(", rule 1: {splines} splines, and 1 to 4096 are allowed")),
+        2 => of_deltas(spline, description.counts, edition),
+        3 => of_adjustment(adjustment, edition),
+        _ => {
+            if description.coefficients.len() / 128 <= spline {
+                return Failure::Refused;
+            }
+            let c = &description.coefficients[128 * spline..];
+            of_spline(rule, spline, c, edition).unwrap_or(Failure::Refused)
+        }
     }
-    if rule == 2 {
-        return say_deltas(spline, counts, edition);
-    }
-    if rule == 3 {
-        return say_adjustment(adjustment, edition);
-    }
-    if coefficients.len() / 128 <= spline {
-        return 1;
-    }
-    say_spline(rule, spline, &coefficients[128 * spline..], edition)
 }
 
-// Nothing where the description meets the edition; else the status, after a line that says why it does not.
-pub fn judge(
-    counts: &[u32],
-    starts: &[f32],
-    deltas: &[i32],
-    coefficients: &[i32],
-    adjustment: i32,
-    edition: u32,
-) -> u8
-    ensures { result ≤ 3 }
+// Whether the description meets the edition; else how that fails, after a line that says why it does not.
+pub fn judge(description: &Description<'_>, adjustment: i32, edition: u32) -> Result<(), Failure>
+    ensures { Unit {0} }
 {
-    match profile::profile(counts, starts, deltas, coefficients, adjustment, edition) {
-        ProfileAnswer::Meets => 0,
-        ProfileAnswer::Broken(rule, spline) => {
-            say_rule(rule, spline, counts, coefficients, adjustment, edition)
+    match profile::profile(description, adjustment, edition) {
+        Ok(()) => Ok(()),
+        Err(Unmet::Broken(rule, spline)) => {
+            Err(of_rule(rule, spline, description, adjustment, edition))
         }
-        ProfileAnswer::Refused(_, _) => {
-            words::wrong(2, b"an edition of the fineness profile is 1 or 2\n", &[])
-        }
+        Err(Unmet::Refused(_, _)) => Err(wrong(
+            Failure::WrongUse,
+            "an edition of the fineness profile is 1 or 2\n",
+        )),
     }
 }
 
 // The same, with a yes where it meets the edition.
 pub fn say(
     to: Stdout,
-    counts: &[u32],
-    starts: &[f32],
-    deltas: &[i32],
-    coefficients: &[i32],
+    description: &Description<'_>,
     adjustment: i32,
     edition: u32,
-) -> u8
-    ensures { result ≤ 3 }
+) -> Result<(), Failure>
+    ensures { Unit {0} }
 {
-    let status = judge(counts, starts, deltas, coefficients, adjustment, edition);
-    if status != 0 {
-        return status;
-    }
-    words::out(
+    judge(description, adjustment, edition)?;
+    out(
         to,
-        b"yes: it meets edition # of the fineness profile\n",
-        &[edition as u64],
+        format_args!("yes: it meets edition {edition} of the fineness profile\n"),
     )
 }
