@@ -1,15 +1,16 @@
 -- Reading a trace file of either version: the checks in their order, what an accepted file says, and what a call of `trace_read2` leaves.
-use Rattle.std.specs.Prelude.{List, [], ◌∷◌, ◌++◌, ℕ, ◌*◌, ltb, length, get_or, ℤ, Float}
+use Rattle.std.specs.Prelude.{List, [], ◌∷◌, ◌++◌, ℕ, ◌*◌, ltb, length, get_or, ℤ, Float, Result, Ok, Err}
 use Rattle.codes.specs.declared.Code.TheVariants.{Short, Room, Header, Edition}
 use Rattle.list.specs.List.{ListRooms, Got, Described}
 use Rattle.reader.specs.Read.{ReadOutcome, outcome}
 use Rattle.reader.specs.Read as reading
-use Rattle.read_list.specs.declared.ReadAnswer.{ReadAnswer}
+use Rattle.codes.specs.Refusal.{Refusal}
+use Rattle.read_list.specs.Answer.{ReadAnswer}
 use Rattle.writer.specs.Write.{Check, check, first_fault}
 use Rattle.little.specs.Little.{numbers_in}
 use Rattle.trace.specs.Read.{splines_in, points_in, offset_checks, body_checks, tight, described_in, judged}
 use Rattle.trace2.specs.Editions.{unknown, header_long, edition_in}
-use Rattle.trace2.specs.declared.FileAnswer.{FileAnswer}
+use Rattle.trace2.specs.declared.FileRead.{FileRead}
 
 -- ---- the checks, over a file of so many bytes and its numbers
 
@@ -36,14 +37,21 @@ read_file rooms bytes =
     let ns = numbers_in bytes in
     judged (described_in (header_long (get_or ns 0 0)) ns) (first_fault (whole_checks2 rooms bytes))
 
+-- what was read and its edition, or a code and a place
+abbrev pub FileAnswer : Type 0
+FileAnswer = Result FileRead Refusal
+
+abbrev pub file_done : ℕ → ℕ → ℤ → ℕ → FileAnswer
+file_done s p a e = Ok (record { read = record { splines = s; points = p; adjustment = a }; edition = e })
+
 -- an answer without its edition, and its edition, which is 0 where the file is refused
 abbrev pub answer_of : FileAnswer → ReadAnswer
-answer_of (FileAnswer.Done s p a e) = ReadAnswer.Done s p a
-answer_of (FileAnswer.Refused c q) = ReadAnswer.Refused c q
+answer_of (Ok r) = Ok r.read
+answer_of (Err r) = Err r
 
 abbrev pub edition_of : FileAnswer → ℕ
-edition_of (FileAnswer.Done s p a e) = e
-edition_of (FileAnswer.Refused c q) = 0
+edition_of (Ok r) = r.edition
+edition_of (Err r) = 0
 
 -- what a call that reads leaves, and the edition beside it
 pub record FileOutcome : Type 0 where
@@ -55,8 +63,8 @@ file_leaves r ns zs ds cs = record { read = reading.leaves (answer_of r) ns zs d
 
 -- the edition that is told with an answer
 abbrev pub edition_told : ReadAnswer → ℕ → ℕ
-edition_told (ReadAnswer.Done s p a) e = e
-edition_told (ReadAnswer.Refused c q) e = 0
+edition_told (Ok r) e = e
+edition_told (Err r) e = 0
 
 abbrev pub with_edition : ℕ → ReadOutcome → FileOutcome
 with_edition e o = record { read = o; edition = edition_told o.answer e }

@@ -4,18 +4,18 @@
 ghost use Rattle.std.specs.Prelude.{◌≡◌};
 ghost use Rattle.trace2.specs.Editions.{unknown};
 
-use codes::Code;
+use read_list::Read;
 
-// What reading a trace file of either version answers: splines, points, adjustment and edition, or a code and a place.
-#[derive(Clone, Copy)]
-pub enum FileAnswer {
-    Done(u32, u32, i32, u32),
-    Refused(Code, usize),
+// What a trace file of either version holds: what was read, and its edition.
+#[derive(Clone, Copy, Debug, PartialEq, Eq)]
+pub struct FileRead {
+    pub read: Read,
+    pub edition: u32,
 }
 
 // Whether a number is no version, and no edition.
 pub fn unknown(number: u32) -> bool
     ensures { result ≡ unknown number }
 {
-    if number == 1 { false } else { number != 2 }
+    number != 1 && number != 2
 }
