@@ -7,13 +7,11 @@ use borrow.Author.Tests.{lt-ltb, le-ltb}
 use Rattle.codes.specs.declared.Code.{Code}
 use Rattle.codes.specs.declared.Code.TheVariants.{Short, Edition}
 use Rattle.writer.specs.Write.{Check, check, first_fault}
-use Rattle.write_judge.specs.Verdict.{Verdict}
 use Rattle.write_judge.specs.Verdict.{Fine, Fault}
 use Rattle.write_judge.proofs.Checks.{fails, passes, passed, faults_before, fine_before, both_fine}
 use Rattle.trace.specs.Read.{offset_checks, body_checks}
 use Rattle.trace2.specs.Editions.{unknown}
 use Rattle.trace2.specs.Read.{laid_checks}
-use Rattle.trace2_judge.specs.Steps.{either_fault}
 
 pub edition_fault : (e : ℕ) → unknown e ≡ true → Fault Edition 32 ≡ first_fault (check (unknown e) Edition 32 ∷ [])
 edition_fault e h = sym (fails _ Edition 32 [] h)
@@ -21,17 +19,6 @@ edition_fault e h = sym (fails _ Edition 32 [] h)
 pub edition_fine : (e : ℕ) → unknown e ≡ false → Fine ≡ first_fault (check (unknown e) Edition 32 ∷ [])
 unfolding first_fault
 edition_fine e h = rw h
-
--- of two lists of checks, the first that finds a fault
-in_order : (xs ys : List Check) → either_fault (first_fault xs) (first_fault ys) ≡ first_fault (xs ++ ys)
-in_order xs ys = go (first_fault xs) refl
-  where
-    go : (v : Verdict) → first_fault xs ≡ v → either_fault v (first_fault ys) ≡ first_fault (xs ++ ys)
-    go Fine f = sym (fine_before xs ys f)
-    go (Fault c p) f = sym (faults_before xs ys c p f)
-
-pub first_then : (xs ys : List Check) {v w r : Verdict} → v ≡ first_fault xs → w ≡ first_fault ys → r ≡ either_fault v w → r ≡ first_fault (xs ++ ys)
-first_then xs ys f g is = is ∙ rw (f, g) (in_order xs ys)
 
 module _ (e size : ℕ) (ns : List ℕ) where
   abbrev Head : List Check

@@ -1,15 +1,8 @@
 -- What the judging of a file of version 2 speaks of.
 use Rattle.std.specs.Prelude.{◌≡◌, List, ℕ, ◌≤◌, length, get_or}
-use Rattle.write_judge.specs.Verdict.{Verdict}
-use Rattle.write_judge.specs.Verdict.{Fine, Fault}
 use Rattle.little.specs.Little.{numbers_in}
 
 -- a file says version 2: it has the first eight numbers, and the first of them is 2
 pub record Second (bytes : List ℕ) : Type 0 where
   pub long : 32 ≤ length bytes
   pub two : get_or (numbers_in bytes) 0 0 ≡ 2
-
--- the first of two verdicts that is a fault
-abbrev pub either_fault : Verdict → Verdict → Verdict
-either_fault Fine w = w
-either_fault (Fault c p) w = Fault c p
