@@ -12,12 +12,14 @@ write_second-requires c = sym c.is_plain.ensures ∙ c.if-is_plain.false
 pub returns-then-is_plain : goal.returns-then-is_plain
 returns-then-is_plain c =
     let a = c.args in
+    let d = a.description.now in
     let z = to_z-of_z {w = w32} {z = a.adjustment} c.ranges.adjustment in
     (rw z at c.trace_write.ensures)
-    ∙ plain_written a.counts.now a.starts.now a.deltas.now a.coefficients.now a.adjustment a.version a.edition (length a.bytes.now) (sym c.is_plain.ensures ∙ c.if-is_plain.true)
+    ∙ plain_written d.counts.now d.starts.now d.deltas.now d.coefficients.now a.adjustment a.version a.edition (length a.bytes.now) (sym c.is_plain.ensures ∙ c.if-is_plain.true)
 
 pub returns-else-is_plain : goal.returns-else-is_plain
 returns-else-is_plain c =
     let a = c.args in
+    let d = a.description.now in
     let z = to_z-of_z {w = w32} {z = a.adjustment} c.ranges.adjustment in
     rw z at c.write_second.ensures
