@@ -1,4 +1,3 @@
 -- The laws of the crate `stored`.
-pub mod Complements
 pub mod Patterns
 pub mod Begun

@@ -26,7 +26,7 @@ pub fn float(bits: u32) -> f32
 pub fn long(low: u32, high: u32) -> u64
     ensures { result ≡ low + 4294967296 * high }
 {
-    (low as u64) + 4294967296 * (high as u64)
+    u64::from(low) + 4294967296 * u64::from(high)
 }
 
 // The f64 of a bit pattern.
@@ -57,53 +57,34 @@ pub fn is_float(x: f32, bits: u32) -> bool
 pub fn is_long(n: u64, output: &[u32]) -> bool
     ensures { result ≡ true → (length output.now ≡ 2) × (n ≡ long_in output.now 0) }
 {
-    if output.len() != 2 {
-        return false;
-    }
-    n == long(output[0], output[1])
+    output.len() == 2 && n == long(output[0], output[1])
 }
 
 // The signed number of a two's complement.
 pub fn signed(n: u64) -> i64
     ensures { result ≡ to_z w64 n }
 {
-    if n < 9223372036854775808 {
-        n as i64
-    } else {
-        let h = (18446744073709551615 - n) as i64;
-        -1 - h
-    }
+    n.cast_signed()
 }
 
 pub fn signed_word(n: u32) -> i32
     ensures { result ≡ to_z w32 n }
 {
-    if n < 2147483648 {
-        n as i32
-    } else {
-        let h = (4294967295 - n) as i32;
-        -1 - h
-    }
+    n.cast_signed()
 }
 
 // Whether z is the signed number of two words.
 pub fn is_signed(z: i64, output: &[u32]) -> bool
     ensures { result ≡ true → length output.now ≡ 2 }
 {
-    if output.len() != 2 {
-        return false;
-    }
-    z == signed(long(output[0], output[1]))
+    output.len() == 2 && z == signed(long(output[0], output[1]))
 }
 
 // Whether x is the number of one word.
 pub fn is_only_float(x: f32, output: &[u32]) -> bool
     ensures { result ≡ true → (length output.now ≡ 1) × (x ≡ float_in output.now 0) }
 {
-    if output.len() != 1 {
-        return false;
-    }
-    is_float(x, output[0])
+    output.len() == 1 && is_float(x, output[0])
 }
 
 // The word of a refusal's number. spline.rs judges double deltas where it reads a list and nowhere else: what the scope calls DELTA (5) is
@@ -131,10 +112,8 @@ fn float_at(words: &[u32], i: usize) -> f32
 pub fn floats(words: &[u32], out: &mut [f32])
     ensures { out.new ≡ table (float_in words.now) (length out.old) }
 {
-    let mut i = 0;
-    while i < out.len() {
+    for i in 0..out.len() {
         out[i] = float_at(words, i);
-        i += 1;
     }
 }
 
@@ -153,10 +132,8 @@ fn signed_at(words: &[u32], i: usize) -> i32
 pub fn signeds(words: &[u32], out: &mut [i32])
     ensures { out.new ≡ table (signed_in words.now) (length out.old) }
 {
-    let mut i = 0;
-    while i < out.len() {
+    for i in 0..out.len() {
         out[i] = signed_at(words, i);
-        i += 1;
     }
 }
 
@@ -164,15 +141,13 @@ pub fn signeds(words: &[u32], out: &mut [i32])
 pub fn begin_f32(values: &[f32], words: &[u32]) -> bool
     ensures { result ≡ true → Begins values.now words.now }
 {
-    let mut i = 0;
-    while i < words.len() {
+    for i in 0..words.len() {
         if values.len() <= i {
             return false;
         }
         if !is_float(values[i], words[i]) {
             return false;
         }
-        i += 1;
     }
     true
 }
@@ -181,15 +156,13 @@ pub fn begin_f32(values: &[f32], words: &[u32]) -> bool
 pub fn begin_u32(values: &[u32], words: &[u32]) -> bool
     ensures { result ≡ true → BeginsWith values.now words.now }
 {
-    let mut i = 0;
-    while i < words.len() {
+    for i in 0..words.len() {
         if values.len() <= i {
             return false;
         }
         if values[i] != words[i] {
             return false;
         }
-        i += 1;
     }
     true
 }

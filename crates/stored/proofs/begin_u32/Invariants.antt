@@ -1,11 +1,8 @@
 -- The first i values are their words.
-use Prim.Native.Nat.{ℕ, ◌-◌}
-use lib.ListN.{length, get_or}
+use Prim.Native.Nat.{ℕ}
+use lib.ListN.{get_or}
 use Rattle.stored.proofs.Begun.{Begun}
 use Rattle.stored.proofs.begin_u32.Given as goal
 
 abbrev pub invariant-loop-i : goal.invariant-loop-i
 invariant-loop-i l = Begun 0 (λ (k : ℕ). get_or l.words k 0) l.values l.words l.i
-
-abbrev pub decreases-loop-i : goal.decreases-loop-i
-decreases-loop-i l = length l.words - l.i

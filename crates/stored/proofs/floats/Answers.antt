@@ -6,9 +6,6 @@ use Rattle.stored.proofs.floats.Goals as goal
 pub loop-i-init : goal.loop-i-init
 loop-i-init c = filling_none _ _ _ refl
 
-pub overflow_add-i : goal.overflow_add-i
-overflow_add-i c = omega (arith, c.loop-i.invariant.size, c.loop-i.invariant.some)
-
 pub loop-i-preserved : goal.loop-i-preserved
 loop-i-preserved c = filling_more _ c.loop-i.i c.loop-i.invariant (omega (arith, c.loop-i.invariant.size)) c.float_at.ensures
 

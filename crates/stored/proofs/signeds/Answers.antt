@@ -8,9 +8,6 @@ use Rattle.stored.proofs.signeds.Goals as goal
 pub loop-i-init : goal.loop-i-init
 loop-i-init c = filling_none _ _ _ refl
 
-pub overflow_add-i : goal.overflow_add-i
-overflow_add-i c = omega (arith, c.loop-i.invariant.size, c.loop-i.invariant.some)
-
 pub loop-i-preserved : goal.loop-i-preserved
 loop-i-preserved c = filling_more _ c.loop-i.i c.loop-i.invariant (omega (arith, c.loop-i.invariant.size)) (to_z-of_z {w = w32} {z = c.signed_at.result} (record { sfits = c.signed_at.type_inv }) ∙ c.signed_at.ensures)
 

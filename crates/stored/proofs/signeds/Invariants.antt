@@ -1,5 +1,4 @@
 -- The first i cells are set.
-use Prim.Native.Nat.{◌-◌}
 use lib.ListN.{length}
 use Rattle.dequantize.proofs.Tables.{Filling}
 use Rattle.stored.specs.Stored.{signed_in}
@@ -7,6 +6,3 @@ use Rattle.stored.proofs.signeds.Given as goal
 
 abbrev pub invariant-loop-i : goal.invariant-loop-i
 invariant-loop-i l = Filling (signed_in l.words) (length l.initial.out) l.out l.i
-
-abbrev pub decreases-loop-i : goal.decreases-loop-i
-decreases-loop-i l = length l.initial.out - l.i
