@@ -17,7 +17,8 @@ use Rattle.list.specs.List.{ListRooms, got, Described, described}
 use Rattle.list.specs.Steps.{f32_of}
 use Rattle.reader.specs.Read.{ReadOutcome}
 use Rattle.reader.specs.Read as reading
-use Rattle.read_list.specs.declared.ReadAnswer.{ReadAnswer}
+use Rattle.read_list.specs.Answer.{done}
+use Rattle.read_list.proofs.Answers.{same_done}
 use Rattle.writer.specs.Write.{first_fault, whole_of}
 use Rattle.write_judge.specs.Verdict.{Fine}
 use Rattle.write_judge.proofs.Checks.{passed, both_fine}
@@ -439,25 +440,23 @@ module _ (v : Layout) (more bytes : List ℕ) (B C : Type 0) (found : FileFound 
     pub coefficients : take (128 * s) q.coefficients ≡ cs_in H bytes
     pub file : file_of v more (described a (map whole_of (map f32_of (zs_in H bytes))) (ns_in H bytes) (ds_in H bytes) (cs_in H bytes)) ≡ bytes
 
-  pub taken : (rooms : ListRooms) (q : ReadOutcome) (s p : ℕ) (a : ℤ) → q ≡ reading.outcome rooms (got (described_in H N) []) → q.answer ≡ ReadAnswer.Done s p a → Taken q s p a
+  pub taken : (rooms : ListRooms) (q : ReadOutcome) (s p : ℕ) (a : ℤ) → q ≡ reading.outcome rooms (got (described_in H N) []) → q.answer ≡ done s p a → Taken q s p a
   unfolding described_in
   taken rooms q s p a is e =
       let xs = ns_in H bytes in
       let ss = map f32_of (zs_in H bytes) in
       let ys = ds_in H bytes in
       let ws = cs_in H bytes in
-      let ans : ReadAnswer.Done (length xs) (points_of xs) (signed_in (get_or N 3 0)) ≡ ReadAnswer.Done s p a = sym (ap (λ (u : ReadOutcome). u.answer) is) ∙ e in
-      let es : length xs ≡ s = cc in
-      let ep : points_of xs ≡ p = cc in
-      let ea : signed_in (get_or N 3 0) ≡ a = cc in
-      let i : s ≡ S bytes = sym es ∙ counts_length in
-      let j : p ≡ P bytes = sym ep ∙ ns_sum in
+      let ans : done (length xs) (points_of xs) (signed_in (get_or N 3 0)) ≡ done s p a = sym (ap (λ (u : ReadOutcome). u.answer) is) ∙ e in
+      let same = same_done ans in
+      let i : s ≡ S bytes = sym same.0 ∙ counts_length in
+      let j : p ≡ P bytes = sym same.1 ∙ ns_sum in
       record {
-        counts = ap (take s) (ap (λ (u : ReadOutcome). u.counts) is) ∙ take_at xs _ s es;
+        counts = ap (take s) (ap (λ (u : ReadOutcome). u.counts) is) ∙ take_at xs _ s same.0;
         starts = ap (take (2 * s)) (ap (λ (u : ReadOutcome). u.starts) is) ∙ take_at ss _ (2 * s) (zs_long ∙ omega arith);
         deltas = ap (take (2 * p)) (ap (λ (u : ReadOutcome). u.deltas) is) ∙ take_at ys _ (2 * p) (ds_long ∙ omega arith);
         coefficients = ap (take (128 * s)) (ap (λ (u : ReadOutcome). u.coefficients) is) ∙ take_at ws _ (128 * s) (cs_long ∙ omega arith);
-        file = rw (zs_back, ← ea) file_again;
+        file = rw (zs_back, ← same.2) file_again;
       }
 
 -- version 1

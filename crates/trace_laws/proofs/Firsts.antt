@@ -7,6 +7,7 @@ use native.Mathlib.Nat.{not-suc-le-zero, le_of_suc-le-suc}
 use native.Mathlib.Omega.{arith}
 use lib.ListN.{length, get_or}
 use Rattle.codes.specs.declared.Code.{Code}
+use Rattle.codes.proofs.Refusals.{same_refusal}
 use Rattle.writer.specs.Write.{Check, check, first_fault}
 use Rattle.write_judge.specs.Verdict.{Verdict}
 use Rattle.write_judge.specs.Verdict.{Fine, Fault}
@@ -18,9 +19,8 @@ module _ (R : Code → ℕ → Type 0) (c : Code) (q : ℕ) where
       → (b ≡ true → R k p) → (b ≡ false → first_fault rest ≡ Fault c q → R c q) → R c q
   unfolding first_fault
   head_or true k p rest e f g =
-      let x : k ≡ c = cc in
-      let y : p ≡ q = cc in
-      subst (λ (d : Code). R d q) x (subst (R k) y (f refl))
+      let same = same_refusal e in
+      subst (λ (d : Code). R d q) same.0 (subst (R k) same.1 (f refl))
   head_or false k p rest e f g = g refl e
 
   pub append_or : (xs ys : List Check) → first_fault (xs ++ ys) ≡ Fault c q

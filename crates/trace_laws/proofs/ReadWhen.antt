@@ -13,7 +13,9 @@ use Rattle.codes.specs.declared.Code.TheVariants.{Short, Room, Header}
 use Rattle.list.specs.List.{ListRooms, Got, Described, described, lacking}
 use Rattle.reader.specs.Read.{ReadOutcome, outcome}
 use Rattle.reader.specs.Refusals.{ReadRefused}
-use Rattle.read_list.specs.declared.ReadAnswer.{ReadAnswer}
+use Rattle.codes.specs.Refusal.{refused}
+use Rattle.codes.proofs.Refusals.{same_refusal}
+use Rattle.read_list.specs.Answer.{ReadAnswer}
 use Rattle.writer.specs.Write.{check, first_fault}
 use Rattle.write_judge.specs.Verdict.{Verdict}
 use Rattle.write_judge.specs.Verdict.{Fine, Fault}
@@ -135,27 +137,26 @@ module _ (rooms : ListRooms) (bytes : List ℕ) where
 
   -- ---- the answers
 
-  answer_of_lem : (c : Code) (q : ℕ) → (read_trace_of rooms bytes).answer ≡ ReadAnswer.Refused c q → first_fault (whole_checks rooms bytes) ≡ Fault c q
+  answer_of_lem : (c : Code) (q : ℕ) → (read_trace_of rooms bytes).answer ≡ refused c q → first_fault (whole_checks rooms bytes) ≡ Fault c q
   unfolding read_trace_of
   answer_of_lem c q e = go (first_fault (whole_checks rooms bytes)) refl
     where
-      done : (x : Described) → (outcome rooms (Got.got x [])).answer ≡ ReadAnswer.Refused c q → first_fault (whole_checks rooms bytes) ≡ Fault c q
-      done (described a zs ns ds cs) e = let z : ◌≡◌ {A = ℕ} 0 1 = cc in absurd (omega arith)
+      whole : (x : Described) → (outcome rooms (Got.got x [])).answer ≡ refused c q → first_fault (whole_checks rooms bytes) ≡ Fault c q
+      whole (described a zs ns ds cs) e = let z : ◌≡◌ {A = ℕ} 0 1 = cc in absurd (omega arith)
 
       go : (v : Verdict) → first_fault (whole_checks rooms bytes) ≡ v → first_fault (whole_checks rooms bytes) ≡ Fault c q
-      go Fine f = done (described_in 8 N) (ap (λ (g : Got Described). (outcome rooms g).answer) (sym (judged_fine rooms bytes f)) ∙ e)
+      go Fine f = whole (described_in 8 N) (ap (λ (g : Got Described). (outcome rooms g).answer) (sym (judged_fine rooms bytes f)) ∙ e)
       go (Fault k p) f =
-          let z : ReadAnswer.Refused k p ≡ ReadAnswer.Refused c q = ap (λ (g : Got Described). (outcome rooms g).answer) (sym (judged_fault rooms bytes k p f)) ∙ e in
-          let x : k ≡ c = cc in
-          let y : p ≡ q = cc in
-          f ∙ ap (λ (d : Code). Fault d p) x ∙ ap (Fault c) y
+          let z : ◌≡◌ {A = ReadAnswer} (refused k p) (refused c q) = ap (λ (g : Got Described). (outcome rooms g).answer) (sym (judged_fault rooms bytes k p f)) ∙ e in
+          let same = same_refusal z in
+          f ∙ ap (λ (d : Code). Fault d p) same.0 ∙ ap (Fault c) same.1
 
-  fault_answer : (c : Code) (q : ℕ) → first_fault (whole_checks rooms bytes) ≡ Fault c q → (read_trace_of rooms bytes).answer ≡ ReadAnswer.Refused c q
+  fault_answer : (c : Code) (q : ℕ) → first_fault (whole_checks rooms bytes) ≡ Fault c q → (read_trace_of rooms bytes).answer ≡ refused c q
   unfolding read_trace_of
   fault_answer c q f = ap (λ (g : Got Described). (outcome rooms g).answer) (judged_fault rooms bytes c q f)
 
   -- refused exactly so
-  pub read_exactly : (c : Code) (q : ℕ) → (read_trace_of rooms bytes).answer ≡ ReadAnswer.Refused c q ↔ R c q
+  pub read_exactly : (c : Code) (q : ℕ) → (read_trace_of rooms bytes).answer ≡ refused c q ↔ R c q
   read_exactly c q = (λ e. fault_told c q (answer_of_lem c q e), λ r. fault_answer c q (told_fault c q r))
 
   pub read_refused : (c : Code) (q : ℕ) (o : ReadOutcome) → o ≡ read_trace_of rooms bytes → R c q → ReadRefused rooms c q o

@@ -8,7 +8,7 @@ use lib.Ieee.{fin, of_int, round}
 use Rattle.list.specs.List.{got, Described, described}
 use Rattle.list.specs.Steps.{f32_of}
 use Rattle.reader.specs.Read.{leaves}
-use Rattle.read_list.specs.declared.ReadAnswer.{ReadAnswer}
+use Rattle.read_list.specs.Answer.{done}
 use Rattle.writer.specs.Write.{first_fault}
 use Rattle.little.specs.Little.{bytes_of, numbers_in}
 use Rattle.trace.specs.Trace.{version1, file_of, number_checks}
@@ -38,7 +38,7 @@ unfolding f32_of of_int round
 start_least = refl
 
 -- all of what the call leaves
-pub small_outcome : read_trace_of small_rooms small_file ≡ leaves (ReadAnswer.Done 1 0 (negsuc 7)) (0 ∷ []) (fin true 3 (pos 0) ∷ fin true 1 (pos 23) ∷ []) [] (replicate 128 (pos 0))
+pub small_outcome : read_trace_of small_rooms small_file ≡ leaves (done 1 0 (negsuc 7)) (0 ∷ []) (fin true 3 (pos 0) ∷ fin true 1 (pos 23) ∷ []) [] (replicate 128 (pos 0))
 unfolding read_trace_of
 small_outcome = rw (small_read, start_minus_3, start_least)
 

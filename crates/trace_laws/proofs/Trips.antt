@@ -18,7 +18,8 @@ use Rattle.list.specs.List.{ListRooms, got, stop, described}
 use Rattle.list.specs.Steps.{f32_of, zero_f32}
 use Rattle.reader.specs.Read.{ReadOutcome}
 use Rattle.reader.specs.Read as reading
-use Rattle.read_list.specs.declared.ReadAnswer.{ReadAnswer}
+use Rattle.codes.specs.Refusal.{refused}
+use Rattle.read_list.specs.Answer.{done}
 use Rattle.writer.specs.Write.{Check, check, first_fault, whole_of, WriteOutcome, leaves, outcome}
 use Rattle.write_judge.specs.Verdict.{Verdict}
 use Rattle.write_judge.specs.Verdict.{Fine, Fault}
@@ -85,7 +86,7 @@ module _ (ns : List ℕ) (ss : List Float) (ds cs : List ℤ) (a : ℤ) (room : 
 pub file_then_read : (ns : List ℕ) (ss : List Float) (ds cs : List ℤ) (a : ℤ) (room : ℕ) (o : WriteOutcome) (n : ℕ)
     → Numbers ns → Floats ss → Signeds cs → mag a < 2 ^ 31 → o ≡ write_trace_of ns ss ds cs a room → o.answer ≡ Done n
     → (rooms : ListRooms) → Enough rooms ns ss ds cs → (q : ReadOutcome) → q ≡ read_trace_of rooms (take n o.list)
-    → q ≡ reading.leaves (ReadAnswer.Done (length ns) (points_of ns) a) (padded rooms.counts 0 ns) (padded rooms.starts zero_f32 ss)
+    → q ≡ reading.leaves (done (length ns) (points_of ns) a) (padded rooms.counts 0 ns) (padded rooms.starts zero_f32 ss)
     (padded rooms.deltas (pos 0) ds) (padded rooms.coefficients (pos 0) cs)
 unfolding read_trace_of
 file_then_read ns ss ds cs a room o n nn f nc na p e rooms h q r =
@@ -102,7 +103,7 @@ pub record DoneRead (rooms : ListRooms) (bytes : List ℕ) (q : ReadOutcome) (s 
   pub fine : first_fault (whole_checks rooms bytes) ≡ Fine
   pub is : q ≡ reading.outcome rooms (got (described_in 8 (numbers_in bytes)) [])
 
-pub done_read : (rooms : ListRooms) (bytes : List ℕ) (q : ReadOutcome) (s p : ℕ) (a : ℤ) → q ≡ read_trace_of rooms bytes → q.answer ≡ ReadAnswer.Done s p a → DoneRead rooms bytes q s p a
+pub done_read : (rooms : ListRooms) (bytes : List ℕ) (q : ReadOutcome) (s p : ℕ) (a : ℤ) → q ≡ read_trace_of rooms bytes → q.answer ≡ done s p a → DoneRead rooms bytes q s p a
 unfolding read_trace_of
 done_read rooms bytes q s p a r e = go (first_fault (whole_checks rooms bytes)) refl
   where
@@ -110,11 +111,11 @@ done_read rooms bytes q s p a r e = go (first_fault (whole_checks rooms bytes)) 
     go Fine f = record { fine = f; is = r ∙ ap (reading.outcome rooms) (judged_fine rooms bytes f) }
     go (Fault c k) f =
         let x : q ≡ reading.outcome rooms (stop c k) = r ∙ ap (reading.outcome rooms) (judged_fault rooms bytes c k f) in
-        let y : ReadAnswer.Refused c k ≡ ReadAnswer.Done s p a = sym (ap (λ (u : ReadOutcome). u.answer) x) ∙ e in
+        let y : refused c k ≡ done s p a = sym (ap (λ (u : ReadOutcome). u.answer) x) ∙ e in
         let z : ◌≡◌ {A = ℕ} 0 1 = cc in absurd (omega arith)
 
 -- the file that a description was read from is written from it, every byte, and zeros after it
-pub read_then_file : (rooms : ListRooms) (bytes : List ℕ) (q : ReadOutcome) (s p : ℕ) (a : ℤ) → Bytes bytes → q ≡ read_trace_of rooms bytes → q.answer ≡ ReadAnswer.Done s p a
+pub read_then_file : (rooms : ListRooms) (bytes : List ℕ) (q : ReadOutcome) (s p : ℕ) (a : ℤ) → Bytes bytes → q ≡ read_trace_of rooms bytes → q.answer ≡ done s p a
     → (room : ℕ) → length bytes ≤ room → (o : WriteOutcome)
     → o ≡ write_trace_of (take s q.counts) (take (2 * s) q.starts) (take (2 * p) q.deltas) (take (128 * s) q.coefficients) a room
     → o ≡ leaves (Done (length bytes)) (bytes ++ replicate (room - length bytes) 0)
@@ -123,8 +124,8 @@ read_then_file rooms bytes q s p a b r e room h o w =
     let found = found_first rooms bytes t.fine in
     let k = taken version1 [] bytes _ _ found b rooms q s p a t.is e in
     let file = k.file in
-    let done = accepted (ns_in 8 bytes) (map f32_of (zs_in 8 bytes)) (ds_in 8 bytes) (cs_in 8 bytes) a room (again_fine version1 [] bytes _ _ found b) (omega (arith, ap length file)) in
-    w ∙ rw (k.counts, k.starts, k.deltas, k.coefficients) (done ∙ ap (λ (l : List ℕ). leaves (Done (length l)) (l ++ replicate (room - length l) 0)) file)
+    let written = accepted (ns_in 8 bytes) (map f32_of (zs_in 8 bytes)) (ds_in 8 bytes) (cs_in 8 bytes) a room (again_fine version1 [] bytes _ _ found b) (omega (arith, ap length file)) in
+    w ∙ rw (k.counts, k.starts, k.deltas, k.coefficients) (written ∙ ap (λ (l : List ℕ). leaves (Done (length l)) (l ++ replicate (room - length l) 0)) file)
 
 -- ---- one file a description
 
@@ -133,7 +134,7 @@ same_front xs ys us vs h e = sym (take_at xs us (length xs) refl) ∙ ap (take (
 
 -- two files that are read as one description are the same bytes
 pub same_file : (rooms : ListRooms) (bytes bytes' : List ℕ) (q : ReadOutcome) (s p : ℕ) (a : ℤ) → Bytes bytes → Bytes bytes' → q ≡ read_trace_of rooms bytes → q ≡ read_trace_of rooms bytes'
-    → q.answer ≡ ReadAnswer.Done s p a → bytes ≡ bytes'
+    → q.answer ≡ done s p a → bytes ≡ bytes'
 same_file rooms bytes bytes' q s p a b b' r r' e =
     let room = length bytes + length bytes' in
     let o = write_trace_of (take s q.counts) (take (2 * s) q.starts) (take (2 * p) q.deltas) (take (128 * s) q.coefficients) a room in

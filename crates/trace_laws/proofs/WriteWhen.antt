@@ -10,6 +10,7 @@ use lib.ListN.{length}
 use lib.IntN.{ℤ}
 use lib.Ieee.{Float}
 use borrow.Author.Tests.{lt-ltb, le-ltb, ltb-true, ltb-false, not-true, not-false}
+use Rattle.codes.proofs.Refusals.{same_refusal}
 use Rattle.codes.specs.declared.Code.{Code}
 use Rattle.codes.specs.declared.Code.TheVariants.{Room, Shape}
 use Rattle.shape.specs.Shape.{points_of, Shaped}
@@ -141,9 +142,8 @@ module _ (ns : List ℕ) (ss : List Float) (ds cs : List ℤ) where
               → first_fault (write_checks 8 ns ss ds cs ++ Last) ≡ Fault c q
           go Fine f e = let z : ◌≡◌ {A = ℕ} 0 1 = cc in absurd (omega arith)
           go (Fault k i) f e =
-              let x : k ≡ c = cc in
-              let y : i ≡ q = cc in
-              f ∙ ap (λ (d : Code). Fault d i) x ∙ ap (Fault c) y
+              let same = same_refusal e in
+              f ∙ ap (λ (d : Code). Fault d i) same.0 ∙ ap (Fault c) same.1
 
       refused_so : (c : Code) (q : ℕ) → R c q → write_trace_of ns ss ds cs a room ≡ outcome room File (Fault c q)
       unfolding write_trace_of

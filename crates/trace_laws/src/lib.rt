@@ -32,9 +32,7 @@ pub fn take_signed(number: i32)
 pub fn lend_signed(numbers: &[i32])
     ensures { Signeds numbers.now }
 {
-    let mut i = 0;
-    while i < numbers.len() {
-        take_signed(numbers[i]);
-        i += 1;
+    for (i, number) in numbers.iter().enumerate() {
+        take_signed(*number);
     }
 }
