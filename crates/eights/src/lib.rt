@@ -37,10 +37,8 @@ pub fn cosines(from: usize, t: f32) -> [f32; 8]
     let multipliers = dct_multipliers(from);
     let tandhalf = t + 0.5;
     let mut eight = [0.0; 8];
-    let mut j = 0;
-    while j < 8 {
+    for j in 0..8 {
         eight[j] = approximations::fast_cos(multipliers[j] * tandhalf);
-        j += 1;
     }
     eight
 }
@@ -52,10 +50,8 @@ pub fn fed(sum: f32, row: &[f32; 32], eight: [f32; 8], from: usize, t: f32) -> f
 {
     let first = row[from] * eight[0];
     let mut s = if from == 0 { first } else { sum + first };
-    let mut j = 1;
-    while j < 8 {
+    for j in 1..8 {
         s = s + row[from + j] * eight[j];
-        j += 1;
     }
     s
 }

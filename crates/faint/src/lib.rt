@@ -8,7 +8,7 @@ ghost use Rattle.faint.specs.Faint.{faint_in};
 fn one_if_nan(distance: f32) -> u32
     ensures { result ≡ cond (is_nan distance) 1 0 }
 {
-    if distance != distance { 1 } else { 0 }
+    u32::from(distance.is_nan())
 }
 
 // Of the first `count` segments of a flat slice.
@@ -17,10 +17,8 @@ pub fn faint_in(segments: &[f32], count: usize) -> u32
     ensures { result ≡ faint_in segments.now count }
 {
     let mut found = 0;
-    let mut i = 0;
-    while i < count {
+    for i in 0..count {
         found += one_if_nan(segments[8 * i + 2]);
-        i += 1;
     }
     found
 }

@@ -1,23 +1,15 @@
 // The owners of the segments, each the number of the spline that made it: the room for segments that have one, and one number in adjacent cells.
 #![tactic(auto)]
 
-ghost use Rattle.std.specs.Prelude.{◌≡◌, ◌-◌, ◌≤◌, min, length, replicate};
+ghost use Rattle.std.specs.Prelude.{◌≡◌, ◌-◌, ◌≤◌, length, replicate};
 ghost use Rattle.std.proofs.lemmas.List.Edits.{sets};
 ghost use Rattle.owners.specs.Owners.{owned_room};
-
-fn lesser(a: usize, b: usize) -> usize
-    ensures { result ≡ min a b }
-{
-    if a <= b { a } else { b }
-}
 
 // How many segments have room: the least of the whole records in so many floats, of the cells for owners, and of 2^24.
 pub fn room(floats: usize, cells: usize) -> usize
     ensures { result ≡ owned_room floats cells }
 {
-    let records = floats / 8;
-    let owned = lesser(records, cells);
-    lesser(owned, 16777216)
+    (floats / 8).min(cells).min(16777216)
 }
 
 // The spline k gets the segments from `from` up to, not including, `to`.
@@ -25,9 +17,5 @@ pub fn fill(owners: &mut [u64], from: usize, to: usize, k: usize)
     requires { (from ≤ to) × (to ≤ length owners.old) }
     ensures { owners.new ≡ sets owners.old from (replicate (to - from) k) }
 {
-    let mut i = from;
-    while i < to {
-        owners[i] = k as u64;
-        i += 1;
-    }
+    owners[from..to].fill(k as u64);
 }

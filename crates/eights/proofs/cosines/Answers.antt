@@ -11,7 +11,7 @@ pub loop-j-preserved : goal.loop-j-preserved
 loop-j-preserved c =
     let l = c.loop-j in
     let v = l.invariant in
-    (v.0, v.1, v.2, filling_more _ l.j v.3 c.loop-j-test.true (cosine_is _ _ _ _ l.j v.0 v.1 c.loop-j-test.true c.fast_cos.ensures))
+    (v.0, v.1, v.2, filling_more _ l.j v.3 (omega arith) (cosine_is _ _ _ _ l.j v.0 v.1 (omega arith) c.fast_cos.ensures))
 
 pub returns : goal.returns
-returns c = let l = c.loop-j in filling_all _ l.j l.invariant.3 c.loop-j-test.false
+returns c = let l = c.loop-j in filling_all _ l.j l.invariant.3 (omega arith)

@@ -11,6 +11,3 @@ use Rattle.eights.proofs.cosines.Given as goal
 abbrev pub invariant-loop-j : goal.invariant-loop-j
 invariant-loop-j l =
     (l.multipliers ≡ table (λ j. dct_multiplier (l.from + j)) 8) × (l.tandhalf ≡ l.t ⊕ f 0x3f000000) × (length l.multipliers ≡ 8) × Filling (λ j. cosine_at l.t (l.from + j)) 8 l.eight l.j
-
-abbrev pub decreases-loop-j : goal.decreases-loop-j
-decreases-loop-j l = 8 - l.j

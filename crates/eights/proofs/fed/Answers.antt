@@ -1,3 +1,4 @@
+use native.Mathlib.Omega.{arith}
 use Rattle.eights.proofs.Feeding.{fed_first, fed_next, fed_more, fed_all}
 use Rattle.eights.proofs.fed.Goals as goal
 use Rattle.eights.proofs.fed.Goals.{then-from-eq0, else-from-eq0}
@@ -11,7 +12,7 @@ loop-j-init c =
     ]
 
 pub loop-j-preserved : goal.loop-j-preserved
-loop-j-preserved c = let l = c.loop-j in fed_more l.j l.invariant c.loop-j-test.true
+loop-j-preserved c = let l = c.loop-j in fed_more l.j l.invariant (omega arith)
 
 pub returns : goal.returns
-returns c = let l = c.loop-j in fed_all l.j l.invariant c.loop-j-test.false
+returns c = let l = c.loop-j in fed_all l.j l.invariant (omega arith)

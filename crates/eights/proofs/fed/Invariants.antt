@@ -5,6 +5,3 @@ use Rattle.eights.proofs.fed.Given as goal
 
 abbrev pub invariant-loop-j : goal.invariant-loop-j
 invariant-loop-j l = Fed l.row l.eight l.t l.from l.s l.j
-
-abbrev pub decreases-loop-j : goal.decreases-loop-j
-decreases-loop-j l = 8 - l.j

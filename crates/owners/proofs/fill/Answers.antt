@@ -1,25 +1,15 @@
-use mathlib.Core.Path.{◌≡◌}
+-- `fill`: the part that was filled comes back as a run of stores.
+use mathlib.Core.Path.{◌≡◌, ap, ◌∙◌}
+use Prim.Native.Nat.{ℕ, ◌-◌}
 use native.Mathlib.Omega.{arith}
-use lib.ListN.{length-set}
-use Rattle.owners.proofs.Runs.{run_none, run_more}
+use lib.ListN.{length, take, drop, replicate, length-replicate, length-drop}
+use lib.Seq.{length-take-le}
+use Rattle.buffers.proofs.Fronts.{put_mid-sets}
 use Rattle.owners.proofs.fill.Goals as goal
-
-pub loop-i-init : goal.loop-i-init
-loop-i-init c = (omega arith, omega arith, omega arith, omega arith, run_none c.args.k c.args.owners.now c.args.from)
-
-pub loop-i-preserved : goal.loop-i-preserved
-loop-i-preserved c =
-    let a = c.args in
-    let v = c.loop-i.invariant in (
-      omega arith,
-      omega arith,
-      omega arith,
-      simp length-set (omega arith),
-      rw v.4 (run_more a.k a.owners.now a.from c.loop-i.i (omega arith)),
-    )
 
 pub returns : goal.returns
 returns c =
     let a = c.args in
-    let e : c.loop-i.i ≡ a.to = omega arith in
-    rw e at c.loop-i.invariant.4
+    let n : length (take (a.to - a.from) (drop a.from a.owners.now)) ≡ a.to - a.from = length-take-le _ _ (omega (arith, length-drop a.from a.owners.now)) in
+    let e = c.fill.ensures.after (λ y h. h) ∙ ap (λ (m : ℕ). replicate m a.k) n in
+    put_mid-sets (replicate (a.to - a.from) a.k) a.owners.now a.from a.to e (omega (arith, length-replicate (a.to - a.from) a.k)) c.requires.1
