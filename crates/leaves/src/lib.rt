@@ -13,9 +13,9 @@ ghost use Rattle.approximations.specs.Cos.{fast_cos};
 ghost use Rattle.approximations.specs.Erf.{fast_erff};
 ghost use Rattle.numbers.specs.Saturating.{sat_add, sat_mul, ceil_log2};
 ghost use Rattle.kinds.specs.Kind.{cut_i64, cut_i32, cut_u64};
-ghost use Rattle.leaves.specs.Kinds.{number_i64, number_i32, number_u64};
+ghost use Rattle.leaves.specs.Kinds.{number_of, number_i64, number_i32, number_u64};
 
-use kinds::{KindI32, KindI64, KindU64};
+use kinds::Kind;
 
 #[unsafe(no_mangle)]
 pub extern "C" fn leaves_floor(x: f32) -> f32
@@ -59,41 +59,38 @@ pub extern "C" fn leaves_saturating_f32_to_u64(x: f32) -> u64
     kinds::saturating_f32_to_u64(x)
 }
 
-// The kind of each conversion, by its number.
+// A kind by its number.
+fn number<T: Copy>(kind: Kind<T>) -> u32
+    ensures { result ≡ number_of kind }
+{
+    match kind {
+        Kind::Exact(_) => 0,
+        Kind::NotNumber => 1,
+        Kind::Below => 2,
+        Kind::Above => 3,
+    }
+}
+
+// The kind of each conversion.
 #[unsafe(no_mangle)]
 pub extern "C" fn leaves_kind_i64(x: f32) -> u32
     ensures { result ≡ number_i64 (cut_i64 x) }
 {
-    match kinds::cut_to_i64(x) {
-        KindI64::Exact(_) => 0,
-        KindI64::NotNumber => 1,
-        KindI64::Below => 2,
-        KindI64::Above => 3,
-    }
+    number(kinds::cut_to_i64(x))
 }
 
 #[unsafe(no_mangle)]
 pub extern "C" fn leaves_kind_i32(x: f32) -> u32
     ensures { result ≡ number_i32 (cut_i32 x) }
 {
-    match kinds::cut_to_i32(x) {
-        KindI32::Exact(_) => 0,
-        KindI32::NotNumber => 1,
-        KindI32::Below => 2,
-        KindI32::Above => 3,
-    }
+    number(kinds::cut_to_i32(x))
 }
 
 #[unsafe(no_mangle)]
 pub extern "C" fn leaves_kind_u64(x: f32) -> u32
     ensures { result ≡ number_u64 (cut_u64 x) }
 {
-    match kinds::cut_to_u64(x) {
-        KindU64::Exact(_) => 0,
-        KindU64::NotNumber => 1,
-        KindU64::Below => 2,
-        KindU64::Above => 3,
-    }
+    number(kinds::cut_to_u64(x))
 }
 
 #[unsafe(no_mangle)]

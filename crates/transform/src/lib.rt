@@ -12,7 +12,7 @@ use dequantize::Spline;
 use eights::{cosines, fed};
 
 // The colours and the width of a spline at a place.
-#[derive(Clone, Copy)]
+#[derive(Clone, Copy, Debug, PartialEq)]
 pub struct Sums {
     pub x: f32,
     pub y: f32,
