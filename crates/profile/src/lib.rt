@@ -5,7 +5,7 @@ ghost use Rattle.std.specs.Prelude.{◌≡◌, ◌*◌, ◌≤◌, length};
 ghost use Rattle.shape.specs.Description.{description_in};
 ghost use Rattle.profile.specs.Profile.{told_of, splines_finding, rules_finding, tells, profile_of};
 
-use codes::Code;
+use codes::{Code, Refusal};
 use editions::{Limits, limits_of};
 use profile_rules::{Broken, counted, kept, spline_finding, within};
 use shape::Description;
@@ -24,6 +24,16 @@ impl From<Broken> for Unmet {
 
     fn from((rule, spline): Broken) -> Unmet {
         Unmet::Broken(rule, spline)
+    }
+}
+
+impl From<Refusal> for Unmet {
+    ghost use Rattle.profile.specs.declared.Unmet.{Unmet};
+
+    ghost from_gives = { λ refusal unmet. unmet ≡ Unmet.Refused refusal.0 refusal.1 };
+
+    fn from((code, place): Refusal) -> Unmet {
+        Unmet::Refused(code, place)
     }
 }
 
