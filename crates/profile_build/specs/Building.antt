@@ -1,21 +1,21 @@
 -- Building by profile: SIZE, SHAPE, EDITION, PROFILE, then as building. Definitions only.
-use Rattle.std.specs.Prelude.{cond, List, ℕ, ℤ, replicate, Float}
+use Rattle.std.specs.Prelude.{cond, Ok, Err, List, ℕ, ℤ, replicate, Float}
 use Rattle.codes.specs.declared.Code.{Code}
-use Rattle.dequantize.specs.Judge.{Description}
-use Rattle.build_answer.specs.declared.BuildAnswer.{BuildAnswer}
+use Rattle.shape.specs.Description.{Description}
+use Rattle.build_answer.specs.BuildAnswer.{BuildAnswer}
+use Rattle.build_answer.specs.BuildAnswer as plainly
 use Rattle.table.specs.Table.{BuildRooms, Setting, BuildOutcome, zeros, build_of}
 use Rattle.verdict.specs.Verdict.{sized}
-use Rattle.profile.specs.declared.ProfileAnswer.{ProfileAnswer}
+use Rattle.profile.specs.Answers.{ProfileAnswer, Meets}
 use Rattle.profile.specs.Profile.{answer_of}
-use Rattle.profile_told.specs.declared.ProfileBuildAnswer.{ProfileBuildAnswer}
-use Rattle.profile_told.specs.declared.ProfileBuildAnswer.TheVariants.{Done, Broken, Refused}
+use Rattle.profile_told.specs.Answers.{ProfileBuildAnswer, Refused}
 use Rattle.profile_told.specs.declared.ProfileBuildTold.{ProfileBuildTold}
 use Rattle.profile_told.specs.Told.{told_of}
 
 -- what a build answers, as an answer of building by profile
 abbrev pub of_build : BuildAnswer → ProfileBuildAnswer
-of_build (BuildAnswer.Done s n a f) = Done s n a f
-of_build (BuildAnswer.Refused c p) = Refused c p
+of_build (Ok built) = Ok built
+of_build (plainly.Refused c p) = Refused c p
 
 -- the answer, what it tells, and the six lent buffers
 pub record ProfileBuildOutcome : Type 0 where
@@ -51,12 +51,11 @@ as_built o = leaves (of_build o.answer) o.path o.walk o.segments o.owners o.star
 
 -- SIZE, then the check of the profile
 unfoldable pub check_profile_of : Description → ℤ → ℕ → ℕ → ℕ → ProfileAnswer
-check_profile_of d adjustment width height edition = cond (sized width height) (answer_of d adjustment edition) (ProfileAnswer.Refused Code.Size 0)
+check_profile_of d adjustment width height edition = cond (sized width height) (answer_of d adjustment edition) (Refused Code.Size 0)
 
 abbrev pub after_check : BuildRooms → ProfileAnswer → BuildOutcome → ProfileBuildOutcome
-after_check r (ProfileAnswer.Refused c p) o = stopped_with r (Refused c p)
-after_check r (ProfileAnswer.Broken rule spline) o = stopped_with r (Broken rule spline)
-after_check r ProfileAnswer.Meets o = as_built o
+after_check r (Err unmet) o = stopped_with r (Err unmet)
+after_check r Meets o = as_built o
 
 -- SIZE, SHAPE, EDITION, PROFILE, then as building
 unfoldable pub build_profile_of : Description → Setting → ℕ → BuildRooms → ProfileBuildOutcome

@@ -1,2 +1,0 @@
--- The laws of the crate `profile_build`.
-pub mod Steps

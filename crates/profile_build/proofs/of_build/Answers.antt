@@ -1,8 +1,0 @@
--- `of_build`: an answer, case by case.
-use Rattle.profile_build.proofs.of_build.Goals as goal
-
-pub returns-in-Done : goal.returns-in-Done
-returns-in-Done c = rw c.in-Done.is
-
-pub returns-in-Refused : goal.returns-in-Refused
-returns-in-Refused c = rw c.in-Refused.is
