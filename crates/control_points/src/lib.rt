@@ -1,7 +1,7 @@
 // The control points of a spline: a running delta and point, checked at every step.
 #![tactic(auto)]
 
-ghost use Rattle.std.specs.Prelude.{◌≡◌, true, ◌+◌, ◌*◌, ◌≤◌, nat_abs, length};
+ghost use Rattle.std.specs.Prelude.{◌≡◌, true, ◌+◌, ◌*◌, ◌≤◌, length};
 ghost use Rattle.control_points.specs.ControlPoints.{in_range, below_delta_limit, valid_point_pos, valid_double_delta, plus_of, manhattan_of, pair_at, rounded_of, starting_point, moved_of, stand_at, step_of, trace_of};
 ghost use Rattle.control_points.specs.Asked.{Fine, Held, Moves};
 
@@ -44,12 +44,6 @@ fn below_delta_limit(v: i32) -> bool
     ensures { result ≡ below_delta_limit v }
 {
     v > -1073741824 && v < 1073741824
-}
-
-pub fn unsigned_abs(v: i32) -> u64
-    ensures { result ≡ nat_abs v }
-{
-    u64::from(v.unsigned_abs())
 }
 
 // A coordinate of a start, made whole, or None beyond the range.
