@@ -7,19 +7,18 @@ use native.Mathlib.Omega.{arith}
 use lib.ListN.{length, get_or, take, replicate, length-take}
 use lib.Seq.{sets, length-take-le}
 use lib.Ieee.{Float, nan, binary32, of_bits}
+use Rattle.std.specs.Prelude.{Option}
 use Rattle.dequantize.specs.declared.Spline.{Spline}
 use Rattle.dequantize.specs.Coefficients.{table}
 use Rattle.dequantize.proofs.Tables.{length_table}
 use Rattle.transform.specs.declared.Sums.{Sums}
 use Rattle.transform.specs.Transform.{continuous_idct, sums_of}
 use Rattle.segments.specs.declared.Segment.{Segment}
-use Rattle.segments.specs.declared.Added.{Added}
 use Rattle.segments.specs.Segment.{add_segment, eight_of}
 use Rattle.numbers.specs.Arith.{f}
-use Rattle.walk.specs.declared.Walked.{Walked}
-use Rattle.walk.specs.declared.Walked.TheVariants.{Points, Room}
+use Rattle.walk.specs.Walked.{Walked, Points, Room}
 use Rattle.walk.specs.Walk.{Walk, More, Ended, walk_in, walked_of, WalkedOn}
-use Rattle.draw.specs.declared.DrawAnswer.{DrawAnswer}
+use Rattle.draw.specs.DrawAnswer.{DrawAnswer}
 use Rattle.draw.specs.Draw.{Channels, three, leaves, Table, table_of, draw_of, DrawOutcome}
 use Rattle.stored.specs.Stored.{float_in, Begins}
 use Rattle.replay_layers.specs.Agreed.{part, TransformAgrees, MadeAgrees, WalkAgrees, ChannelsAgree, DrawAgrees, bare, channels_in, path_in, table_in, starts_end}
@@ -32,15 +31,15 @@ transform_agrees input output s {sums} {row} {t} p q r u e =
 pub made_agrees : (s : Segment) (output : List ℕ) {eight : List Float} → eight ≡ sets (replicate 8 (of_bits binary32 0)) 0 (eight_of s) → Begins eight (part 1 9 output) → Begins (eight_of s) (part 1 9 output)
 made_agrees s output p b = subst (λ (v : List Float). Begins v (part 1 9 output)) p b
 
-pub added_agrees : (output : List ℕ) {a b : Added} → a ≡ b → MadeAgrees b output → MadeAgrees a output
-added_agrees output p m = subst (λ (v : Added). MadeAgrees v output) (sym p) m
+pub added_agrees : (output : List ℕ) {a b : Option Segment} → a ≡ b → MadeAgrees b output → MadeAgrees a output
+added_agrees output p m = subst (λ (v : Option Segment). MadeAgrees v output) (sym p) m
 
-pub segment_agrees : (input output : List ℕ) {g : List Float} {a : Added} (high : Bool) → g ≡ table (float_in input) 8
+pub segment_agrees : (input output : List ℕ) {g : List Float} {a : Option Segment} (high : Bool) → g ≡ table (float_in input) 8
     → a ≡ add_segment (get_or g 0 nan) (get_or g 1 nan) (get_or g 2 nan) (get_or g 3 nan) (get_or g 4 nan) (get_or g 5 nan) (get_or g 6 nan) high → MadeAgrees a output
     → MadeAgrees (add_segment (float_in input 0) (float_in input 1) (float_in input 2) (float_in input 3) (float_in input 4) (float_in input 5) (float_in input 6) high) output
 unfolding table
 segment_agrees input output {g} {a} high p q m =
-    subst (λ (v : Added). MadeAgrees v output)
+    subst (λ (v : Option Segment). MadeAgrees v output)
     (q ∙ ap (λ (h : List Float). add_segment (get_or h 0 nan) (get_or h 1 nan) (get_or h 2 nan) (get_or h 3 nan) (get_or h 4 nan) (get_or h 5 nan) (get_or h 6 nan) high) p) m
 
 -- the path of a case, and its length

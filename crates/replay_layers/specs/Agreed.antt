@@ -1,11 +1,10 @@
 -- What it means that the definitions agree with a stored case, a kind at a time: vectors/README.md has the words of each. Definitions only.
-use Rattle.std.specs.Prelude.{◌≡◌, List, ℕ, ◌+◌, ◌-◌, ◌*◌, ◌/◌, length, get_or, take, drop, replicate, Float}
+use Rattle.std.specs.Prelude.{◌≡◌, List, ℕ, ◌+◌, ◌-◌, ◌*◌, ◌/◌, length, get_or, take, drop, replicate, Option, Some, None, Float}
 use Rattle.buffers.specs.Onto.{onto}
 use Rattle.dequantize.specs.Coefficients.{table}
 use Rattle.transform.specs.Transform.{continuous_idct}
 use Rattle.segments.specs.Segment.{eight_of}
-use Rattle.segments.specs.declared.Added.{Added}
-use Rattle.segments.specs.declared.Added.TheVariants.{Made, Nothing}
+use Rattle.segments.specs.declared.Segment.{Segment}
 use Rattle.numbers.specs.Arith.{f}
 use Rattle.walk.specs.Walk.{Walk, More, Ended, flat}
 use Rattle.draw.specs.Draw.{Channels, three, Table, table_of, Sight, sight_of, draw_of}
@@ -20,9 +19,9 @@ abbrev pub TransformAgrees : List ℕ → List ℕ → Type 0
 TransformAgrees input output = continuous_idct (table (float_in input) 32) (float_in input 32) ≡ float_in output 0
 
 -- what a point makes: nothing, or the eight floats behind a 1
-abbrev pub MadeAgrees : Added → List ℕ → Type 0
-MadeAgrees Nothing output = get_or output 0 0 ≡ 0
-MadeAgrees (Made s) output = Begins (eight_of s) (part 1 9 output)
+abbrev pub MadeAgrees : Option Segment → List ℕ → Type 0
+MadeAgrees None output = get_or output 0 0 ≡ 0
+MadeAgrees (Some s) output = Begins (eight_of s) (part 1 9 output)
 
 -- a walk in 512 cells, its points three floats each
 abbrev pub WalkAgrees : Walk → List ℕ → Type 0

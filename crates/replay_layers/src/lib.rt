@@ -1,19 +1,18 @@
 // The layers of the port against stored answers, a function a kind: whether the answer to a case's input words is its output words.
 #![tactic(auto)]
 
-ghost use Rattle.std.specs.Prelude.{◌≡◌, true, ◌*◌, length, get_or, eqb};
+ghost use Rattle.std.specs.Prelude.{◌≡◌, true, ◌*◌, length, get_or, Some, eqb};
 ghost use Rattle.segments.specs.Segment.{add_segment};
-ghost use Rattle.segments.specs.declared.Added.TheVariants.{Made};
 ghost use Rattle.walk.specs.Walk.{walk_in};
-ghost use Rattle.draw.specs.Draw.{table_of, three};
+ghost use Rattle.checks.specs.Tables as tables;
+ghost use Rattle.draw.specs.Draw.{three};
 ghost use Rattle.stored.specs.Stored.{float_in};
 ghost use Rattle.replay_layers.specs.Agreed.{part, TransformAgrees, MadeAgrees, WalkAgrees, path_in, ChannelsAgree, DrawAgrees, table_in, starts_end};
 
-use codes::Code;
+use checks::Table;
 use dequantize::Spline;
-use draw::DrawAnswer;
-use segments::{Added, Range, Segment};
-use walk::Walked;
+use desks::Sight;
+use segments::{Range, Segment};
 
 // ---- the transform
 
@@ -22,7 +21,6 @@ fn all_rows(row: [f32; 32]) -> Spline
     ensures { result.x ≡ row }
 {
     Spline {
-        code: Code::Done,
         x: row,
         y: row,
         b: row,
@@ -55,74 +53,52 @@ fn rows_agree(rows: Range, first: u64, past: u64) -> bool {
     if first == past {
         return rows.past <= rows.first;
     }
-    let cut_first = if first < 16777216 { first } else { 16777216 };
-    let cut_past = if past < 16777217 { past } else { 16777217 };
-    if rows.first as u64 != cut_first {
-        return false;
-    }
-    rows.past as u64 == cut_past
+    u64::from(rows.first) == first.min(16777216) && u64::from(rows.past) == past.min(16777217)
 }
 
 // The columns of a segment against the bits of the first 64 pixels.
 fn columns_agree(columns: Range, pixels: u64) -> bool {
     let mut left = pixels;
-    let mut x: u32 = 0;
-    while x < 64 {
+    for x in 0..64u32 {
         let touched = left % 2 == 1;
-        let inside = if columns.first <= x {
-            x < columns.past
-        } else {
-            false
-        };
+        let inside = columns.first <= x && x < columns.past;
         if touched != inside {
             return false;
         }
         left /= 2;
-        x += 1;
     }
     true
 }
 
 // The eight floats of a segment that was made, its rows and its columns.
 fn is_made(segment: Segment, output: &[u32]) -> bool
-    ensures { result ≡ true → MadeAgrees (Made segment) output.now }
+    ensures { result ≡ true → MadeAgrees (Some segment) output.now }
 {
-    if output.len() != 15 {
-        return false;
-    }
-    if output[0] != 1 {
-        return false;
-    }
-    if !rows_agree(
-        segment.rows(),
-        stored::long(output[9], output[10]),
-        stored::long(output[11], output[12]),
-    ) {
-        return false;
-    }
-    if !columns_agree(segment.columns(), stored::long(output[13], output[14])) {
-        return false;
-    }
     let mut eight = [0.0f32; 8];
     segment.put(&mut eight, 0);
-    stored::begin_f32(&eight, &output[1..9])
+    output.len() == 15
+        && output[0] == 1
+        && rows_agree(
+            segment.rows(),
+            stored::long(output[9], output[10]),
+            stored::long(output[11], output[12]),
+        )
+        && columns_agree(segment.columns(), stored::long(output[13], output[14]))
+        && stored::begin_f32(&eight, &output[1..9])
 }
 
 fn is_nothing(output: &[u32]) -> bool
     ensures { result ≡ true → get_or output.now 0 0 ≡ 0 }
 {
-    if output.len() != 1 {
-        return false;
-    }
-    output[0] == 0
+    output.len() == 1 && output[0] == 0
 }
 
-fn is_added(added: Added, output: &[u32]) -> bool
+fn is_added(added: Option<Segment>, output: &[u32]) -> bool
     ensures { result ≡ true → MadeAgrees added output.now }
 {
     match added {
-        Added::Nothing => is_nothing(output),
-        Added::Made(segment) => is_made(segment, output),
+        None => is_nothing(output),
+        Some(segment) => is_made(segment, output),
     }
 }
 
@@ -163,13 +139,8 @@ pub fn walk(input: &[u32], output: &[u32]) -> bool
     stored::floats(input, &mut path);
     let mut steps = [0.0f32; 512];
     match walk::walk(&path[..n], &mut steps) {
-        Walked::Room => false,
-        Walked::Points(k) => {
-            if k != output.len() / 3 {
-                return false;
-            }
-            stored::begin_f32(&steps, output)
-        }
+        None => false,
+        Some(k) => k == output.len() / 3 && stored::begin_f32(&steps, output),
     }
 }
 
@@ -179,31 +150,15 @@ fn channels_agree(r0: &[f32], r1: &[f32], r2: &[f32], n: usize, words: &[u32]) -
     requires { 3 * n ≡ length words.now }
     ensures { result ≡ true → ChannelsAgree n (three r0.now r1.now r2.now) words.now }
 {
-    if !stored::begin_f32(r0, &words[0..n]) {
-        return false;
-    }
-    if !stored::begin_f32(r1, &words[n..2 * n]) {
-        return false;
-    }
-    stored::begin_f32(r2, &words[2 * n..3 * n])
+    stored::begin_f32(r0, &words[0..n])
+        && stored::begin_f32(r1, &words[n..2 * n])
+        && stored::begin_f32(r2, &words[2 * n..3 * n])
 }
 
 // Whether the three channels are drawn to the words that are stored.
-fn draws(
-    segments: &[f32],
-    segment_count: u32,
-    entries: &[u32],
-    entry_count: u32,
-    row_starts: &[u32],
-    height: u32,
-    y: u32,
-    x0: u32,
-    n: u32,
-    before: &[u32],
-    after: &[u32],
-) -> bool
+fn draws(table: &Table<'_>, y: u32, x0: u32, n: u32, before: &[u32], after: &[u32]) -> bool
     requires { (3 * n ≡ length before.now) × (3 * n ≡ length after.now) }
-    ensures { result ≡ true → DrawAgrees (table_of segments.now segment_count entries.now entry_count row_starts.now height) y x0 n before.now after.now }
+    ensures { result ≡ true → DrawAgrees (tables.table_in table.now) y x0 n before.now after.now }
 {
     let k = n as usize;
     let mut r0 = [0.0f32; 64];
@@ -214,26 +169,15 @@ fn draws(
     stored::floats(&before[2 * k..3 * k], &mut r2);
     let owners = [0u64; 64];
     let bits = [0u8; 1];
-    match draw::draw(
-        segments,
-        &owners,
-        segment_count,
-        entries,
-        entry_count,
-        row_starts,
-        height,
-        1,
-        &bits,
-        0,
-        y,
-        x0,
-        n,
-        &mut r0,
-        &mut r1,
-        &mut r2,
-    ) {
-        DrawAnswer::Refused(_, _) => false,
-        DrawAnswer::Done(_) => channels_agree(&r0, &r1, &r2, k, after),
+    let sight = Sight {
+        owners: &owners,
+        splines: 1,
+        bits: &bits,
+        desk: 0,
+    };
+    match draw::draw(table, &sight, y, x0, n, &mut r0, &mut r1, &mut r2) {
+        Err(_) => false,
+        Ok(_) => channels_agree(&r0, &r1, &r2, k, after),
     }
 }
 
@@ -258,13 +202,16 @@ pub fn draw(input: &[u32], output: &[u32]) -> bool
     }
     let mut segments = [0.0f32; 512];
     stored::floats(&input[6..segments_end], &mut segments);
+    let table = Table {
+        segments: &segments,
+        segment_count: input[0],
+        entries: &input[segments_end..entries_end],
+        entry_count: input[1],
+        row_starts: &input[entries_end..starts_end],
+        height: input[2],
+    };
     draws(
-        &segments,
-        input[0],
-        &input[segments_end..entries_end],
-        input[1],
-        &input[entries_end..starts_end],
-        input[2],
+        &table,
         input[3],
         input[4],
         input[5],

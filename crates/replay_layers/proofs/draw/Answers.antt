@@ -1,17 +1,7 @@
 -- The parts of the words are where the first of them say.
 use lib.ListN.{get_or}
-use Rattle.stored.proofs.Begun.{no_true}
 use Rattle.replay_layers.proofs.Agreeing.{case_agrees}
 use Rattle.replay_layers.proofs.draw.Goals as goal
-
-pub returns-then-input-lt6 : goal.returns-then-input-lt6
-returns-then-input-lt6 c = λ e. absurd (no_true e)
-
-pub returns-then-input-starts_end : goal.returns-then-input-starts_end
-returns-then-input-starts_end c = λ e. absurd (no_true e)
-
-pub returns-then-output-n : goal.returns-then-output-n
-returns-then-output-n c = λ e. absurd (no_true e)
 
 pub returns : goal.returns
 returns c =

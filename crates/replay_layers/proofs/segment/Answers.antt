@@ -1,10 +1,6 @@
 -- The floats are those of the words.
-use Rattle.stored.proofs.Begun.{no_true}
 use Rattle.replay_layers.proofs.Agreeing.{segment_agrees}
 use Rattle.replay_layers.proofs.segment.Goals as goal
-
-pub returns-then-input-ne8 : goal.returns-then-input-ne8
-returns-then-input-ne8 c = λ e. absurd (no_true e)
 
 pub returns : goal.returns
 returns c = λ e. segment_agrees c.args.input.now c.args.output.now _ c.floats.ensures c.add_segment-added.ensures (c.is_added.ensures e)

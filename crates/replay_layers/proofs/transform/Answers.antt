@@ -1,10 +1,6 @@
 -- The row is that of the first 32 words, and the sum that of the definition.
-use Rattle.stored.proofs.Begun.{no_true}
 use Rattle.replay_layers.proofs.Agreeing.{transform_agrees}
 use Rattle.replay_layers.proofs.transform.Goals as goal
-
-pub returns-then-input-ne33 : goal.returns-then-input-ne33
-returns-then-input-ne33 c = λ e. absurd (no_true e)
 
 pub returns : goal.returns
 returns c =
