@@ -1,12 +1,12 @@
 // `gauge table`: the row starts and the entries of a table as numbers; and `gauge check`: whether another maker's, in a text of that form, are those of this picture.
 #![tactic(auto)]
 
-ghost use Rattle.std.specs.Prelude.{◌≤◌, ◌<◌, length};
-
-use files::{Loaded, Named};
-use makers::CheckAnswer;
+use checks::Table;
+use files::Named;
 use segments::Segment;
+use std::fmt::Display;
 use std::io::Stdout;
+use words::{Failure, out, wrong};
 
 // A start of 16385 takes nine bytes and an entry of 2^24 takes eight, each with what parts it from the next; and more, so that a text that fills it is known to be too long.
 const BYTES: usize = 135266304;
@@ -16,414 +16,194 @@ const NUMBERS: usize = 16793601;
 
 // ---- ours
 
-// A status that was told: refused, or wrong use.
-fn told(status: u8) -> u8
-    ensures { result ≤ 3 }
-{
-    if status == 1 { 1 } else { 2 }
-}
-
-fn wide(n: u32) -> u64 {
-    n as u64
-}
-
 // Numbers, each on a line.
-fn say_numbers(to: Stdout, numbers: &[u32]) -> u8
-    ensures { result ≤ 3 }
-{
-    let mut k: usize = 0;
-    while k < numbers.len() {
-        let status = words::out(to, b"#\n", &[wide(numbers[k])]);
-        if status != 0 {
-            return status;
-        }
-        k += 1;
+fn say_numbers(to: Stdout, numbers: &[u32]) -> Result<(), Failure> {
+    for number in numbers {
+        out(to, format_args!("{number}\n"))?;
     }
-    0
+    Ok(())
 }
 
 // The row starts of a picture, one more than its rows, and then the entries.
-pub fn say(to: Stdout, entries: &[u32], entry_count: u32, row_starts: &[u32], height: u32) -> u8
-    ensures { result ≤ 3 }
+pub fn say(to: Stdout, table: &Table<'_>) -> Result<(), Failure>
+    ensures { Unit {0} }
 {
-    let starts = height as usize + 1;
-    let listed = entry_count as usize;
-    if row_starts.len() < starts {
-        return 1;
-    }
-    if entries.len() < listed {
-        return 1;
-    }
-    let status = say_numbers(to, &row_starts[0..starts]);
-    if status != 0 {
-        return status;
-    }
-    say_numbers(to, &entries[0..listed])
+    let starts = table.height as usize + 1;
+    let listed = table.entry_count as usize;
+    let starts = table.row_starts.get(..starts).ok_or(Failure::Refused)?;
+    let entries = table.entries.get(..listed).ok_or(Failure::Refused)?;
+    say_numbers(to, starts)?;
+    say_numbers(to, entries)
 }
 
 // ---- what is wrong with a row
 
-// One where segment i has row y, else none.
-fn has_row(segments: &[f32], i: usize, y: u32) -> usize
-    ensures { result ≤ 1 }
-{
-    if segments.len() / 8 <= i {
-        return 0;
+// Whether segment i has row y.
+fn has_row(segments: &[f32], i: u32, y: u32) -> bool {
+    let at = i as usize;
+    if segments.len() / 8 <= at {
+        return false;
     }
-    let rows = Segment::at(segments, i).rows();
-    if y < rows.first {
-        return 0;
-    }
-    if y < rows.past { 1 } else { 0 }
+    let rows = Segment::at(segments, at).rows();
+    rows.first <= y && y < rows.past
 }
 
-// How many of the first n segments have row y.
-fn having(segments: &[f32], n: usize, y: u32) -> usize {
-    let mut count: usize = 0;
-    let mut i: usize = 0;
-    while i < n {
-        count += has_row(segments, i, y);
-        i += 1;
-    }
-    count
-}
-
-fn say_few(segments: &[f32], segment_count: u32, y: u32, listed: usize) -> u8
-    ensures { result ≤ 3 }
-{
-    let due = having(segments, segment_count as usize, y);
-    words::wrong(
-        1,
-        b"TABLE (14) at row #: it lists # segments, and # have it\n",
-        &[y as u64, listed as u64, due as u64],
+// What is wrong with a row.
+fn of_row<D: Display + Drop>(y: u32, what: D) -> Failure {
+    wrong(
+        Failure::Refused,
+        format_args!("TABLE (14) at row {y}: {what}\n"),
     )
 }
 
-fn say_missing(y: u32, i: u32, segment_count: u32) -> u8
-    ensures { result ≤ 3 }
-{
-    words::wrong(
-        1,
-        b"TABLE (14) at row #: it lists segment #, and there are #, counted from 0\n",
-        &[y as u64, i as u64, segment_count as u64],
-    )
-}
-
-fn say_other(y: u32, i: u32) -> u8
-    ensures { result ≤ 3 }
-{
-    words::wrong(
-        1,
-        b"TABLE (14) at row #: it lists segment #, which does not have this row\n",
-        &[y as u64, i as u64],
-    )
-}
-
-fn say_behind(y: u32, i: u32, behind: u32) -> u8
-    ensures { result ≤ 3 }
-{
-    words::wrong(
-        1,
-        b"TABLE (14) at row #: it lists segment # behind segment #\n",
-        &[y as u64, i as u64, behind as u64],
-    )
-}
-
-// What is wrong with an entry that stands behind another; 0 where nothing is.
-fn say_entry(segments: &[f32], segment_count: u32, y: u32, i: u32, behind: u32, first: bool) -> u8
-    ensures { result ≤ 3 }
-{
+// What is wrong with an entry, which stands behind another where it is not the first, if anything is.
+fn of_entry(table: &Table<'_>, y: u32, i: u32, behind: Option<u32>) -> Option<Failure> {
+    let segment_count = table.segment_count;
     if segment_count <= i {
-        return say_missing(y, i, segment_count);
+        return Some(of_row(
+            y,
+            format_args!("it lists segment {i}, and there are {segment_count}, counted from 0"),
+        ));
     }
-    if has_row(segments, i as usize, y) == 0 {
-        return say_other(y, i);
+    if !has_row(table.segments, i, y) {
+        return Some(of_row(
+            y,
+            format_args!("it lists segment {i}, which does not have this row"),
+        ));
     }
-    if first {
-        return 0;
+    match behind {
+        Some(before) if i <= before => Some(of_row(
+            y,
+            format_args!("it lists segment {i} behind segment {before}"),
+        )),
+        _ => None,
     }
-    if behind < i {
-        return 0;
-    }
-    say_behind(y, i, behind)
 }
 
 // What is wrong with the entries of a row, one after another; or too few are listed.
-fn say_entries(segments: &[f32], segment_count: u32, y: u32, row: &[u32]) -> u8
-    ensures { result ≤ 3 }
-{
-    let mut behind: u32 = 0;
-    let mut j: usize = 0;
-    while j < row.len() {
-        let i = row[j];
-        let status = say_entry(segments, segment_count, y, i, behind, j == 0);
-        if status != 0 {
-            return status;
+fn of_entries(table: &Table<'_>, y: u32, row: &[u32]) -> Failure {
+    let mut behind = None;
+    for &i in row {
+        if let Some(failure) = of_entry(table, y, i, behind) {
+            return failure;
         }
-        behind = i;
-        j += 1;
+        behind = Some(i);
     }
-    say_few(segments, segment_count, y, row.len())
-}
-
-fn say_start(first: u32) -> u8
-    ensures { result ≤ 3 }
-{
-    words::wrong(
-        1,
-        b"TABLE (14) at row 0: its start is #, and 0 is due\n",
-        &[first as u64],
-    )
-}
-
-fn say_order(y: u32, first: u32, past: u32) -> u8
-    ensures { result ≤ 3 }
-{
-    words::wrong(
-        1,
-        b"TABLE (14) at row #: it starts at #, and the next one before that, at #\n",
-        &[y as u64, first as u64, past as u64],
-    )
-}
-
-fn say_end(y: u32, past: u32, listed: usize) -> u8
-    ensures { result ≤ 3 }
-{
-    words::wrong(
-        1,
-        b"TABLE (14) at row #: it ends at #, and there are # entries\n",
-        &[y as u64, past as u64, listed as u64],
+    let listed = row.len();
+    let due = (0..table.segment_count)
+        .filter(|&i| has_row(table.segments, i, y))
+        .count();
+    of_row(
+        y,
+        format_args!("it lists {listed} segments, and {due} have it"),
     )
 }
 
 // What is wrong with a row that begins and ends there.
-fn say_row(
-    segments: &[f32],
-    segment_count: u32,
-    y: u32,
-    first: u32,
-    past: u32,
-    entries: &[u32],
-) -> u8
-    ensures { result ≤ 3 }
-{
-    if y == 0 {
-        if 0 < first {
-            return say_start(first);
-        }
+fn of_bounds(table: &Table<'_>, y: u32, first: u32, past: u32) -> Failure {
+    if y == 0 && 0 < first {
+        return of_row(y, format_args!("its start is {first}, and 0 is due"));
     }
     if past < first {
-        return say_order(y, first, past);
+        return of_row(
+            y,
+            format_args!("it starts at {first}, and the next one before that, at {past}"),
+        );
     }
-    if entries.len() < past as usize {
-        return say_end(y, past, entries.len());
+    let listed = table.entries.len();
+    match table.entries.get(first as usize..past as usize) {
+        Some(row) => of_entries(table, y, row),
+        None => of_row(
+            y,
+            format_args!("it ends at {past}, and there are {listed} entries"),
+        ),
     }
-    say_entries(
-        segments,
-        segment_count,
-        y,
-        &entries[first as usize..past as usize],
-    )
-}
-
-fn say_left() -> u8
-    ensures { result ≤ 3 }
-{
-    words::wrong(
-        1,
-        b"TABLE (14): entries are left behind the last row, or there are more than a table may have\n",
-        &[],
-    )
 }
 
 // What is wrong at a place: a row, or the height, where entries are left over.
-fn say_wrong(
-    segments: &[f32],
-    segment_count: u32,
-    row_starts: &[u32],
-    entries: &[u32],
-    height: u32,
-    place: usize,
-) -> u8
-    ensures { result ≤ 3 }
-{
-    if place < height as usize {
-        if place + 1 < row_starts.len() {
-            return say_row(
-                segments,
-                segment_count,
-                place as u32,
-                row_starts[place],
-                row_starts[place + 1],
-                entries,
-            );
-        }
+fn of_place(table: &Table<'_>, place: usize) -> Failure {
+    if place < table.height as usize && place + 1 < table.row_starts.len() {
+        return of_bounds(
+            table,
+            place as u32,
+            table.row_starts[place],
+            table.row_starts[place + 1],
+        );
     }
-    say_left()
+    wrong(
+        Failure::Refused,
+        "TABLE (14): entries are left behind the last row, or there are more than a table may have\n",
+    )
 }
 
 // ---- another maker's
 
-fn say_short(starts: usize, numbers: usize) -> u8
-    ensures { result ≤ 3 }
-{
-    words::wrong(
-        1,
-        b"SHAPE (9): # row starts are due, and there are # numbers\n",
-        &[starts as u64, numbers as u64],
-    )
-}
-
-fn say_yes(to: Stdout, n: u32) -> u8
-    ensures { result ≤ 3 }
-{
-    words::out(
+// Whether a table is that of the picture.
+fn check_table(to: Stdout, table: &Table<'_>) -> Result<(), Failure> {
+    let entries = makers_search::check(table).map_err(|(_, place)| of_place(table, place))?;
+    out(
         to,
-        b"yes: this is the table of the picture, with # entries\n",
-        &[n as u64],
+        format_args!("yes: this is the table of the picture, with {entries} entries\n"),
     )
 }
 
-// Whether these are the row starts and the entries of a picture of so many rows.
-fn check_parts(
-    to: Stdout,
-    segments: &[f32],
-    segment_count: u32,
-    height: u32,
-    row_starts: &[u32],
-    entries: &[u32],
-) -> u8
-    ensures { result ≤ 3 }
-{
-    let listed = entries.len();
-    if 1073741824 < listed {
-        return 1;
+// Whether the numbers are the row starts and the entries of the table of this picture.
+fn check_numbers(to: Stdout, ours: &Table<'_>, numbers: &[u32]) -> Result<(), Failure> {
+    let starts = ours.height as usize + 1;
+    let n = numbers.len();
+    if n < starts {
+        return Err(wrong(
+            Failure::Refused,
+            format_args!("SHAPE (9): {starts} row starts are due, and there are {n} numbers\n"),
+        ));
     }
-    match makers_search::check(
-        segments,
-        segment_count,
-        height,
-        row_starts,
-        entries,
-        listed as u32,
-    ) {
-        CheckAnswer::Done(n) => say_yes(to, n),
-        CheckAnswer::Refused(_, place) => {
-            say_wrong(segments, segment_count, row_starts, entries, height, place)
-        }
-    }
-}
-
-// The same of numbers, the row starts first.
-fn check_numbers(
-    to: Stdout,
-    segments: &[f32],
-    segment_count: u32,
-    height: u32,
-    numbers: &[u32],
-) -> u8
-    ensures { result ≤ 3 }
-{
-    let starts = height as usize + 1;
-    if numbers.len() < starts {
-        return say_short(starts, numbers.len());
-    }
-    check_parts(
+    let entries = &numbers[starts..];
+    let entry_count = u32::try_from(entries.len()).map_err(|_| Failure::Refused)?;
+    check_table(
         to,
-        segments,
-        segment_count,
-        height,
-        &numbers[0..starts],
-        &numbers[starts..],
+        &Table {
+            row_starts: &numbers[..starts],
+            entries,
+            entry_count,
+            ..*ours
+        },
     )
 }
 
-// The same of the first k of these numbers.
-fn check_first(
-    to: Stdout,
-    segments: &[f32],
-    segment_count: u32,
-    height: u32,
-    numbers: &[u32],
-    k: usize,
-) -> u8
-    ensures { result ≤ 3 }
-{
-    if numbers.len() < k {
-        return 1;
-    }
-    check_numbers(to, segments, segment_count, height, &numbers[0..k])
-}
-
-// The same of the numbers that a text of the named file has, which go to a room.
+// The same of the numbers that a text of this name has, which go to a room. Rooms are lent as arrays: the length of each is then known by its type, and no proof counts its cells.
 fn check_parsed(
     to: Stdout,
-    segments: &[f32],
-    segment_count: u32,
-    height: u32,
-    named: Named<'_>,
-    bytes: &[u8],
+    ours: &Table<'_>,
+    name: &[u8],
+    text: &[u8],
     numbers: &mut [u32; NUMBERS],
-) -> u8
-    ensures { result ≤ 3 }
-{
-    match files::parse(named.name, bytes, numbers) {
-        Loaded::Long => 1,
-        Loaded::Status(status) => told(status),
-        Loaded::Count(k) => check_first(to, segments, segment_count, height, numbers, k),
-    }
+) -> Result<(), Failure> {
+    let n = files::parse(name, text, numbers)?;
+    check_numbers(to, ours, &numbers[..n])
 }
 
-// The same of the first n bytes of a text, which the named file has.
-fn check_text(
-    to: Stdout,
-    segments: &[f32],
-    segment_count: u32,
-    height: u32,
-    named: Named<'_>,
-    bytes: &[u8],
-    n: usize,
-) -> u8
-    ensures { result ≤ 3 }
-{
-    if bytes.len() < n {
-        return 1;
-    }
+fn check_text(to: Stdout, ours: &Table<'_>, name: &[u8], text: &[u8]) -> Result<(), Failure> {
     let mut numbers = [0u32; NUMBERS];
-    check_parsed(
-        to,
-        segments,
-        segment_count,
-        height,
-        named,
-        &bytes[0..n],
-        &mut numbers,
-    )
+    check_parsed(to, ours, name, text, &mut numbers)
 }
 
 // The same of the named file, whose bytes go to a room.
 fn check_file(
     to: Stdout,
-    segments: &[f32],
-    segment_count: u32,
-    height: u32,
+    ours: &Table<'_>,
     named: Named<'_>,
     bytes: &mut [u8; BYTES],
-) -> u8
-    ensures { result ≤ 3 }
-{
-    match files::load(named, bytes) {
-        Loaded::Long => files::say_long(named.name, BYTES - 1),
-        Loaded::Status(status) => told(status),
-        Loaded::Count(n) => check_text(to, segments, segment_count, height, named, bytes, n),
+) -> Result<(), Failure> {
+    match files::load(named, bytes)? {
+        None => Err(files::too_long(named.name, BYTES - 1)),
+        Some(n) => check_text(to, ours, named.name, &bytes[..n]),
     }
 }
 
-// Whether the named file holds the row starts and the entries of these segments, in a picture of so many rows.
-// The room is lent as an array: its length is then known by its type, and no proof counts its bytes.
-pub fn check(to: Stdout, segments: &[f32], segment_count: u32, height: u32, named: Named<'_>) -> u8
-    ensures { result ≤ 3 }
+// Whether the named file holds the row starts and the entries of the table of this picture.
+pub fn check(to: Stdout, ours: &Table<'_>, named: Named<'_>) -> Result<(), Failure>
+    ensures { Unit {0} }
 {
     let mut bytes = [0u8; BYTES];
-    check_file(to, segments, segment_count, height, named, &mut bytes)
+    check_file(to, ours, named, &mut bytes)
 }
