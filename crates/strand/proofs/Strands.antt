@@ -1,5 +1,6 @@
 -- A walk on the front of a buffer has the segments of its points, and the steps of a spline are put together.
-use mathlib.Core.Path.{◌≡◌, ap, ◌∙◌}
+use mathlib.Core.Path.{◌≡◌, sym, ap, ◌∙◌}
+use Rattle.std.specs.Prelude.{Some}
 use mathlib.Core.Bool.{Bool, true, false}
 use mathlib.Core.List.{List, []}
 use Prim.Native.Nat.{ℕ, ◌-◌, ◌*◌, ◌/◌, ◌≤◌, ◌<◌}
@@ -13,15 +14,28 @@ use Rattle.numbers.specs.Arith.{f}
 use Rattle.control_points.specs.declared.Pair.{Pair}
 use Rattle.dequantize.specs.declared.Spline.{Spline}
 use Rattle.curve.specs.Curve as Curve
-use Rattle.curve.specs.Curve.{path_of}
-use Rattle.walk.specs.Walk.{walk_in, walk_length, last_multiplier}
-use Rattle.walk.proofs.Answers.{Taken, taken-last}
+use Rattle.curve.specs.Curve.{path_of, curved_of, curved_on}
+use Rattle.curve.specs.Curved.{Curved}
+use Rattle.curve.specs.declared.Point.{Point}
+use Rattle.curve.proofs.Answers.{OnFront, curved-got}
+use Rattle.walk.specs.Walk.{walk_in, walk_length, last_multiplier, walked_of, WalkedOn}
+use Rattle.walk.specs.Walked.{Walked}
+use Rattle.walk.proofs.Answers.{Taken, taken-last, walked-got}
 use Rattle.walk.proofs.Walking.{length_flat}
 use Rattle.points.specs.Points.{add_segments_from_points, filled_of, FilledOn}
-use Rattle.points.specs.declared.Filled.TheVariants.{Count}
+use Rattle.points.specs.Filled.{Count}
 use Rattle.points.proofs.Adding.{made_none}
 use Rattle.segments.specs.declared.Segment.{Segment}
 use Rattle.strand.specs.Strand.{walk_segments, flat_segments, after_walk, strand_of, NoRoom, Segments}
+
+-- ---- what the steps answer
+
+-- a path that had room, and a walk that had room
+pub path_taken : (room : ℕ) (path : List Point) (o e : List Float) (n : ℕ) {a : Curved} → a ≡ Some n → (a ≡ curved_of room path) × (e ≡ curved_on room path o) → OnFront room path e n
+path_taken room path o e n q w = curved-got room path o e n (sym q ∙ w.0) w.1
+
+pub walk_taken : (room : ℕ) (path o e : List Float) (n : ℕ) {a : Walked} → a ≡ Some n → (a ≡ walked_of (walk_in room path)) × WalkedOn (walk_in room path) o e → Taken room path e n
+walk_taken room path o e n q w = walked-got room path o e n (sym q ∙ w.0) w.1
 
 -- ---- a walk
 

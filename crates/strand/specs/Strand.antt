@@ -9,8 +9,7 @@ use Rattle.segments.specs.declared.Segment.{Segment}
 use Rattle.curve.specs.Curve as Curve
 use Rattle.curve.specs.Curve.{path_of}
 use Rattle.walk.specs.Walk.{PointToDraw, Walk, More, Ended, walk_in, walk_length, last_multiplier, flat}
-use Rattle.points.specs.declared.Filled.{Filled}
-use Rattle.points.specs.declared.Filled.TheVariants.{Room}
+use Rattle.points.specs.Filled.{Filled, Room}
 use Rattle.points.specs.Points.{add_segments_from_points, filled_of}
 
 -- the segments of points_to_draw; a length of 0 or less skips the spline

@@ -10,10 +10,7 @@ ghost use Rattle.walk.specs.Walk.{walk_in, walk_room};
 ghost use Rattle.strand.specs.Strand.{flat_segments, after_walk, strand_of, strand_filled, segments_of};
 
 use control_points::Pair;
-use curve::Curved;
 use dequantize::Spline;
-use points::Filled;
-use walk::Walked;
 
 // The segments of a walk of three numbers a point. A length of 0 or less leaves none.
 fn draw_walk(
@@ -22,7 +19,7 @@ fn draw_walk(
     high_precision: bool,
     out: &mut [f32],
     from: usize,
-) -> Filled
+) -> Option<usize>
     requires { (2 ≤ length walk.now / 3) × (length walk.now / 3 ≤ 8388608) × (from ≤ segment_room (length out.old)) }
     ensures { (result ≡ filled_of (segment_room (length out.old)) from (flat_segments spline high_precision walk.now))
         × FilledOn result from (flat_segments spline high_precision walk.now) out.old out.new }
@@ -31,7 +28,7 @@ fn draw_walk(
     let last = walk[3 * n - 1];
     let walk_length = walk::length_of(n, last);
     if walk_length <= 0.0 {
-        return Filled::Count(from);
+        return Some(from);
     }
     points::add_segments_from_points(spline, walk, walk_length, high_precision, out, from)
 }
@@ -44,21 +41,16 @@ fn draw_path(
     walk: &mut [f32],
     out: &mut [f32],
     from: usize,
-) -> Filled
+) -> Option<usize>
     requires { (2 ≤ length path.now) × (from ≤ segment_room (length out.old)) }
     ensures { (result ≡ strand_filled (segment_room (length out.old)) from (after_walk spline high_precision (walk_in (walk_room (length walk.old)) path.now)))
         × FilledOn result from (segments_of (after_walk spline high_precision (walk_in (walk_room (length walk.old)) path.now))) out.old out.new }
 {
-    match walk::walk(path, walk) {
-        Walked::Room => Filled::Room,
-        Walked::Points(n) => {
-            let end = 3 * n;
-            draw_walk(&walk[..end], spline, high_precision, out, from)
-        }
-    }
+    let n = walk::walk(path, walk)?;
+    draw_walk(&walk[..3 * n], spline, high_precision, out, from)
 }
 
-// The segments of a spline that was judged before, after the first `from` segments.
+// The segments of a spline that was judged before, after the first `from` segments: how many there are now, or None, where there is no room.
 pub fn draw_spline(
     start: Pair,
     deltas: &[i32],
@@ -68,16 +60,11 @@ pub fn draw_spline(
     walk: &mut [f32],
     out: &mut [f32],
     from: usize,
-) -> Filled
+) -> Option<usize>
     requires { Passable (stand_at start) deltas.now × (from ≤ segment_room (length out.old)) }
     ensures { (result ≡ strand_filled (segment_room (length out.old)) from (strand_of (path_room (length path.old)) (walk_room (length walk.old)) start deltas.now spline high_precision))
         × FilledOn result from (segments_of (strand_of (path_room (length path.old)) (walk_room (length walk.old)) start deltas.now spline high_precision)) out.old out.new }
 {
-    match curve::curve(start, deltas, path) {
-        Curved::Room => Filled::Room,
-        Curved::Points(n) => {
-            let end = 2 * n;
-            draw_path(&path[..end], spline, high_precision, walk, out, from)
-        }
-    }
+    let n = curve::curve(start, deltas, path)?;
+    draw_path(&path[..2 * n], spline, high_precision, walk, out, from)
 }

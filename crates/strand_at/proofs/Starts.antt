@@ -5,8 +5,7 @@ use lib.IntN.{ℤ}
 use lib.Ieee.{Float}
 use Rattle.dequantize.specs.declared.Given.{Given}
 use Rattle.control_points.specs.declared.Pair.{Pair}
-use Rattle.control_points.specs.declared.Start.{Start}
-use Rattle.control_points.specs.declared.Start.TheVariants.{At}
+use Rattle.control_points.specs.Answers.{Start, At}
 use Rattle.control_points.specs.ControlPoints.{starting_point, stand_at}
 use Rattle.control_points.specs.Asked.{Passable}
 use Rattle.dequantize.specs.Asked.{SplineAccepted}

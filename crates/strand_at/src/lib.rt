@@ -7,9 +7,7 @@ ghost use Rattle.points.specs.Points.{segment_room};
 ghost use Rattle.dequantize.specs.Asked.{SplineAccepted};
 ghost use Rattle.strand_at.specs.Strands.{strand_here, Fills};
 
-use control_points::Start;
 use dequantize::Given;
-use points::Filled;
 
 // The segments of the spline k, whose double deltas are given.
 pub fn draw_one(
@@ -23,23 +21,22 @@ pub fn draw_one(
     walk: &mut [f32],
     out: &mut [f32],
     from: usize,
-) -> Filled
+) -> Option<usize>
     requires { (2 * k + 2 ≤ length starts.now) × (128 * k + 128 ≤ length coefficients.now) × (from ≤ segment_room (length out.old))
         × SplineAccepted (get_or starts.now (2 * k) nan) (get_or starts.now (2 * k + 1) nan) deltas.now (take 128 (drop (128 * k) coefficients.now)) given }
     ensures { Fills from (strand_here starts.now deltas.now coefficients.now k given high_precision (length path.old) (length walk.old)) result out.old out.new }
 {
-    let spline = dequantize::judge::spline_at(starts, deltas, coefficients, k, given);
-    match control_points::starting_point(starts[2 * k], starts[2 * k + 1]) {
-        Start::Out => Filled::Room,
-        Start::At(start) => strand::draw_spline(
-            start,
-            deltas,
-            spline,
-            high_precision,
-            path,
-            walk,
-            out,
-            from,
-        ),
-    }
+    // The spline was accepted, so it is dequantized again, and its start is a place.
+    let spline = dequantize::judge::spline_at(starts, deltas, coefficients, k, given).unwrap();
+    let start = control_points::starting_point(starts[2 * k], starts[2 * k + 1]).unwrap();
+    strand::draw_spline(
+        start,
+        deltas,
+        spline,
+        high_precision,
+        path,
+        walk,
+        out,
+        from,
+    )
 }
