@@ -13,8 +13,7 @@ use Rattle.dequantize.specs.declared.Given.{Given}
 use Rattle.dequantize.specs.Judge.{Description, deltas_at, deltas_of}
 use Rattle.dequantize.proofs.Judging.{deltas_more}
 use Rattle.segments.specs.declared.Segment.{Segment}
-use Rattle.points.specs.declared.Filled.{Filled}
-use Rattle.points.specs.declared.Filled.TheVariants.{Count, Room}
+use Rattle.points.specs.Filled.{Filled, Count, Room}
 use Rattle.points.specs.Points.{eights, FilledOn}
 use Rattle.points.proofs.Adding.{eights_append, length_eights, count_got, on_count}
 use Rattle.strand.specs.Strand.{Strand, NoRoom, Segments, strand_filled, segments_of}
@@ -28,7 +27,7 @@ part_is d k at w e f = let j : at + 2 * w - at ≡ 2 * w = omega arith in rw (j,
 
 -- a strand that had room
 strand_got : (room count : ℕ) (s : Strand) (n : ℕ) → Count n ≡ strand_filled room count s → (n ≡ count + length (segments_of s)) × (n ≤ room)
-strand_got room count NoRoom n e = absurd (let z : ◌≡◌ {A = ℕ} 0 1 = cc in omega arith)
+strand_got room count NoRoom n e = absurd (cc)
 strand_got room count (Segments segs) n e = let g = count_got room count segs n e in omega (arith, g.0, g.1)
 
 module _ (d : Description) (g : Given) (high : Bool) (p w room : ℕ) (o₀ : List Float) (u₀ : List ℕ) where

@@ -12,7 +12,7 @@ use Rattle.points.specs.Points.{segment_room, eights}
 use Rattle.points.proofs.Adding.{length_eights}
 use Rattle.owners.specs.Owners.{owned_room}
 use Rattle.painting.specs.Painting.{Painted, All, NoRoomAt, drawn_of, DrawnOn}
-use Rattle.painting.specs.declared.Segmented.{Segmented}
+use Rattle.painting.specs.Segmented.{Segmented}
 
 -- so many records are lent that their room is the whole room
 pub room_is : (o : List Float) (owners room : ℕ) → room ≡ owned_room (length o) owners

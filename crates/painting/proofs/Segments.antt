@@ -12,8 +12,7 @@ use lib.Ieee.{Float}
 use borrow.Author.Tests.{leb-true, leb-false, le-leb, lt-leb}
 use Rattle.dequantize.specs.declared.Given.{Given}
 use Rattle.control_points.specs.declared.Pair.{Pair}
-use Rattle.control_points.specs.declared.Start.{Start}
-use Rattle.control_points.specs.declared.Start.TheVariants.{At, Out}
+use Rattle.control_points.specs.Answers.{Start, At, Out}
 use Rattle.control_points.specs.ControlPoints.{starting_point}
 use Rattle.dequantize.specs.Judge.{Description, Shaped, start_x, start_y, deltas_at, deltas_of, spline_of}
 use Rattle.dequantize.proofs.Judging.{deltas_fit}
@@ -24,16 +23,13 @@ use Rattle.curve.specs.Curve.{path_of, path_room}
 use Rattle.curve.proofs.Paths.{length_path}
 use Rattle.walk.specs.Walk.{Walk, More, Ended, walk_in, Walks, walk_room}
 use Rattle.walk.proofs.Fuel.{walk_within, walk_enough, walk_one, walk_fewer}
-use Rattle.points.specs.declared.Filled.TheVariants.{Count, Room}
+use Rattle.points.specs.Filled.{Count, Room}
 use Rattle.points.specs.Points.{filled_of}
 use Rattle.owners.specs.Owners.{owned_room, owners_of}
 use Rattle.strand.specs.Strand.{Strand, NoRoom, Segments, walk_segments, after_walk, strand_of, strand_filled, segments_of}
 use Rattle.strand_at.specs.Strands.{strand_at}
 use Rattle.painting.specs.Painting.{strand_of_spline, Painted, All, NoRoomAt, after_strand, paint_from, paint_of, Passed}
 use Rattle.painting.specs.Segments.{SplineMakes, MakesUpTo, none_made, one_made, path_needs, SplineFits, DrawnUpTo, none_drawn, one_drawn, SplineLacks, path_lacks, walk_lacks, segments_lack, FirstLacks}
-
-differ : {A : Type 0} → ◌≡◌ {A = ℕ} 0 1 → A
-differ e = absurd (omega arith)
 
 -- ---- one list of segments
 
@@ -151,7 +147,7 @@ module _ (d : Description) (g : Given) (high : Bool) (p w k : ℕ) where
           (same_start (sym b ∙ q)) (inl (leb-false (length (path_of start (deltas_of d k))) p e))
 
       by_start : (s : Start) → starting_point (start_x d k) (start_y d k) ≡ s → Comes (strand_at p w s (deltas_of d k) (spline_of d g k) high)
-      by_start Out e = λ start q. differ cc
+      by_start Out e = λ start q. absurd (cc)
       by_start (At start) e = by_path start e (leb (length (path_of start (deltas_of d k))) p) refl
 
 -- ---- all splines

@@ -2,16 +2,18 @@
 use Rattle.std.specs.Prelude.{◌≡◌, Bool, List, [], ◌++◌, ℕ, zero, suc, ◌≤◌, length, Float}
 use Rattle.std.proofs.lemmas.List.Edits.{sets}
 use Rattle.dequantize.specs.declared.Given.{Given}
-use Rattle.dequantize.specs.declared.judge.Judged.TheVariants as Judged
+use Rattle.dequantize.specs.Answers as Judged
 use Rattle.control_points.specs.ControlPoints.{starting_point}
 use Rattle.dequantize.specs.Judge.{Description, start_x, start_y, deltas_of, spline_of, judge_of}
 use Rattle.segments.specs.declared.Segment.{Segment}
-use Rattle.points.specs.declared.Filled.{Filled}
+use Rattle.points.specs.Filled.{Filled}
+use Rattle.points.specs.Filled as Filled
 use Rattle.points.specs.Points.{eights}
 use Rattle.strand.specs.Strand.{Strand, strand_filled, segments_of}
 use Rattle.strand_at.specs.Strands.{strand_at}
 use Rattle.owners.specs.Owners.{owners_of}
-use Rattle.painting.specs.declared.Segmented.{Segmented}
+use Rattle.painting.specs.Segmented.{Segmented}
+use Rattle.painting.specs.Segmented as Segmented
 
 -- the spline k of a description
 unfoldable pub strand_of_spline : Description → Given → Bool → ℕ → ℕ → ℕ → Strand

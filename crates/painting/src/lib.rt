@@ -6,53 +6,36 @@ ghost use Rattle.points.specs.Points.{segment_room};
 ghost use Rattle.owners.specs.Owners.{owned_room};
 ghost use Rattle.curve.specs.Curve.{path_room};
 ghost use Rattle.walk.specs.Walk.{walk_room};
-ghost use Rattle.dequantize.specs.Judge.{description_of, Shaped};
+ghost use Rattle.dequantize.specs.Judge.{description_in, Shaped};
 ghost use Rattle.painting.specs.Painting.{Passed, paint_of, drawn_of, DrawnOn};
 
 use dequantize::Given;
-use points::Filled;
+use shape::Description;
 use strand_at::draw_one;
-
-// How many segments there are, or the number of the spline that has no room.
-#[derive(Clone, Copy)]
-pub enum Segmented {
-    Count(usize),
-    Room(usize),
-}
-
-fn wide(x: u32) -> usize
-    ensures { result ≡ x }
-{
-    x as usize
-}
 
 // The segments of all splines of a description that was judged before, where each segment that has room has a cell for its owner too.
 fn draw_each(
-    counts: &[u32],
-    starts: &[f32],
-    deltas: &[i32],
-    coefficients: &[i32],
+    description: &Description<'_>,
     given: Given,
     high_precision: bool,
     path: &mut [f32],
     walk: &mut [f32],
     out: &mut [f32],
     owners: &mut [u64],
-) -> Segmented
-    requires { Shaped (description_of counts.now starts.now deltas.now coefficients.now) × Passed (description_of counts.now starts.now deltas.now coefficients.now) given × (segment_room (length out.old) ≤ length owners.old) }
-    ensures { (result ≡ drawn_of (paint_of (description_of counts.now starts.now deltas.now coefficients.now) given high_precision (path_room (length path.old)) (walk_room (length walk.old)) (segment_room (length out.old))))
-        × DrawnOn (paint_of (description_of counts.now starts.now deltas.now coefficients.now) given high_precision (path_room (length path.old)) (walk_room (length walk.old)) (segment_room (length out.old))) (segment_room (length out.old)) out.old out.new owners.old owners.new }
+) -> Result<usize, usize>
+    requires { Shaped (description_in description.now) × Passed (description_in description.now) given × (segment_room (length out.old) ≤ length owners.old) }
+    ensures { (result ≡ drawn_of (paint_of (description_in description.now) given high_precision (path_room (length path.old)) (walk_room (length walk.old)) (segment_room (length out.old))))
+        × DrawnOn (paint_of (description_in description.now) given high_precision (path_room (length path.old)) (walk_room (length walk.old)) (segment_room (length out.old))) (segment_room (length out.old)) out.old out.new owners.old owners.new }
 {
-    let mut k = 0;
     let mut at = 0;
     let mut count = 0;
-    while k < counts.len() {
-        let end = at + 2 * wide(counts[k]);
-        let next = k + 1;
-        let Filled::Count(more) = draw_one(
-            starts,
-            &deltas[at..end],
-            coefficients,
+    for (k, n) in description.counts.iter().enumerate() {
+        let end = at + 2 * *n as usize;
+        let deltas = &description.deltas[at..end];
+        let drawn = draw_one(
+            description.starts,
+            deltas,
+            description.coefficients,
             k,
             given,
             high_precision,
@@ -60,40 +43,35 @@ fn draw_each(
             walk,
             out,
             count,
-        ) else {
-            return Segmented::Room(k);
+        );
+        let Some(more) = drawn else {
+            return Err(k);
         };
         owners::fill(owners, count, more, k);
         count = more;
         at = end;
-        k = next;
     }
-    Segmented::Count(count)
+    Ok(count)
 }
 
-// The segments of all splines of a description that was judged before, and the number of the spline of each. A segment needs its record and its owner's cell.
+// The segments of all splines of a description that was judged before, and the number of the spline of each: how many segments there are, or the
+// number of the first spline without room. A segment needs its record and its owner's cell.
 pub fn draw_all(
-    counts: &[u32],
-    starts: &[f32],
-    deltas: &[i32],
-    coefficients: &[i32],
+    description: &Description<'_>,
     given: Given,
     high_precision: bool,
     path: &mut [f32],
     walk: &mut [f32],
     out: &mut [f32],
     owners: &mut [u64],
-) -> Segmented
-    requires { Shaped (description_of counts.now starts.now deltas.now coefficients.now) × Passed (description_of counts.now starts.now deltas.now coefficients.now) given }
-    ensures { (result ≡ drawn_of (paint_of (description_of counts.now starts.now deltas.now coefficients.now) given high_precision (path_room (length path.old)) (walk_room (length walk.old)) (owned_room (length out.old) (length owners.old))))
-        × DrawnOn (paint_of (description_of counts.now starts.now deltas.now coefficients.now) given high_precision (path_room (length path.old)) (walk_room (length walk.old)) (owned_room (length out.old) (length owners.old))) (owned_room (length out.old) (length owners.old)) out.old out.new owners.old owners.new }
+) -> Result<usize, usize>
+    requires { Shaped (description_in description.now) × Passed (description_in description.now) given }
+    ensures { (result ≡ drawn_of (paint_of (description_in description.now) given high_precision (path_room (length path.old)) (walk_room (length walk.old)) (owned_room (length out.old) (length owners.old))))
+        × DrawnOn (paint_of (description_in description.now) given high_precision (path_room (length path.old)) (walk_room (length walk.old)) (owned_room (length out.old) (length owners.old))) (owned_room (length out.old) (length owners.old)) out.old out.new owners.old owners.new }
 {
     let end = 8 * owners::room(out.len(), owners.len());
     draw_each(
-        counts,
-        starts,
-        deltas,
-        coefficients,
+        description,
         given,
         high_precision,
         path,

@@ -29,14 +29,5 @@ pub fn draw_one(
     // The spline was accepted, so it is dequantized again, and its start is a place.
     let spline = dequantize::judge::spline_at(starts, deltas, coefficients, k, given).unwrap();
     let start = control_points::starting_point(starts[2 * k], starts[2 * k + 1]).unwrap();
-    strand::draw_spline(
-        start,
-        deltas,
-        spline,
-        high_precision,
-        path,
-        walk,
-        out,
-        from,
-    )
+    strand::draw_spline(start, deltas, spline, high_precision, path, walk, out, from)
 }

@@ -3,7 +3,7 @@
 use Prim.Native.Nat.{ℕ}
 use native.Mathlib.Omega.{arith}
 use lib.ListN.{length}
-use Rattle.dequantize.specs.Judge.{description_of}
+use Rattle.dequantize.specs.Judge.{description_in}
 use Rattle.curve.specs.Curve.{path_room}
 use Rattle.walk.specs.Walk.{walk_room}
 use Rattle.painting.specs.Painting.{paint_of}
@@ -25,5 +25,5 @@ pub returns : goal.returns
 returns c =
     let m = c.room-end in
     let d = c.draw_each in
-    part_drawn (λ (room : ℕ). paint_of (description_of c.args.counts.now c.args.starts.now c.args.deltas.now c.args.coefficients.now) c.args.given c.args.high_precision (path_room (length c.args.path.now)) (walk_room (length c.args.walk.now)) room)
+    part_drawn (λ (room : ℕ). paint_of (description_in c.args.description.now) c.args.given c.args.high_precision (path_room (length c.args.path.now)) (walk_room (length c.args.walk.now)) room)
     c.args.out.now d.new.out c.args.owners.now d.new.owners m.result m.ensures d.ensures
