@@ -2,124 +2,219 @@
 #![tactic(auto)]
 
 ghost use Rattle.std.specs.Prelude.{◌≡◌};
-ghost use Rattle.told.specs.Told.{signed_of, told_refusal, told_hide, told_profile, told_profile_build, told_bands, told_in};
+ghost use Rattle.codes.specs.Codes.{number_of};
+ghost use Rattle.told.specs.Told.{signed_of, no_counts, one_count, two_counts, read_counts, file_counts, built_counts, reason_of, unmet_of, told_of, told_in};
 
-use bands::BandsAnswer;
-use codes::Code;
-use desks::HideAnswer;
-use profile::ProfileAnswer;
-use profile_told::ProfileBuildAnswer;
+use build_answer::Built;
+use codes::{Code, Refusal};
+use profile::Unmet;
+use read_list::Read;
+use segments::Range;
+use trace2::FileRead;
 
-// A number as C's int64_t. No slice has 2^63 cells, so no place is cut.
-pub fn signed(n: usize) -> i64
-    ensures { result ≡ signed_of n }
-{
-    if n < 9223372036854775808 {
-        n as i64
-    } else {
-        9223372036854775807
-    }
-}
-
-// A call's answer for C: the code's number, and what the five numbers tell.
-#[derive(Clone, Copy)]
-pub struct Told {
-    pub number: u32,
-    pub place: i64,
+// The counts of a success, with zeros behind those that it has.
+#[derive(Clone, Copy, Debug, PartialEq, Eq)]
+pub struct Counts {
     pub first: i64,
     pub second: i64,
     pub third: i64,
     pub fourth: i64,
 }
 
-pub fn told_refusal(code: Code, place: usize) -> Told
-    ensures { result ≡ told_refusal code place }
+// An outcome in the terms of the table of codes: the code's number, the place and the counts.
+#[derive(Clone, Copy, Debug, PartialEq, Eq)]
+pub struct Told {
+    pub number: u32,
+    pub place: i64,
+    pub counts: Counts,
+}
+
+// A success, and what it counts.
+pub trait Counted {
+    ghost use Rattle.told.specs.declared.Counts.{Counts};
+
+    ghost counted: { Self → Counts };
+
+    fn counts(self) -> Counts
+        ensures { result ≡ counted self };
+}
+
+// A refusal, and what it tells.
+pub trait Reason {
+    ghost use Rattle.told.specs.declared.Told.{Told};
+
+    ghost reason: { Self → Told };
+
+    fn why(self) -> Told
+        ensures { result ≡ reason self };
+}
+
+// ---- counts
+
+// A number as C's int64_t. No slice has 2^63 cells, so no place is cut.
+pub fn signed(n: usize) -> i64
+    ensures { result ≡ signed_of n }
+{
+    i64::try_from(n).unwrap_or(i64::MAX)
+}
+
+fn one(count: i64) -> Counts
+    ensures { result ≡ one_count count }
+{
+    Counts {
+        first: count,
+        second: 0,
+        third: 0,
+        fourth: 0,
+    }
+}
+
+// A hiding, and a description that meets its profile.
+impl Counted for () {
+    ghost counted = { λ _. no_counts };
+
+    fn counts(self) -> Counts {
+        one(0)
+    }
+}
+
+// The values or bytes that were written, or the double deltas that were read from a text.
+impl Counted for usize {
+    ghost counted = { λ n. one_count (signed_of n) };
+
+    fn counts(self) -> Counts {
+        one(signed(self))
+    }
+}
+
+// The updates of a drawing.
+impl Counted for u64 {
+    ghost counted = { λ n. one_count (signed_of n) };
+
+    fn counts(self) -> Counts {
+        one(signed(self as usize))
+    }
+}
+
+// The entries of another maker's table, or the bands of a summary.
+impl Counted for u32 {
+    ghost use Rattle.std.specs.Prelude.{pos};
+
+    ghost counted = { λ n. one_count (pos n) };
+
+    fn counts(self) -> Counts {
+        one(i64::from(self))
+    }
+}
+
+// A reach: its first column, and the one past its last.
+impl Counted for Range {
+    ghost counted = { two_counts };
+
+    fn counts(self) -> Counts {
+        Counts {
+            first: i64::from(self.first),
+            second: i64::from(self.past),
+            third: 0,
+            fourth: 0,
+        }
+    }
+}
+
+impl Counted for Read {
+    ghost counted = { read_counts };
+
+    fn counts(self) -> Counts {
+        Counts {
+            first: i64::from(self.splines),
+            second: i64::from(self.points),
+            third: i64::from(self.adjustment),
+            fourth: 0,
+        }
+    }
+}
+
+// With the edition as the fourth count.
+impl Counted for FileRead {
+    ghost counted = { file_counts };
+
+    fn counts(self) -> Counts {
+        let read = self.read;
+        Counts {
+            first: i64::from(read.splines),
+            second: i64::from(read.points),
+            third: i64::from(read.adjustment),
+            fourth: i64::from(self.edition),
+        }
+    }
+}
+
+impl Counted for Built {
+    ghost counted = { built_counts };
+
+    fn counts(self) -> Counts {
+        Counts {
+            first: i64::from(self.segments),
+            second: i64::from(self.entries),
+            third: signed(self.estimate as usize),
+            fourth: i64::from(self.faint),
+        }
+    }
+}
+
+// ---- reasons
+
+fn told_refusal(code: Code, place: usize, count: i64) -> Told
+    ensures { result ≡ record { number = number_of code; place = signed_of place; counts = one_count count } }
 {
     Told {
-        number: codes::number_of(code),
+        number: u32::from(code),
         place: signed(place),
-        first: 0,
-        second: 0,
-        third: 0,
-        fourth: 0,
+        counts: one(count),
     }
 }
 
-pub fn told_hide(answer: HideAnswer) -> Told
-    ensures { result ≡ told_hide answer }
+impl Reason for Refusal {
+    ghost reason = { reason_of };
+
+    fn why(self) -> Told {
+        let (code, place) = self;
+        told_refusal(code, place, 0)
+    }
+}
+
+// A broken rule is PROFILE at its spline, and the rule is its first count.
+impl Reason for Unmet {
+    ghost reason = { unmet_of };
+
+    fn why(self) -> Told {
+        match self {
+            Unmet::Broken(rule, spline) => told_refusal(Code::Profile, spline, i64::from(rule)),
+            Unmet::Refused(code, place) => told_refusal(code, place, 0),
+        }
+    }
+}
+
+// Tells C an outcome: fills the five numbers, and returns the code's.
+pub fn tell<T: Counted, E: Reason>(answer: &mut [i64; 5], outcome: Result<T, E>) -> u32
+    ensures number { result ≡ (told_of T.counted E.reason outcome).number }
+    ensures five { answer.new ≡ told_in (told_of T.counted E.reason outcome) }
 {
-    match answer {
-        HideAnswer::Done => Told {
+    let told = match outcome {
+        Ok(done) => Told {
             number: 0,
             place: 0,
-            first: 0,
-            second: 0,
-            third: 0,
-            fourth: 0,
+            counts: done.counts(),
         },
-        HideAnswer::Refused(code, place) => told_refusal(code, place),
-    }
-}
-
-pub fn told_profile(answer: ProfileAnswer) -> Told
-    ensures { result ≡ told_profile answer }
-{
-    let told = profile::told(answer);
-    Told {
-        number: told.number,
-        place: signed(told.place),
-        first: told.first as i64,
-        second: 0,
-        third: 0,
-        fourth: 0,
-    }
-}
-
-pub fn told_profile_build(answer: ProfileBuildAnswer) -> Told
-    ensures { result ≡ told_profile_build answer }
-{
-    let told = profile_told::told(answer);
-    Told {
-        number: told.number,
-        place: signed(told.place),
-        first: told.first as i64,
-        second: told.second as i64,
-        third: signed(told.third as usize),
-        fourth: told.fourth as i64,
-    }
-}
-
-pub fn told_bands(answer: BandsAnswer) -> Told
-    ensures { result ≡ told_bands answer }
-{
-    match answer {
-        BandsAnswer::Done(bands) => Told {
-            number: 0,
-            place: 0,
-            first: bands as i64,
-            second: 0,
-            third: 0,
-            fourth: 0,
-        },
-        BandsAnswer::Refused(code, place) => told_refusal(code, place),
-    }
-}
-
-// The five numbers.
-pub fn five(told: Told) -> [i64; 5]
-    ensures { result ≡ told_in told }
-{
-    let place = told.place;
-    let first = told.first;
-    let second = told.second;
-    let third = told.third;
-    let fourth = told.fourth;
-    [place, first, second, third, fourth]
-}
-
-pub fn tell(answer: &mut [i64; 5], told: Told)
-    ensures { answer.new ≡ told_in told }
-{
-    let numbers = five(told);
-    *answer = numbers;
+        Err(refusal) => refusal.why(),
+    };
+    let counts = told.counts;
+    *answer = [
+        told.place,
+        counts.first,
+        counts.second,
+        counts.third,
+        counts.fourth,
+    ];
+    told.number
 }
