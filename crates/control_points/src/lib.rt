@@ -57,6 +57,7 @@ fn rounded(x: f32) -> Option<i32>
 }
 
 // Where a spline begins, or None where POSITION refuses it.
+#[tactic(auto, using(crate::proofs::Starts::taken, crate::proofs::Pairs::in_range_mag), unfolding(crate::specs::ControlPoints::starting_point))]
 pub fn starting_point(x: f32, y: f32) -> Option<Pair>
     ensures { result ≡ starting_point x y }
 {
@@ -142,6 +143,7 @@ impl Stand {
 
 impl Run {
     // One double delta. A delta of nothing leaves the point where it is.
+    #[tactic(auto, using(crate::proofs::Pairs::point_fine, crate::proofs::Pairs::double_delta_fine, crate::proofs::Coincide::same_next), unfolding(crate::specs::ControlPoints::step_of))]
     fn step(self, dd: Pair, limit: u64) -> Result<Run, Code>
         requires { Held self limit }
         ensures { result ≡ step_of limit self dd }
