@@ -60,6 +60,7 @@ fn finished(c: &[i32], given: Given, manhattan: u64, coincide: bool) -> Spline
     }
 }
 
+#[tactic(auto, unfolding(crate::specs::Dequantize::dequantize_of))]
 pub fn dequantize(
     start_x: f32,
     start_y: f32,
