@@ -3,12 +3,10 @@
 
 mod lines;
 
-ghost use Rattle.std.specs.Prelude.{◌≤◌};
-
-use codes::Code;
+use shape::Description;
 use std::fs::File;
-use std::io::{Error, Stdout, Write};
-use writer::WriteAnswer;
+use std::io::{Stdout, Write};
+use words::{Failure, out};
 
 // As much as a trace file of 4096 splines and 2^20 points has, of version 2.
 const BYTES: usize = 10534948;
@@ -21,155 +19,71 @@ const CONFIGURED: u32 = 1048576;
 
 const PIXELS: u32 = 4294967295;
 
-// The status, after a line that says why the file could not be written.
-fn unwritten(what: &[u8], why: Error) -> u8
-    ensures { result ≤ 3 }
-{
-    words::fail(what, why);
-    1
-}
-
-// The first n bytes are the file.
-fn write_trace(to: Stdout, mut file: &File, bytes: &[u8], n: usize) -> u8
-    ensures { result ≤ 3 }
-{
-    if bytes.len() < n {
-        return 1;
-    }
-    if let Err(why) = file.write_all(&bytes[0..n]) {
-        return unwritten(b"the trace file", why);
-    }
-    words::out(to, b"# bytes\n", &[n as u64])
-}
-
-// The first n values are the list of a description with these points.
-fn write_list(to: Stdout, file: &File, list: &[u32], n: usize, counts: &[u32]) -> u8
-    ensures { result ≤ 3 }
-{
-    if list.len() < n {
-        return 1;
-    }
-    if let Err(why) = lines::write(file, &list[0..n], counts) {
-        return unwritten(b"the list", why);
-    }
-    words::out(to, b"# values\n", &[n as u64])
-}
-
-fn refuse(code: Code, place: usize) -> u8
-    ensures { result ≤ 3 }
-{
-    refusals::of_trace(code, place, &[])
-}
-
-// A trace file that goes to a room first, in version 2 with this edition, or in version 1 where the edition is 0. The room is lent as an array: its length is then known by its type, and no proof counts its cells.
+// A trace file that goes to a room first, in version 2 with this edition, or in version 1 where there is none. The room is lent as an array: its length is then known by its type, and no proof counts its cells.
 fn trace_in(
-    counts: &[u32],
-    starts: &[f32],
-    deltas: &[i32],
-    coefficients: &[i32],
+    description: &Description<'_>,
     adjustment: i32,
-    edition: u32,
+    edition: Option<u32>,
     to: Stdout,
-    file: &File,
+    mut file: &File,
     bytes: &mut [u8; BYTES],
-) -> u8
-    ensures { result ≤ 3 }
-{
-    let version = if edition == 0 { 1 } else { 2 };
-    let held = if edition == 0 { 1 } else { edition };
-    match trace2_write::trace_write2(
-        counts,
-        starts,
-        deltas,
-        coefficients,
-        adjustment,
-        version,
-        held,
-        bytes,
-    ) {
-        WriteAnswer::Refused(code, place) => refuse(code, place),
-        WriteAnswer::Done(n) => write_trace(to, file, bytes, n),
-    }
+) -> Result<(), Failure> {
+    let (version, held) = match edition {
+        None => (1, 1),
+        Some(edition) => (2, edition),
+    };
+    let n = trace2_write::trace_write2(description, adjustment, version, held, bytes).map_err(
+        |refusal| refusals::of_trace(refusal, &[]),
+    )?;
+    let trace = bytes.get(..n).ok_or(Failure::Refused)?;
+    file.write_all(trace).map_err(|why| words::fail(Failure::Refused, b"the trace file", why))?;
+    out(to, format_args!("{n} bytes\n"))
 }
 
-// `gauge trace out`; the status.
+// `gauge trace out`.
 pub fn as_trace(
-    counts: &[u32],
-    starts: &[f32],
-    deltas: &[i32],
-    coefficients: &[i32],
+    description: &Description<'_>,
     adjustment: i32,
-    edition: u32,
+    edition: Option<u32>,
     to: Stdout,
     file: &File,
-) -> u8
-    ensures { result ≤ 3 }
+) -> Result<(), Failure>
+    ensures { Unit {0} }
 {
     let mut bytes = [0u8; BYTES];
-    trace_in(
-        counts,
-        starts,
-        deltas,
-        coefficients,
-        adjustment,
-        edition,
-        to,
-        file,
-        &mut bytes,
-    )
+    trace_in(description, adjustment, edition, to, file, &mut bytes)
 }
 
 // A list that goes to a room first.
 fn list_in(
-    counts: &[u32],
-    starts: &[f32],
-    deltas: &[i32],
-    coefficients: &[i32],
+    description: &Description<'_>,
     adjustment: i32,
     to: Stdout,
     file: &File,
     list: &mut [u32; VALUES],
-) -> u8
-    ensures { result ≤ 3 }
-{
-    match writer::write(
-        counts,
-        starts,
-        deltas,
-        coefficients,
-        adjustment,
-        CONFIGURED,
-        PIXELS,
-        list,
-    ) {
-        WriteAnswer::Refused(code, place) => {
-            refusals::of_writing(code, place, counts.len(), CONFIGURED)
-        }
-        WriteAnswer::Done(n) => write_list(to, file, list, n, counts),
-    }
+) -> Result<(), Failure> {
+    let splines = description.counts.len();
+    let n = writer::write(description, adjustment, CONFIGURED, PIXELS, list).map_err(
+        |refusal| refusals::of_writing(refusal, splines, CONFIGURED),
+    )?;
+    let values = list.get(..n).ok_or(Failure::Refused)?;
+    lines::write(file, values, description.counts).map_err(|why| words::fail(
+        Failure::Refused,
+        b"the list",
+        why,
+    ))?;
+    out(to, format_args!("{n} values\n"))
 }
 
-// `gauge trace in`; the status.
+// `gauge trace in`.
 pub fn as_list(
-    counts: &[u32],
-    starts: &[f32],
-    deltas: &[i32],
-    coefficients: &[i32],
+    description: &Description<'_>,
     adjustment: i32,
     to: Stdout,
     file: &File,
-) -> u8
-    ensures { result ≤ 3 }
+) -> Result<(), Failure>
+    ensures { Unit {0} }
 {
     let mut list = [0u32; VALUES];
-    list_in(
-        counts,
-        starts,
-        deltas,
-        coefficients,
-        adjustment,
-        to,
-        file,
-        &mut list,
-    )
+    list_in(description, adjustment, to, file, &mut list)
 }

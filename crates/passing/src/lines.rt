@@ -1,94 +1,52 @@
 // A list as a text: a line each for the splines, the starts and the adjustment, and of each spline for the points, the double deltas and four rows of
 // coefficients.
-ghost use Rattle.std.specs.Prelude.{◌≤◌};
-
 use std::fs::File;
 use std::io::{Error, ErrorKind, Result};
 
-// The list is shorter than its counts say.
-fn short() -> Error {
-    Error::from(ErrorKind::InvalidInput)
-}
-
-fn wide(value: u32) -> u64 {
-    value as u64
-}
-
-// Twice the points of a spline.
-fn twice(points: u32) -> usize
-    ensures { result ≤ 8589934590 }
-{
-    2 * (points as usize)
+// The first n values, and those behind them, unless the list is shorter than its counts say.
+fn split(values: &[u32], n: usize) -> Result<(&[u32], &[u32])> {
+    if values.len() < n {
+        return Err(Error::from(ErrorKind::InvalidInput));
+    }
+    Ok(values.split_at(n))
 }
 
 // Writes the values in one line. No values make no line.
 fn line(file: &File, values: &[u32]) -> Result<()> {
-    let mut i = 0;
-    while i < values.len() {
-        let mark = if i + 1 == values.len() { b'\n' } else { b' ' };
-        words::tell(file, &[b'#', mark], &[wide(values[i])])?;
-        i += 1;
+    let Some((last, before)) = values.split_last() else {
+        return Ok(());
+    };
+    for value in before {
+        words::tell(file, format_args!("{value} "))?;
     }
-    Ok(())
+    words::tell(file, format_args!("{last}\n"))
 }
 
-// Four rows of coefficients.
-fn rows(file: &File, values: &[u32]) -> Result<()> {
-    if values.len() < 128 {
-        return Err(short());
+// The spline with which the values begin; those behind it.
+fn spline<'v>(file: &File, values: &'v [u32], points: u32) -> Result<&'v [u32]> {
+    let (count, rest) = split(values, 1)?;
+    let (deltas, rest) = split(rest, 2 * points as usize)?;
+    let (coefficients, rest) = split(rest, 128)?;
+    line(file, count)?;
+    line(file, deltas)?;
+    for row in coefficients.chunks_exact(32) {
+        line(file, row)?;
     }
-    line(file, &values[0..32])?;
-    line(file, &values[32..64])?;
-    line(file, &values[64..96])?;
-    line(file, &values[96..128])
-}
-
-// A spline with n numbers for its double deltas.
-fn spline(file: &File, values: &[u32], n: usize) -> Result<()> {
-    if values.len() < 1 {
-        return Err(short());
-    }
-    if values.len() - 1 < n {
-        return Err(short());
-    }
-    line(file, &values[0..1])?;
-    let past = n + 1;
-    line(file, &values[1..past])?;
-    rows(file, &values[past..])
-}
-
-fn splines(file: &File, values: &[u32], counts: &[u32]) -> Result<()> {
-    let mut at = 0;
-    let mut k = 0;
-    while k < counts.len() {
-        let n = twice(counts[k]);
-        if values.len() - at < n + 129 {
-            return Err(short());
-        }
-        let past = at + (n + 129);
-        spline(file, &values[at..past], n)?;
-        at = past;
-        k += 1;
-    }
-    Ok(())
+    Ok(rest)
 }
 
 // The list of a description with these points.
 pub fn write(file: &File, list: &[u32], counts: &[u32]) -> Result<()>
     ensures { Unit {0} }
 {
-    if list.len() < 2 {
-        return Err(short());
+    let (splines, rest) = split(list, 1)?;
+    let (starts, rest) = split(rest, 2 * counts.len())?;
+    let (adjustment, mut rest) = split(rest, 1)?;
+    line(file, splines)?;
+    line(file, starts)?;
+    line(file, adjustment)?;
+    for &points in counts {
+        rest = spline(file, rest, points)?;
     }
-    let s = counts.len();
-    if (list.len() - 2) / 2 < s {
-        return Err(short());
-    }
-    let starts = 2 * s;
-    line(file, &list[0..1])?;
-    let past = starts + 1;
-    line(file, &list[1..past])?;
-    let rest = past + 1;
-    line(file, &list[past..rest])?;
-    splines(file, &list[rest..], counts)
+    Ok(())
 }
