@@ -1,6 +1,7 @@
 -- Sizes that are held up to 2^24 give the same verdict on every pair, and the same pairs where all pass.
 use mathlib.Core.Path.{◌≡◌, refl, sym, ap, ◌∙◌}
 use mathlib.Core.Bool.{Bool, true, false, cond}
+use Rattle.std.specs.Prelude.{Option, Some}
 use mathlib.Core.List.{List, [], ◌∷◌, ◌++◌, map}
 use Prim.Native.Nat.{ℕ, zero, suc, ◌+◌, ◌-◌, ◌*◌, ◌≤◌, ◌<◌}
 use native.Mathlib.Omega.{arith}
@@ -13,9 +14,8 @@ use Rattle.control_points.specs.declared.Pair.{Pair}
 use Rattle.polyline.specs.declared.Figure.{Figure}
 use Rattle.polyline.specs.declared.Spot.{Spot}
 use Rattle.polyline.specs.declared.Track.{Track}
-use Rattle.polyline.specs.declared.Judged.{Judged}
-use Rattle.polyline.specs.declared.Judged.TheVariants.{On, Stop}
-use Rattle.polyline.specs.declared.Tracked.TheVariants.{Came}
+use Rattle.polyline.specs.Judged.{Judged, On, Stop}
+use Rattle.polyline.specs.Tracked.{Came}
 use Rattle.polyline.specs.Spots.{signed_by, figure_at, grown_by, spot_of, spots_from, uncapped, capped, spots_of, capped_spots}
 use Rattle.polyline.specs.Read.{judged_of, after_pair, track_from, track_to}
 use Rattle.polyline.proofs.Tracks.{placeable_valid, unplaceable, walk_came}
@@ -89,27 +89,27 @@ valid_capped : (q : Pair) → valid_point_pos (cap_pair q) ≡ valid_point_pos q
 unfolding valid_point_pos
 valid_capped q = rw (range_capped q.x, range_capped q.y)
 
-judged_capped : (t : Track) (q : Pair) → judged_of t (cap_pair q) ≡ judged_of t q
+judged_capped : (t : Option Track) (q : Pair) → judged_of t (cap_pair q) ≡ judged_of t q
 judged_capped t q = go (valid_point_pos q) refl
   where
     go : (b : Bool) → valid_point_pos q ≡ b → judged_of t (cap_pair q) ≡ judged_of t q
     go true e = ap (judged_of t) (pair_in q e)
     go false e = unplaceable t (cap_pair q) (valid_capped q ∙ e) ∙ sym (unplaceable t q e)
 
-pub walk_capped : (ss : List Spot) (t : Track) → track_from t (map cap_spot ss) ≡ track_from t ss
+pub walk_capped : (ss : List Spot) (t : Option Track) → track_from t (map cap_spot ss) ≡ track_from t ss
 unfolding track_from
 walk_capped [] t = refl
 walk_capped (s ∷ ss) t = rw (judged_capped t s.point) (go (judged_of t s.point) (λ u. walk_capped ss u))
   where
-    go : (j : Judged) → ((u : Track) → track_from u (map cap_spot ss) ≡ track_from u ss) → after_pair j s.begin (λ u. track_from u (map cap_spot ss)) ≡ after_pair j s.begin (λ u. track_from u ss)
-    go (On u) h = h u
+    go : (j : Judged) → ((u : Option Track) → track_from u (map cap_spot ss) ≡ track_from u ss) → after_pair j s.begin (λ u. track_from u (map cap_spot ss)) ≡ after_pair j s.begin (λ u. track_from u ss)
+    go (On u) h = h (Some u)
     go (Stop c) h = refl
 
-pub came_same : (ss : List Spot) (t v : Track) → track_from t ss ≡ Came v → map cap_spot ss ≡ ss
+pub came_same : (ss : List Spot) (t v : Option Track) → track_from t ss ≡ Came v → map cap_spot ss ≡ ss
 came_same [] t v e = refl
 came_same (s ∷ ss) t v e =
     let w = walk_came t s ss v e in
-    rw (pair_in s.point (placeable_valid t s.point w.passes.placed), came_same ss (track_to t s.point) v w.rest)
+    rw (pair_in s.point (placeable_valid t s.point w.passes.placed), came_same ss (Some (track_to t s.point)) v w.rest)
 
 -- ---- texts
 

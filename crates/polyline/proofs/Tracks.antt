@@ -1,6 +1,7 @@
 -- Laws of going through pairs: one pair further, and what pairs that all pass have led to.
 use mathlib.Core.Path.{◌≡◌, refl, ap, ◌∙◌}
 use mathlib.Core.Bool.{Bool, true, false, cond}
+use Rattle.std.specs.Prelude.{Option, Some}
 use mathlib.Core.List.{List, [], ◌∷◌, ◌++◌}
 use Prim.Native.Nat.{ℕ, suc, ◌*◌, ◌<◌}
 use native.Mathlib.Omega.{arith}
@@ -15,52 +16,50 @@ use Rattle.control_points.specs.declared.Stand.{Stand}
 use Rattle.polyline.specs.declared.Figure.{Figure}
 use Rattle.polyline.specs.declared.Spot.{Spot}
 use Rattle.polyline.specs.declared.Track.{Track}
-use Rattle.polyline.specs.declared.Track.TheVariants.{Empty, At}
-use Rattle.polyline.specs.declared.Judged.{Judged}
-use Rattle.polyline.specs.declared.Judged.TheVariants.{On, Stop}
-use Rattle.polyline.specs.declared.Tracked.TheVariants.{Came, Halt}
+use Rattle.polyline.specs.Tracked.{Empty, At, Came, Halt}
+use Rattle.polyline.specs.Judged.{Judged, On, Stop}
 use Rattle.polyline.specs.Spots.{figure_at, grown_by, spot_of, spots_from}
 use Rattle.polyline.specs.Read.{minus_of, placeable, meets, track_to, step_deltas, judged_of, after_pair, track_from, deltas_from, first_point, later_of}
 
 -- ---- one pair
 
-pub record Passes (t : Track) (q : Pair) (u : Track) : Type 0 where
+pub record Passes (t : Option Track) (q : Pair) (u : Track) : Type 0 where
   pub placed : placeable t q ≡ true
   pub apart : meets t q ≡ false
   pub is : u ≡ track_to t q
 
-pub judged_on : (t : Track) (q : Pair) (u : Track) → judged_of t q ≡ On u → Passes t q u
+pub judged_on : (t : Option Track) (q : Pair) (u : Track) → judged_of t q ≡ On u → Passes t q u
 unfolding judged_of
 judged_on t q u e = go (placeable t q) (meets t q) refl refl e
   where
     go : (a b : Bool) → placeable t q ≡ a → meets t q ≡ b → cond a (cond b (Stop Coincide) (On (track_to t q))) (Stop Position) ≡ On u → Passes t q u
     go true false x y e = record { placed = x; apart = y; is = cc }
-    go true true x y e = let z : ◌≡◌ {A = ℕ} 0 1 = cc in absurd (omega arith)
-    go false b x y e = let z : ◌≡◌ {A = ℕ} 0 1 = cc in absurd (omega arith)
+    go true true x y e = cc
+    go false b x y e = cc
 
-pub judged_passes : (t : Track) (q : Pair) → placeable t q ≡ true → meets t q ≡ false → judged_of t q ≡ On (track_to t q)
+pub judged_passes : (t : Option Track) (q : Pair) → placeable t q ≡ true → meets t q ≡ false → judged_of t q ≡ On (track_to t q)
 unfolding judged_of
 judged_passes t q a b = rw (a, b)
 
 -- a pair that passes is in range
-pub placeable_valid : (t : Track) (q : Pair) → placeable t q ≡ true → valid_point_pos q ≡ true
+pub placeable_valid : (t : Option Track) (q : Pair) → placeable t q ≡ true → valid_point_pos q ≡ true
 unfolding placeable
 placeable_valid Empty q e = e
-placeable_valid (At p start) q e = (both (valid_point_pos (minus_of q p.point)) (valid_point_pos q) e).1
+placeable_valid (Some t) q e = (both (valid_point_pos (minus_of q t.place.point)) (valid_point_pos q) e).1
 
-pub unplaceable : (t : Track) (q : Pair) → valid_point_pos q ≡ false → judged_of t q ≡ Stop Position
+pub unplaceable : (t : Option Track) (q : Pair) → valid_point_pos q ≡ false → judged_of t q ≡ Stop Position
 unfolding judged_of placeable
 unplaceable Empty q e = rw e
-unplaceable (At p start) q e = rw e (go (valid_point_pos (minus_of q p.point)))
+unplaceable (Some t) q e = rw e (go (valid_point_pos (minus_of q t.place.point)))
   where
-    go : (a : Bool) → cond (cond a false false) (cond (meets (At p start) q) (Stop Coincide) (On (track_to (At p start) q))) (Stop Position) ≡ Stop Position
+    go : (a : Bool) → cond (cond a false false) (cond (meets (Some t) q) (Stop Coincide) (On (track_to (Some t) q))) (Stop Position) ≡ Stop Position
     go true = refl
     go false = refl
 
 -- ---- one pair further
 
-module _ (t : Track) (s : Spot) (ss : List Spot) where
-  pub walk_on : (u : Track) → judged_of t s.point ≡ On u → track_from t (s ∷ ss) ≡ track_from u ss
+module _ (t : Option Track) (s : Spot) (ss : List Spot) where
+  pub walk_on : (u : Track) → judged_of t s.point ≡ On u → track_from t (s ∷ ss) ≡ track_from (Some u) ss
   unfolding track_from
   walk_on u e = rw e
 
@@ -68,11 +67,11 @@ module _ (t : Track) (s : Spot) (ss : List Spot) where
   unfolding track_from
   walk_stop c e = rw e
 
-  pub record Further (v : Track) : Type 0 where
+  pub record Further (v : Option Track) : Type 0 where
     pub passes : Passes t s.point (track_to t s.point)
-    pub rest : track_from (track_to t s.point) ss ≡ Came v
+    pub rest : track_from (Some (track_to t s.point)) ss ≡ Came v
 
-  pub walk_came : (v : Track) → track_from t (s ∷ ss) ≡ Came v → Further v
+  pub walk_came : (v : Option Track) → track_from t (s ∷ ss) ≡ Came v → Further v
   unfolding track_from
   walk_came v e = go (judged_of t s.point) refl e
     where
@@ -80,25 +79,25 @@ module _ (t : Track) (s : Spot) (ss : List Spot) where
       go (On u) h e =
           let p = judged_on t s.point u h in
           record { passes = record { placed = p.placed; apart = p.apart; is = refl }; rest = rw p.is at e }
-      go (Stop c) h e = let z : ◌≡◌ {A = ℕ} 0 1 = cc in absurd (omega arith)
+      go (Stop c) h e = cc
 
 -- ---- all pairs
 
 -- the first pair is kept
-pub record Keeps (start : Pair) (t : Track) : Type 0 where
+pub record Keeps (start : Pair) (t : Option Track) : Type 0 where
   pub place : Stand
   pub is : t ≡ At place start
 
-pub walk_keeps : (ss : List Spot) (p : Stand) (start : Pair) (v : Track) → track_from (At p start) ss ≡ Came v → Keeps start v
+pub walk_keeps : (ss : List Spot) (p : Stand) (start : Pair) (v : Option Track) → track_from (At p start) ss ≡ Came v → Keeps start v
 unfolding track_from track_to
 walk_keeps [] p start v e = record { place = p; is = cc }
 walk_keeps (s ∷ ss) p start v e = walk_keeps ss _ start v (walk_came (At p start) s ss v e).rest
 
-pub record First (ss : List Spot) (v : Track) : Type 0 where
+pub record First (ss : List Spot) (v : Option Track) : Type 0 where
   pub valid : valid_point_pos (first_point ss) ≡ true
   pub keeps : Keeps (first_point ss) v
 
-pub walk_first : (ss : List Spot) (v : Track) → 0 < length ss → track_from Empty ss ≡ Came v → First ss v
+pub walk_first : (ss : List Spot) (v : Option Track) → 0 < length ss → track_from Empty ss ≡ Came v → First ss v
 unfolding track_to
 walk_first [] v h e = absurd (omega arith)
 walk_first (s ∷ ss) v h e =

@@ -1,5 +1,5 @@
 -- Reading a points text: the checks pair by pair, the start and the double deltas, and what a call of `points_read` leaves.
-use Rattle.std.specs.Prelude.{Bool, false, cond, ◌||◌, List, [], ◌∷◌, ◌++◌, ℕ, ◌-◌, ◌*◌, ltb, length, replicate, ℤ, pos, ◌-ℤ◌, Float}
+use Rattle.std.specs.Prelude.{Bool, false, cond, ◌||◌, List, [], ◌∷◌, ◌++◌, ℕ, ◌-◌, ◌*◌, ltb, length, replicate, ℤ, pos, ◌-ℤ◌, Float, Option, Some}
 use Rattle.codes.specs.declared.Code.TheVariants.{Room, Position, Coincide}
 use Rattle.list.specs.Steps.{f32_of, zero_f32}
 use Rattle.writer.specs.Write.{WriteTold, told_of}
@@ -11,11 +11,8 @@ use Rattle.control_points.specs.declared.Pair.{Pair}
 use Rattle.control_points.specs.declared.Stand.{Stand}
 use Rattle.polyline.specs.declared.Spot.{Spot}
 use Rattle.polyline.specs.declared.Track.{Track}
-use Rattle.polyline.specs.declared.Track.TheVariants.{Empty, At}
-use Rattle.polyline.specs.declared.Judged.{Judged}
-use Rattle.polyline.specs.declared.Judged.TheVariants.{On, Stop}
-use Rattle.polyline.specs.declared.Tracked.{Tracked}
-use Rattle.polyline.specs.declared.Tracked.TheVariants.{Came, Halt}
+use Rattle.polyline.specs.Judged.{Judged, On, Stop}
+use Rattle.polyline.specs.Tracked.{Empty, Tracked, Came, Halt}
 use Rattle.polyline.specs.Stages.{text_of}
 use Rattle.polyline.specs.Spots.{spots_of}
 
@@ -25,39 +22,39 @@ unfoldable pub minus_of : Pair → Pair → Pair
 minus_of p q = record { x = p.x -ℤ q.x; y = p.y -ℤ q.y }
 
 -- POSITION passes: the delta to the pair, where there is one, and the pair itself are in range
-unfoldable pub placeable : Track → Pair → Bool
+unfoldable pub placeable : Option Track → Pair → Bool
 placeable Empty q = valid_point_pos q
-placeable (At p start) q = cond (valid_point_pos (minus_of q p.point)) (valid_point_pos q) false
+placeable (Some t) q = cond (valid_point_pos (minus_of q t.place.point)) (valid_point_pos q) false
 
 -- COINCIDE: the pair is the same point as the one before it
-unfoldable pub meets : Track → Pair → Bool
+unfoldable pub meets : Option Track → Pair → Bool
 meets Empty q = false
-meets (At p start) q = same_point p.point q
+meets (Some t) q = same_point t.place.point q
 
 -- the pair is the control point reached
-unfoldable pub track_to : Track → Pair → Track
-track_to Empty q = At (stand_at q) q
-track_to (At p start) q = At (record { delta = minus_of q p.point; point = q }) start
+unfoldable pub track_to : Option Track → Pair → Track
+track_to Empty q = record { place = stand_at q; start = q }
+track_to (Some t) q = record { place = record { delta = minus_of q t.place.point; point = q }; start = t.start }
 
 -- the double delta that leads from a place to a pair
 unfoldable pub double_delta : Stand → Pair → Pair
 double_delta p q = minus_of (minus_of q p.point) p.delta
 
 -- its two numbers; the first pair has none
-unfoldable pub step_deltas : Track → Pair → List ℤ
+unfoldable pub step_deltas : Option Track → Pair → List ℤ
 step_deltas Empty q = []
-step_deltas (At p start) q = (double_delta p q).x ∷ (double_delta p q).y ∷ []
+step_deltas (Some t) q = (double_delta t.place q).x ∷ (double_delta t.place q).y ∷ []
 
 -- a further pair: POSITION, then COINCIDE
-unfoldable pub judged_of : Track → Pair → Judged
+unfoldable pub judged_of : Option Track → Pair → Judged
 judged_of t q = cond (placeable t q) (cond (meets t q) (Stop Coincide) (On (track_to t q))) (Stop Position)
 
-abbrev pub after_pair : Judged → ℕ → (Track → Tracked) → Tracked
-after_pair (On t) at go = go t
+abbrev pub after_pair : Judged → ℕ → (Option Track → Tracked) → Tracked
+after_pair (On t) at go = go (Some t)
 after_pair (Stop code) at go = Halt code at
 
 -- pair by pair; a refusal points to the first byte of the pair
-unfoldable pub track_from : Track → List Spot → Tracked
+unfoldable pub track_from : Option Track → List Spot → Tracked
 track_from t [] = Came t
 track_from t (s ∷ ss) = after_pair (judged_of t s.point) s.begin (λ u. track_from u ss)
 
@@ -66,9 +63,9 @@ track_verdict (Came t) = Fine
 track_verdict (Halt c p) = Fault c p
 
 -- the double deltas of pairs
-unfoldable pub deltas_from : Track → List Spot → List ℤ
+unfoldable pub deltas_from : Option Track → List Spot → List ℤ
 deltas_from t [] = []
-deltas_from t (s ∷ ss) = step_deltas t s.point ++ deltas_from (track_to t s.point) ss
+deltas_from t (s ∷ ss) = step_deltas t s.point ++ deltas_from (Some (track_to t s.point)) ss
 
 -- ---- the whole text
 

@@ -5,8 +5,7 @@ use Rattle.write_judge.specs.Verdict.{Verdict}
 use Rattle.write_judge.specs.Verdict.{Fine, Fault}
 use Rattle.polyline.specs.declared.Stage.{Stage}
 use Rattle.polyline.specs.declared.Stage.TheVariants.{Fresh, Minus, Nought, Digits}
-use Rattle.polyline.specs.declared.Step.{Step}
-use Rattle.polyline.specs.declared.Step.TheVariants.{To, Stranger}
+use Rattle.polyline.specs.Step.{Step, To, Stranger}
 
 -- one of two numbers and all between
 abbrev pub among : ℕ → ℕ → ℕ → Bool

@@ -9,10 +9,9 @@ use Rattle.control_points.specs.ControlPoints.{valid_point_pos, valid_double_del
 use Rattle.dequantize.specs.Judge.{Description, description_of, start_x, start_y, deltas_of}
 use Rattle.control_points.specs.declared.Pair.{Pair}
 use Rattle.control_points.specs.declared.Stand.{Stand}
-use Rattle.control_points.specs.declared.Start.{Start}
-use Rattle.control_points.specs.declared.Start.TheVariants as S
-use Rattle.polyline.specs.declared.Gone.{Gone}
-use Rattle.polyline.specs.declared.Gone.TheVariants.{On, Stop}
+use Rattle.control_points.specs.Answers.{Start}
+use Rattle.control_points.specs.Answers as S
+use Rattle.polyline.specs.Gone.{Gone, On, Stop}
 use Rattle.polyline.specs.Read.{and_then}
 
 -- ---- decimal numbers
