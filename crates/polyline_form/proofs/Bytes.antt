@@ -1,5 +1,5 @@
--- What a byte makes of a text: each test of the code decides the definition's; and a turn of the loop.
-use mathlib.Core.Path.{◌≡◌, ap}
+-- A turn of the loop over the bytes of a text, and its end.
+use mathlib.Core.Path.{◌≡◌, sym, ap}
 use mathlib.Core.Bool.{Bool, true, false}
 use mathlib.Core.List.{List}
 use Prim.Native.Nat.{ℕ, ◌+◌, ◌<◌, ◌≤◌}
@@ -7,34 +7,22 @@ use native.Mathlib.Numerals.{add-one}
 use native.Mathlib.Omega.{arith}
 use lib.ListN.{length, get_or, drop, drop_of_length-le}
 use lib.Seq.{drop-cons}
-use borrow.Author.Tests.{le-leb, lt-leb}
+use Rattle.std.specs.Prelude.{Result, Err}
+use Rattle.std.specs.Option.{ok_or}
 use Rattle.codes.specs.declared.Code.TheVariants.{Text}
-use Rattle.write_judge.specs.Verdict.{Fine, Fault}
+use Rattle.codes.specs.Refusal.{Refusal}
+use Rattle.write_judge.specs.Verdict.{Verdict, Fine, Fault}
 use Rattle.polyline.specs.declared.Stage.{Stage}
-use Rattle.polyline.specs.declared.Stage.TheVariants.{Digits}
-use Rattle.polyline.specs.declared.Step.{Step}
-use Rattle.polyline.specs.declared.Step.TheVariants.{To, Stranger}
-use Rattle.polyline.specs.Stages.{end_of, next_of, may_end, text_from}
-
-module _ (y : Bool) (b : ℕ) where
-  pub digit_low : b < 48 → end_of y b ≡ next_of (Digits y) b
-  unfolding next_of
-  digit_low h = rw (lt-leb 48 b h)
-
-  pub digit_high : 48 ≤ b → 57 < b → end_of y b ≡ next_of (Digits y) b
-  unfolding next_of
-  digit_high h g = rw (le-leb 48 b h, lt-leb b 57 g)
-
-  pub digit_in : 48 ≤ b → b ≤ 57 → To (Digits y) ≡ next_of (Digits y) b
-  unfolding next_of
-  digit_in h g = rw (le-leb 48 b h, le-leb b 57 g)
-
--- ---- a turn
+use Rattle.polyline.specs.Step.{Step, To, Stranger}
+use Rattle.polyline.specs.Stages.{next_of, may_end, text_from}
 
 module _ (text : List ℕ) (s : Stage) (i : ℕ) where
-  pub turn_stray : (n : Step) → i < length text → n ≡ next_of s (get_or text i 0) → n ≡ Stranger → text_from s i (drop i text) ≡ Fault Text i
+  pub turn_stray : (n : Step) (f : Refusal) (r : Verdict) → i < length text → n ≡ next_of s (get_or text i 0) → n ≡ Stranger → ◌≡◌ {A = Result Stage Refusal} (Err f) (ok_or n (Text, i)) → r ≡ Err f
+      → text_from s i (drop i text) ≡ r
   unfolding text_from
-  turn_stray n h e g = rw (drop-cons text i 0 h, ← e, g)
+  turn_stray n f r h e g stray is =
+      let same : ◌≡◌ {A = Refusal} f (Text, i) = cc (rw g at stray) in
+      rw (is, drop-cons text i 0 h, ← e, g) (ap (λ (k : Refusal). Err k) (sym same))
 
   pub turn_on : (n : Step) (t : Stage) → i < length text → n ≡ next_of s (get_or text i 0) → n ≡ To t → text_from s i (drop i text) ≡ text_from t (i + 1) (drop (i + 1) text)
   unfolding text_from

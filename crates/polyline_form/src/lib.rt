@@ -6,66 +6,54 @@ ghost use Rattle.std.specs.Prelude.{◌≡◌};
 ghost use Rattle.polyline.specs.declared.Stage.{Stage};
 ghost use Rattle.polyline.specs.Stages.{lead_of, begin_of, end_of, next_of, may_end, text_of};
 
-use codes::Code;
-use polyline::{Stage, Step};
-use write_judge::Verdict;
+use codes::{Code, Refusal};
+use polyline::Stage;
 
 // The first digit of a number that is not 0.
-fn lead(y: bool, b: u8) -> Step
+fn lead(y: bool, b: u8) -> Option<Stage>
     ensures { result ≡ lead_of y b }
 {
-    if b < 49 {
-        return Step::Stranger;
+    match b {
+        b'1'..=b'9' => Some(Stage::Digits(y)),
+        _ => None,
     }
-    if 57 < b {
-        return Step::Stranger;
-    }
-    Step::To(Stage::Digits(y))
 }
 
 // The first byte of a number.
-fn begin(y: bool, b: u8) -> Step
+fn begin(y: bool, b: u8) -> Option<Stage>
     ensures { result ≡ begin_of y b }
 {
-    if b == 45 {
-        return Step::To(Stage::Minus(y));
+    match b {
+        b'-' => Some(Stage::Minus(y)),
+        b'0' => Some(Stage::Nought(y)),
+        _ => lead(y, b),
     }
-    if b == 48 {
-        return Step::To(Stage::Nought(y));
-    }
-    lead(y, b)
 }
 
 // The byte behind a number.
-fn end(y: bool, b: u8) -> Step
+fn end(y: bool, b: u8) -> Option<Stage>
     ensures { result ≡ end_of y b }
 {
-    if y {
-        if b == 32 {
-            return Step::To(Stage::Fresh(false));
-        }
-        return Step::Stranger;
+    match (y, b) {
+        (false, b',') => Some(Stage::Fresh(true)),
+        (true, b' ') => Some(Stage::Fresh(false)),
+        _ => None,
     }
-    if b == 44 {
-        return Step::To(Stage::Fresh(true));
-    }
-    Step::Stranger
 }
 
 // A further digit, or the byte behind the number.
-fn digit(y: bool, b: u8) -> Step
+#[tactic(auto, unfolding(polyline::specs::Stages::next_of))]
+fn digit(y: bool, b: u8) -> Option<Stage>
     ensures { result ≡ next_of (Stage.Digits y) b }
 {
-    if b < 48 {
-        return end(y, b);
+    match b {
+        b'0'..=b'9' => Some(Stage::Digits(y)),
+        _ => end(y, b),
     }
-    if 57 < b {
-        return end(y, b);
-    }
-    Step::To(Stage::Digits(y))
 }
 
-fn next_stage(stage: Stage, b: u8) -> Step
+#[tactic(auto, unfolding(polyline::specs::Stages::next_of))]
+fn next_stage(stage: Stage, b: u8) -> Option<Stage>
     ensures { result ≡ next_of stage b }
 {
     match stage {
@@ -77,36 +65,23 @@ fn next_stage(stage: Stage, b: u8) -> Step
 }
 
 // Whether a text may end here: with a whole second number.
+#[tactic(auto, unfolding(polyline::specs::Stages::may_end))]
 fn may_end(stage: Stage) -> bool
     ensures { result ≡ may_end stage }
 {
-    match stage {
-        Stage::Fresh(_) => false,
-        Stage::Minus(_) => false,
-        Stage::Nought(y) => y,
-        Stage::Digits(y) => y,
-    }
+    matches!(stage, Stage::Nought(true) | Stage::Digits(true))
 }
 
-pub fn judge_form(text: &[u8]) -> Verdict
+pub fn judge_form(text: &[u8]) -> Result<(), Refusal>
     ensures { result ≡ text_of text.now }
 {
     let mut stage = Stage::Fresh(false);
-    let mut i = 0;
-    while i < text.len() {
-        match next_stage(stage, text[i]) {
-            Step::Stranger => {
-                return Verdict::Fault(Code::Text, i);
-            }
-            Step::To(s) => {
-                stage = s;
-            }
-        }
-        i += 1;
+    for (i, &b) in text.iter().enumerate() {
+        stage = next_stage(stage, b).ok_or((Code::Text, i))?;
     }
     if may_end(stage) {
-        Verdict::Fine
+        Ok(())
     } else {
-        Verdict::Fault(Code::Text, text.len())
+        Err((Code::Text, text.len()))
     }
 }
