@@ -1,14 +1,16 @@
 -- Numbers that fit: differences and signs in the machine's words, and what stays small on the way through a text.
 use mathlib.Core.Path.{◌≡◌, refl, sym, ap, ◌∙◌}
-use mathlib.Core.Bool.{Bool, true, false, cond}
+use mathlib.Core.Bool.{Bool, true, false, cond, ◌&&◌}
 use Prim.Native.Nat.{ℕ, zero, suc, ◌+◌, ◌-◌, ◌*◌, ◌≤◌}
 use native.Mathlib.Omega.{arith}
 use lib.Dec.{ltb, leb, eqb}
+use Rattle.std.proofs.Common.{int_eq}
+use Rattle.std.proofs.lemmas.Bool.Decides.{Decides-int_eq}
 use lib.IntN.{ℤ, pos, negsuc, neg_ℤ, ◌+ℤ◌, ◌-ℤ◌}
 use lib.Signed.{mag}
-use borrow.Author.Tests.{lt-ltb, leb-false, eqb-true, eqb-false}
+use borrow.Author.Tests.{leb-false}
 use mir.Syntax.{w32}
-use mir.Val.{SFits, to_z, of_z}
+use mir.Val.{to_z, of_z}
 use mir.Facts.{to_z-of_z}
 use Rattle.control_points.specs.ControlPoints.{valid_point_pos, same_point, stand_at}
 use Rattle.control_points.specs.declared.Pair.{Pair}
@@ -16,7 +18,8 @@ use Rattle.control_points.proofs.Coincide.{same_point_lem}
 use Rattle.control_points.proofs.Pairs.{in_range_mag, point_range}
 use Rattle.polyline.specs.declared.Figure.{Figure}
 use Rattle.polyline.specs.declared.Track.{Track}
-use Rattle.polyline.specs.declared.Track.TheVariants.{Empty, At}
+use Rattle.polyline.specs.Tracked.{Empty}
+use Rattle.std.specs.Prelude.{Option, Some}
 use Rattle.polyline.specs.Spots.{signed_by, figure_at, grown_by, spot_of, capped}
 use Rattle.polyline.specs.Read.{minus_of, placeable, track_to}
 use Rattle.polyline.proofs.Tracks.{Passes}
@@ -47,17 +50,10 @@ back : (z : ℤ) → mag z ≤ 1073741824 → to_z w32 (of_z w32 z) ≡ z
 back z h = to_z-of_z {w = w32} {z = z} (record { sfits = omega arith })
 
 module _ (x y : ℤ) (g : mag x ≤ 268435456) (h : mag y ≤ 268435456) where
-  pub minus_fits : SFits w32 (to_z w32 (of_z w32 x) -ℤ to_z w32 (of_z w32 y))
-  minus_fits = rw (back x (omega arith), back y (omega arith)) (record { sfits = omega (arith, mag_minus x y) })
-
   pub minus_is : to_z w32 (of_z w32 (to_z w32 (of_z w32 x) -ℤ to_z w32 (of_z w32 y))) ≡ x -ℤ y
   minus_is = rw (back x (omega arith), back y (omega arith)) (to_z-of_z {w = w32} (record { sfits = omega (arith, mag_minus x y) }))
 
 -- ---- signs
-
-pub nothing_less : (n : ℕ) → pos 0 -ℤ pos n ≡ signed_by true n
-nothing_less zero = refl
-nothing_less (suc n) = rw (lt-ltb 0 (suc n) (omega arith)) (ap negsuc (omega arith))
 
 pub signed_mag : (s : Bool) (n : ℕ) → mag (signed_by s n) ≤ n
 signed_mag false n = omega arith
@@ -108,46 +104,35 @@ pub valid_near : (q : Pair) → valid_point_pos q ≡ true → Near q
 valid_near q h = small_near q (valid_small q h)
 
 -- a track stays held
-pub track_held : (t : Track) (q : Pair) (u : Track) → OnTrack t → Passes t q u → OnTrack u
+pub track_held : (t : Option Track) (q : Pair) (u : Track) → OnTrack t → Passes t q u → OnTrack (Some u)
 unfolding placeable track_to stand_at valid_point_pos
 track_held Empty q u h p = rw p.is (record { held = (refl, p.placed) })
-track_held (At pl start) q u h p =
-    let b = both (valid_point_pos (minus_of q pl.point)) (valid_point_pos q) p.placed in
+track_held (Some t) q u h p =
+    let b = both (valid_point_pos (minus_of q t.place.point)) (valid_point_pos q) p.placed in
     rw p.is (record { held = (b.0, b.1) })
 
--- ---- the same point, by the machine's words
+-- ---- the same point: that of the same numbers
 
-words_equal : (a b : ℤ) → mag a ≤ 16777216 → mag b ≤ 16777216 → of_z w32 a ≡ of_z w32 b → a ≡ b
-words_equal a b g h e = sym (back a (omega arith)) ∙ ap (to_z w32) e ∙ back b (omega arith)
-
-pair_equal : (p q : Pair) → p.x ≡ q.x → p.y ≡ q.y → p ≡ q
-pair_equal p q a b = rw (a, b)
-
-module _ (p q : Pair) (g : valid_point_pos p ≡ true) (h : valid_point_pos q ≡ true) where
-  pub same_yes : of_z w32 p.x ≡ of_z w32 q.x → eqb (of_z w32 p.y) (of_z w32 q.y) ≡ same_point p q
-  same_yes e = go (eqb (of_z w32 p.y) (of_z w32 q.y)) (same_point p q) refl refl
+module _ (p q : Pair) where
+  equal : (int_eq p.x q.x && int_eq p.y q.y) ≡ true → p ≡ q
+  equal e = go (int_eq p.x q.x) (int_eq p.y q.y) refl refl e
     where
-      a : Small p
-      a = valid_small p g
+      go : (a b : Bool) → int_eq p.x q.x ≡ a → int_eq p.y q.y ≡ b → (a && b) ≡ true → p ≡ q
+      go true true x y e = rw ((Decides-int_eq p.x q.x).0 x, (Decides-int_eq p.y q.y).0 y)
+      go true false x y e = cc
+      go false b x y e = cc
 
-      b : Small q
-      b = valid_small q h
+  equals : p ≡ q → (int_eq p.x q.x && int_eq p.y q.y) ≡ true
+  equals e = rw ((Decides-int_eq p.x q.x).1 (ap (λ (r : Pair). r.x) e), (Decides-int_eq p.y q.y).1 (ap (λ (r : Pair). r.y) e))
 
-      go : (s t : Bool) → eqb (of_z w32 p.y) (of_z w32 q.y) ≡ s → same_point p q ≡ t → s ≡ t
+  -- as `==` of two pairs compares them
+  pub same_is : valid_point_pos p ≡ true → valid_point_pos q ≡ true → (int_eq p.x q.x && int_eq p.y q.y) ≡ same_point p q
+  same_is g h = go (int_eq p.x q.x && int_eq p.y q.y) (same_point p q) refl refl
+    where
+      go : (s t : Bool) → (int_eq p.x q.x && int_eq p.y q.y) ≡ s → same_point p q ≡ t → s ≡ t
       go true true x y = refl
       go false false x y = refl
-      go true false x y =
-          let z = pair_equal p q (words_equal p.x q.x a.x b.x e) (words_equal p.y q.y a.y b.y (eqb-true (of_z w32 p.y) (of_z w32 q.y) x)) in
-          sym ((same_point_lem p q g h).1 z) ∙ y
-      go false true x y =
-          let z = (same_point_lem p q g h).0 y in
-          absurd (eqb-false (of_z w32 p.y) (of_z w32 q.y) x (ap (λ (r : Pair). of_z w32 r.y) z))
-
-  pub same_no : (of_z w32 p.x ≡ of_z w32 q.x → ⊥) → false ≡ same_point p q
-  same_no n = go (same_point p q) refl
-    where
-      go : (t : Bool) → same_point p q ≡ t → false ≡ t
-      go true y = absurd (n (ap (λ (r : Pair). of_z w32 r.x) ((same_point_lem p q g h).0 y)))
-      go false y = refl
+      go true false x y = sym ((same_point_lem p q g h).1 (equal x)) ∙ y
+      go false true x y = sym x ∙ equals ((same_point_lem p q g h).0 y)
 
 -- Assumes nothing.

@@ -1,23 +1,19 @@
--- `polyline_pairs::judge_later` meets its contract: each test is the definition's at the same place.
+-- `polyline_pairs::judge_later` meets its contract: the machine's equality of two pairs in range is that of points.
 use mathlib.Core.Path.{sym, ◌∙◌}
-use Rattle.polyline_pairs.proofs.Numbers.{valid_near}
-use Rattle.polyline_pairs.proofs.Judging.{later_delta, later_point, later_meets, later_on}
+use Rattle.polyline.specs.Read.{placeable, meets, track_to, judged_of}
+use Rattle.polyline_pairs.proofs.Numbers.{same_is}
 use Rattle.polyline_pairs.proofs.judge_later.Goals as goal
 
-pub minus-delta-requires : goal.minus-delta-requires
-minus-delta-requires c = (c.requires.1, valid_near _ c.requires.0.held.1)
-
-pub returns-then-not-valid : goal.returns-then-not-valid
-returns-then-not-valid c = later_delta c.args.p c.args.start c.args.q _ c.minus-delta.ensures (sym c.valid.ensures ∙ c.if-not-valid.true)
-
-pub returns-then-not-valid-2 : goal.returns-then-not-valid-2
-returns-then-not-valid-2 c = later_point c.args.p c.args.start c.args.q _ c.minus-delta.ensures (sym c.valid.ensures ∙ c.if-not-valid.false) (sym c.valid-2.ensures ∙ c.if-not-valid-2.true)
-
-pub same-requires : goal.same-requires
-same-requires c = (c.requires.0.held.1, sym c.valid-2.ensures ∙ c.if-not-valid-2.false)
-
-pub returns-then-same : goal.returns-then-same
-returns-then-same c = later_meets c.args.p c.args.start c.args.q _ c.minus-delta.ensures (sym c.valid.ensures ∙ c.if-not-valid.false) (sym c.valid-2.ensures ∙ c.if-not-valid-2.false) (sym c.same.ensures ∙ c.if-same.true)
+pub returns-then-eq : goal.returns-then-eq
+unfolding judged_of placeable meets track_to
+returns-then-eq c =
+    let A = c.args in
+    let same = same_is A.track.place.point A.q c.requires.0.held.1 (sym c.if-not-valid_point_pos-2.ensures) in
+    rw (← c.minus-delta.ensures, sym c.if-not-valid_point_pos.ensures, sym c.if-not-valid_point_pos-2.ensures, sym same ∙ sym c.if-eq.ensures)
 
 pub returns : goal.returns
-returns c = later_on c.args.p c.args.start c.args.q _ c.minus-delta.ensures (sym c.valid.ensures ∙ c.if-not-valid.false) (sym c.valid-2.ensures ∙ c.if-not-valid-2.false) (sym c.same.ensures ∙ c.if-same.false)
+unfolding judged_of placeable meets track_to
+returns c =
+    let A = c.args in
+    let same = same_is A.track.place.point A.q c.requires.0.held.1 (sym c.if-not-valid_point_pos-2.ensures) in
+    rw (← c.minus-delta.ensures, sym c.if-not-valid_point_pos.ensures, sym c.if-not-valid_point_pos-2.ensures, sym same ∙ sym c.if-eq.ensures)
