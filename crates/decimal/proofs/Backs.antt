@@ -4,12 +4,9 @@ use mathlib.Core.List.{List, [], ◌∷◌, ◌++◌, append_assoc}
 use Prim.Native.Nat.{ℕ, suc, ◌+◌, ◌-◌, ◌/◌, ◌%◌, ◌≤◌, ◌<◌}
 use native.Mathlib.Numerals.{add-one}
 use native.Mathlib.Omega.{arith}
-use lib.IntN.{ℤ, pos, negsuc, ◌-ℤ◌}
+use lib.IntN.{ℤ, pos, negsuc}
 use lib.ListN.{length, set, length-set}
 use lib.Seq.{sets, set_comm}
-use mir.Syntax.{w32}
-use mir.Val.{to_z, of_z}
-use mir.Facts.{to_z-of_z}
 use Rattle.control_points.specs.ControlPoints.{in_range}
 use Rattle.control_points.proofs.Pairs.{in_range_mag}
 use mathlib.Core.Bool.{true}
@@ -64,17 +61,7 @@ back_end {text₀} {end} {n} {text} {left} {i} b h c text' e s =
 
 -- ---- numbers with a sign
 
-pub less : (k : ℕ) → pos 0 -ℤ negsuc k ≡ pos (suc k)
-less k = ap pos (omega arith)
-
 module _ (v : ℤ) (r : in_range v ≡ true) where
-  pub minus_word : (k : ℕ) → v ≡ negsuc k → to_z w32 (of_z w32 (pos 0 -ℤ to_z w32 (of_z w32 v))) ≡ pos (suc k)
-  minus_word k is =
-      let small = in_range_mag v r in
-      ap (λ (z : ℤ). to_z w32 (of_z w32 (pos 0 -ℤ z))) (to_z-of_z {w = w32} {z = v} (record { sfits = omega arith }) ∙ is)
-      ∙ ap (λ (z : ℤ). to_z w32 (of_z w32 z)) (less k)
-      ∙ to_z-of_z {w = w32} {z = pos (suc k)} (record { sfits = omega (arith, rw is at small) })
-
   pub minus_text : (k : ℕ) → v ≡ negsuc k → (l l1 l2 : List ℕ) (at e : ℕ) → l1 ≡ set l at 45 → (l2 ≡ sets l1 (at + 1) (digits_of (suc k))) × (e ≡ at + 1 + length (digits_of (suc k)))
       → (l2 ≡ sets l at (number_text v)) × (e ≡ at + length (number_text v)) × (e ≤ at + 8)
   unfolding number_text

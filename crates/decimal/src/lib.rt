@@ -6,12 +6,12 @@ ghost use Rattle.std.proofs.lemmas.List.Edits.{sets};
 ghost use Rattle.control_points.specs.ControlPoints.{in_range};
 ghost use Rattle.polyline.specs.Write.{digits_of, number_text};
 
-// A byte, where there is a cell for it.
-pub fn put_byte(text: &mut [u8], at: usize, b: u8)
-    ensures { text.new ≡ set text.old at b }
+// A value, where there is a cell for it.
+pub fn put<T: Copy>(cells: &mut [T], at: usize, value: T)
+    ensures { cells.new ≡ set cells.old at value }
 {
-    if at < text.len() {
-        text[at] = b;
+    if at < cells.len() {
+        cells[at] = value;
     }
 }
 
@@ -21,6 +21,7 @@ fn width(n: u32) -> usize
 {
     let mut left = n;
     let mut w = 1;
+    // No `for`: how many tenth parts there are is what is asked.
     while 10 <= left {
         left /= 10;
         w += 1;
@@ -33,7 +34,7 @@ fn digit_byte(d: u32) -> u8
     requires { d < 10 }
     ensures { result ≡ 48 + d }
 {
-    (48 + d) as u8
+    b'0' + d as u8
 }
 
 // The digits of a number that end before a byte, the last of them first.
@@ -43,12 +44,13 @@ fn put_back(text: &mut [u8], end: usize, n: u32)
 {
     let mut left = n;
     let mut i = end;
+    // No `for`: the digits end where nothing is left of the number.
     while 10 <= left {
         i -= 1;
-        put_byte(text, i, digit_byte(left % 10));
+        put(text, i, digit_byte(left % 10));
         left /= 10;
     }
-    put_byte(text, i - 1, digit_byte(left));
+    put(text, i - 1, digit_byte(left));
 }
 
 // The digits of a number from a byte on: where they end.
@@ -67,10 +69,9 @@ pub fn put_number(text: &mut [u8], at: usize, v: i32) -> usize
     ensures { (text.new ≡ sets text.old at (number_text v)) × (result ≡ at + length (number_text v)) × (result ≤ at + 8) }
 {
     if v < 0 {
-        let n = (0 - v) as u32;
-        put_byte(text, at, 45);
-        put_digits(text, at + 1, n)
+        put(text, at, b'-');
+        put_digits(text, at + 1, v.unsigned_abs())
     } else {
-        put_digits(text, at, v as u32)
+        put_digits(text, at, v.unsigned_abs())
     }
 }
