@@ -1,36 +1,34 @@
 -- What going through a points text speaks of: one byte, and what all of them leave.
-use Rattle.std.specs.Prelude.{◌≡◌, cond, List, [], ℕ, ◌+◌, ◌^◌, ◌<◌, eqb, length, ℤ}
+use Rattle.std.specs.Prelude.{◌≡◌, cond, List, [], ℕ, ◌+◌, ◌^◌, ◌<◌, eqb, length, ℤ, Option, Some}
 use Rattle.std.proofs.lemmas.List.Edits.{sets}
 use Rattle.polyline.specs.declared.Spot.{Spot}
 use Rattle.polyline.specs.declared.Track.{Track}
-use Rattle.polyline.specs.declared.Track.TheVariants.{Empty, At}
-use Rattle.polyline.specs.declared.Judged.{Judged}
-use Rattle.polyline.specs.declared.Judged.TheVariants as judged
-use Rattle.polyline.specs.declared.Tracked.TheVariants.{Came, Halt}
+use Rattle.polyline.specs.Judged.{Judged}
+use Rattle.polyline.specs.Judged as judged
+use Rattle.polyline.specs.Tracked.{Empty, Came, Halt}
 use Rattle.polyline.specs.Spots.{figure_at, grown_by, spot_of, capped}
 use Rattle.polyline.specs.Read.{judged_of, track_from, step_deltas, deltas_from}
 use Rattle.polyline_pairs.specs.Fits.{Held, OnTrack}
 use Rattle.polyline_scan.specs.declared.Run.{Run}
-use Rattle.polyline_scan.specs.declared.Turned.{Turned}
-use Rattle.polyline_scan.specs.declared.Turned.TheVariants.{On, Stop}
+use Rattle.polyline_scan.specs.Turned.{Turned, On, Stop}
 
 pub record RunHeld (run : Run) : Type 0 where
   pub figure : Held run.figure
   pub track : OnTrack run.track
 
 -- two cells more can be counted; a first pair has none
-abbrev pub spare_by : Track → ℕ → Type 0
+abbrev pub spare_by : Option Track → ℕ → Type 0
 spare_by Empty held = Unit {0}
-spare_by (At p start) held = held + 2 < 2 ^ 64
+spare_by (Some t) held = held + 2 < 2 ^ 64
 
-pub record Spare (t : Track) (held : ℕ) : Type 0 where
+pub record Spare (t : Option Track) (held : ℕ) : Type 0 where
   pub cells : spare_by t held
 
 -- ---- one byte
 
 -- a pair that ends, where the next begins at `after`
 abbrev pub ended_of : Judged → Run → ℕ → Turned
-ended_of (judged.On t) run after = On (record { figure = figure_at after; track = t; held = run.held + length (step_deltas run.track (spot_of run.figure).point) })
+ended_of (judged.On t) run after = On (record { figure = figure_at after; track = Some t; held = run.held + length (step_deltas run.track (spot_of run.figure).point) })
 ended_of (judged.Stop code) run after = Stop code run.figure.begin
 
 unfoldable pub pair_ends : Run → ℕ → Turned
