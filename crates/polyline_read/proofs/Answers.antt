@@ -1,6 +1,10 @@
 -- Laws of the answers of reading: the pairs as they are, the room, and what is left after each.
 use mathlib.Core.Path.{◌≡◌, refl, sym, ap, ◌∙◌}
 use mathlib.Core.Bool.{Bool, true, false, cond, ◌||◌}
+use mathlib.Core.Logic.{◌⊎◌, inl, inr}
+use Rattle.std.specs.Prelude.{Option, Some, Err}
+use Rattle.std.specs.Result.{is_err}
+use Rattle.codes.specs.Refusal.{Refusal}
 use mathlib.Core.List.{List, ◌++◌}
 use Prim.Native.Nat.{ℕ, zero, suc, ◌+◌, ◌-◌, ◌*◌, ◌<◌, ◌≤◌}
 use native.Mathlib.Omega.{arith}
@@ -10,28 +14,24 @@ use lib.Ieee.{Float}
 use lib.ListN.{length, drop, replicate, length-replicate}
 use lib.Seq.{sets, sets-eq}
 use borrow.Author.Tests.{lt-ltb, le-ltb, ltb-false}
-use Rattle.codes.specs.declared.Code.{Code}
 use Rattle.codes.specs.declared.Code.TheVariants.{Room}
 use Rattle.list.specs.Steps.{zero_f32}
 use Rattle.write_judge.specs.Verdict.{Verdict}
 use Rattle.write_judge.specs.Verdict.{Fine, Fault}
-use Rattle.writer.specs.WriteAnswer.{WriteAnswer, Done, Refused}
+use Rattle.writer.specs.WriteAnswer.{WriteAnswer, Done}
 use Rattle.write_judge.proofs.Checks.{neither}
 use Rattle.control_points.specs.ControlPoints.{valid_point_pos}
-use Rattle.control_points.specs.declared.Pair.{Pair}
-use Rattle.control_points.specs.declared.Stand.{Stand}
 use Rattle.polyline.specs.declared.Spot.{Spot}
 use Rattle.polyline.specs.declared.Track.{Track}
-use Rattle.polyline.specs.declared.Track.TheVariants.{Empty, At}
-use Rattle.polyline.specs.declared.Tracked.{Tracked}
-use Rattle.polyline.specs.declared.Tracked.TheVariants.{Came, Halt}
+use Rattle.polyline.specs.Tracked.{Empty}
+use Rattle.polyline.specs.Tracked.{Tracked, Came, Halt}
 use Rattle.polyline.specs.Stages.{text_of}
 use Rattle.polyline.specs.Spots.{figure_at, uncapped, spots_of, capped_spots}
 use Rattle.polyline.specs.Read.{track_from, deltas_from, first_point, start_of, later_of, and_then, track_verdict, pairs_verdict, points_verdict, leaves, outcome, read_points_of}
 use Rattle.polyline.proofs.Tracks.{First, walk_first, deltas_length, spots_some}
 use Rattle.polyline.proofs.Capped.{capped_is, walk_capped, came_same}
 use Rattle.polyline_scan.specs.declared.Run.{Run}
-use Rattle.polyline_scan.specs.declared.Turned.TheVariants.{On, Stop}
+use Rattle.polyline_scan.specs.Turned.{On}
 use Rattle.polyline_scan.specs.Steps.{ScanLeaves}
 use Rattle.polyline_read.specs.Steps.{TextLeaves}
 
@@ -64,29 +64,26 @@ scanned text run d d' l =
 
 module _ (text : List ℕ) (run : Run) (d d' : List ℤ) (g : Scanned text run d d') where
   pub never-empty : run.track ≡ Empty → ⊥
-  never-empty e = let k = g.first.keeps.is in let z : ◌≡◌ {A = ℕ} 0 1 = cc in omega arith
+  never-empty e = let k = g.first.keeps.is in cc
 
-  pub first_is : (p : Stand) (q : Pair) → run.track ≡ At p q → q ≡ first_point (spots_of text)
-  first_is p q e = let k = g.first.keeps.is in cc
+  pub first_is : (t : Track) → run.track ≡ Some t → t.start ≡ first_point (spots_of text)
+  first_is t e = let k = g.first.keeps.is in let same : t ≡ record { place = g.first.keeps.place; start = first_point (spots_of text) } = cc in ap (λ (u : Track). u.start) same
 
-  pub first-valid : (p : Stand) (q : Pair) → run.track ≡ At p q → valid_point_pos q ≡ true
-  first-valid p q e = rw (first_is p q e) g.first.valid
+  pub first-valid : (t : Track) → run.track ≡ Some t → valid_point_pos t.start ≡ true
+  first-valid t e = rw (first_is t e) g.first.valid
 
 -- ---- the verdict
 
 module _ (ls ld : ℕ) (text : List ℕ) where
-  pub halted : (code : Code) (place : ℕ) (d d' : List ℤ) → ScanLeaves (capped_spots text) (Stop code place) d d' → pairs_verdict ls ld (spots_of text) ≡ Fault code place
+  pub halted : (f : Refusal) (d d' : List ℤ) → ScanLeaves (capped_spots text) (Err f) d d' → pairs_verdict ls ld (spots_of text) ≡ Err f
   unfolding pairs_verdict
-  halted code place d d' l = rw (sym (walk_is text) ∙ l.leaves)
+  halted (code, place) d d' l = rw (sym (walk_is text) ∙ l.leaves)
 
-  module _ (t : Track) (came : track_from Empty (spots_of text) ≡ Came t) where
-    pub start-lacks : ls < 2 → pairs_verdict ls ld (spots_of text) ≡ Fault Room 0
+  module _ (t : Option Track) (came : track_from Empty (spots_of text) ≡ Came t) where
+    pub room-lacks : (held n : ℕ) → held ≡ 2 * later_of (spots_of text) → n ≡ ld → (ls < 2) ⊎ ((2 ≤ ls) × (n < held)) → pairs_verdict ls ld (spots_of text) ≡ Fault Room 0
     unfolding pairs_verdict
-    start-lacks h = rw (came, lt-ltb ls 2 h)
-
-    pub deltas-lack : 2 ≤ ls → (held : ℕ) → held ≡ 2 * later_of (spots_of text) → ld < held → pairs_verdict ls ld (spots_of text) ≡ Fault Room 0
-    unfolding pairs_verdict
-    deltas-lack h held e g = rw (came, le-ltb ls 2 h, lt-ltb ld (2 * later_of (spots_of text)) (omega arith))
+    room-lacks held n e is (inl h) = rw (came, lt-ltb ls 2 h)
+    room-lacks held n e is (inr g) = rw (came, le-ltb ls 2 g.0, lt-ltb ld (2 * later_of (spots_of text)) (omega (arith, g.1)))
 
     pub all-fits : 2 ≤ ls → (held : ℕ) → held ≡ 2 * later_of (spots_of text) → held ≤ ld → pairs_verdict ls ld (spots_of text) ≡ Fine
     unfolding pairs_verdict
@@ -99,22 +96,25 @@ module _ (ls ld : ℕ) (text : List ℕ) where
     where
       go : (v : Verdict) (w : Tracked) (b : Bool) → (ltb ls 2 || ltb ld (2 * later_of (spots_of text))) ≡ b
           → and_then v (and_then (track_verdict w) (cond b (Fault Room 0) Fine)) ≡ Fine → (2 ≤ ls) × (2 * later_of (spots_of text) ≤ ld)
-      go (Fault c p) w b x e = let z : ◌≡◌ {A = ℕ} 0 1 = cc in absurd (omega arith)
-      go Fine (Halt c p) b x e = let z : ◌≡◌ {A = ℕ} 0 1 = cc in absurd (omega arith)
-      go Fine (Came t) true x e = let z : ◌≡◌ {A = ℕ} 0 1 = cc in absurd (omega arith)
+      go (Fault c p) w b x e = cc
+      go Fine (Halt c p) b x e = cc
+      go Fine (Came t) true x e = cc
       go Fine (Came t) false x e =
           let n = neither (ltb ls 2) (ltb ld (2 * later_of (spots_of text))) x in
           (ltb-false ls 2 n.0, ltb-false ld (2 * later_of (spots_of text)) n.1)
 
 -- ---- what is left
 
-pub text-refused : (ss : List Spot) (v : Verdict) (code : Code) (place : ℕ) (s s' : List Float) (d d' : List ℤ) → v ≡ Fault code place → s' ≡ s
-    → TextLeaves ss v (Refused code place) s s' d d'
-text-refused ss v code place s s' d d' e same = rw e (record { leaves = (refl, same) })
+pub text-refused : (ss : List Spot) (v : Verdict) (f : Refusal) (r : WriteAnswer) (s : List Float) (d d' : List ℤ) → v ≡ Err f → r ≡ Err f → TextLeaves ss v r s s d d'
+text-refused ss v (code, place) r s d d' e is = rw (e, is) (record { leaves = (refl, refl) })
 
 pub text-done : (ss : List Spot) (v : Verdict) (n : ℕ) (s s' : List Float) (d d' : List ℤ) → v ≡ Fine → n ≡ later_of ss → s' ≡ sets s 0 (start_of ss)
     → d' ≡ sets d 0 (deltas_from Empty ss) → TextLeaves ss v (Done n) s s' d d'
 text-done ss v n s s' d d' e is x y = rw e (record { leaves = (ap Done is, x, y) })
+
+-- TEXT decides
+pub text-stray : (ss : List Spot) (v w : Verdict) (f : Refusal) (r : WriteAnswer) (s : List Float) (d : List ℤ) → v ≡ Err f → r ≡ Err f → TextLeaves ss (and_then v w) r s s d d
+text-stray ss v w (code, place) r s d e is = rw (e, is) (record { leaves = (refl, refl) })
 
 -- TEXT passed: the rest decides
 pub text-fine : (ss : List Spot) (v w : Verdict) (r : WriteAnswer) (s s' : List Float) (d d' : List ℤ) → v ≡ Fine → TextLeaves ss w r s s' d d' → TextLeaves ss (and_then v w) r s s' d d'
@@ -153,30 +153,25 @@ module _ (text : List ℕ) (ls ld : ℕ) (s s' : List Float) (d d' : List ℤ) (
   l : TextLeaves (spots_of text) (points_verdict ls ld text) r s s' d d'
   l = rw (start-length, deltas_room) at l₀
 
-  pub call-done : (n : ℕ) → r ≡ Done n → leaves (Done n) s' d' ≡ read_points_of ls ld text
+  pub call-done : is_err r ≡ false → leaves r s' d' ≡ read_points_of ls ld text
   unfolding read_points_of
-  call-done n e = go (points_verdict ls ld text) refl l
+  call-done good = go (points_verdict ls ld text) refl l
     where
-      go : (v : Verdict) → points_verdict ls ld text ≡ v → TextLeaves (spots_of text) v r s s' d d' → leaves (Done n) s' d' ≡ outcome ls ld (spots_of text) v
+      go : (v : Verdict) → points_verdict ls ld text ≡ v → TextLeaves (spots_of text) v r s s' d d' → leaves r s' d' ≡ outcome ls ld (spots_of text) v
       go Fine x l =
-          let m : n ≡ later_of (spots_of text) = cc l.leaves.0 in
           let h = roomy ls ld text x in
           let a : s' ≡ start_of (spots_of text) ++ replicate (ls - 2) zero_f32 = l.leaves.1 ∙ rw (zs) (front zero_f32 ls (start_of (spots_of text)) h.0) in
           let b : d' ≡ deltas_from Empty (spots_of text) ++ replicate (ld - 2 * later_of (spots_of text)) (pos 0) =
           l.leaves.2 ∙ rw (zd) (rw (deltas_length (spots_of text)) at (front (pos 0) ld (deltas_from Empty (spots_of text)) (omega (arith, h.1, deltas_length (spots_of text))))) in
-          rw (m, a, b)
-      go (Fault c p) x l = let z : ◌≡◌ {A = ℕ} 0 1 = cc l.leaves.0 in absurd (omega arith)
+          rw (l.leaves.0, a, b)
+      go (Fault c p) x l = let bad = rw l.leaves.0 at good in cc
 
-  pub call-refused : (code : Code) (place : ℕ) (d'' : List ℤ) → d'' ≡ replicate (length d') (pos 0) → length d' ≡ length d → r ≡ Refused code place
-      → leaves (Refused code place) s' d'' ≡ read_points_of ls ld text
+  pub call-refused : (d'' : List ℤ) → is_err r ≡ true → d'' ≡ replicate (length d') (pos 0) → length d' ≡ length d → leaves r s' d'' ≡ read_points_of ls ld text
   unfolding read_points_of
-  call-refused code place d'' z k e = go (points_verdict ls ld text) l
+  call-refused d'' bad z k = go (points_verdict ls ld text) l
     where
-      go : (v : Verdict) → TextLeaves (spots_of text) v r s s' d d' → leaves (Refused code place) s' d'' ≡ outcome ls ld (spots_of text) v
-      go Fine l = let z : ◌≡◌ {A = ℕ} 0 1 = cc l.leaves.0 in absurd (omega arith)
-      go (Fault c p) l =
-          let x : code ≡ c = cc l.leaves.0 in
-          let y : place ≡ p = cc l.leaves.0 in
-          rw (x, y, l.leaves.1, zs, z, k ∙ deltas_room)
+      go : (v : Verdict) → TextLeaves (spots_of text) v r s s' d d' → leaves r s' d'' ≡ outcome ls ld (spots_of text) v
+      go Fine l = let good = rw l.leaves.0 at bad in cc
+      go (Fault c p) l = rw (l.leaves.0, l.leaves.1, zs, z, k ∙ deltas_room)
 
 -- Assumes nothing.

@@ -5,7 +5,7 @@ use Rattle.writer.specs.WriteAnswer.{WriteAnswer, Done, Refused}
 use Rattle.write_judge.specs.Verdict.{Verdict}
 use Rattle.write_judge.specs.Verdict.{Fine, Fault}
 use Rattle.polyline.specs.declared.Spot.{Spot}
-use Rattle.polyline.specs.declared.Track.TheVariants.{Empty}
+use Rattle.polyline.specs.Tracked.{Empty}
 use Rattle.polyline.specs.Read.{deltas_from, start_of, later_of}
 
 -- what reading a text answers, by its verdict, and leaves: of a refusal nothing is said but that the start is as it was

@@ -10,71 +10,55 @@ ghost use Rattle.polyline.specs.Spots.{spots_of};
 ghost use Rattle.polyline.specs.Read.{leaves, pairs_verdict, points_verdict, read_points_of};
 ghost use Rattle.polyline_read.specs.Steps.{TextLeaves};
 
-use buffers::{clear_f32, clear_i32};
-use codes::Code;
+use buffers::clear;
+use codes::{Code, Refusal};
 use control_points::Pair;
-use polyline::Track;
 use polyline_form::judge_form;
-use polyline_scan::{Turned, scan};
+use polyline_scan::scan;
 use read_steps::start_of;
-use write_judge::Verdict;
-use writer::WriteAnswer;
 
 // The first pair as a start.
 fn put_start(p: Pair, start: &mut [f32])
     requires { (valid_point_pos p ≡ Bool.true) × (2 ≤ length start.old) }
     ensures { start.new ≡ sets start.old 0 (f32_of p.x ∷ f32_of p.y ∷ []) }
 {
-    start[0] = start_of(p.x as i64);
-    start[1] = start_of(p.y as i64);
+    start[0] = start_of(i64::from(p.x));
+    start[1] = start_of(i64::from(p.y));
 }
 
 // A text of the form: its pairs, then the room.
-fn read_pairs(text: &[u8], start: &mut [f32], deltas: &mut [i32]) -> WriteAnswer
+fn read_pairs(text: &[u8], start: &mut [f32], deltas: &mut [i32]) -> Result<usize, Refusal>
     ensures { TextLeaves (spots_of text.now) (pairs_verdict (length start.old) (length deltas.old) (spots_of text.now)) result start.old start.new deltas.old deltas.new }
 {
-    match scan(text, deltas) {
-        Turned::Stop(code, place) => WriteAnswer::Refused(code, place),
-        Turned::On(run) => {
-            let held = run.held;
-            if start.len() < 2 {
-                return WriteAnswer::Refused(Code::Room, 0);
-            }
-            if deltas.len() < held {
-                return WriteAnswer::Refused(Code::Room, 0);
-            }
-            let track = run.track;
-            match track {
-                Track::Empty => WriteAnswer::Refused(Code::Room, 0),
-                Track::At(_, first) => {
-                    put_start(first, start);
-                    WriteAnswer::Done(held / 2)
-                }
-            }
-        }
+    let run = scan(text, deltas)?;
+    if start.len() < 2 || deltas.len() < run.held {
+        return Err((Code::Room, 0));
     }
+    // A text has a pair, since its end ends one.
+    let Some(track) = run.track else {
+        return Err((Code::Room, 0));
+    };
+    put_start(track.start, start);
+    Ok(run.held / 2)
 }
 
 // TEXT before all else.
-fn read_text(text: &[u8], start: &mut [f32], deltas: &mut [i32]) -> WriteAnswer
+fn read_text(text: &[u8], start: &mut [f32], deltas: &mut [i32]) -> Result<usize, Refusal>
     ensures { TextLeaves (spots_of text.now) (points_verdict (length start.old) (length deltas.old) text.now) result start.old start.new deltas.old deltas.new }
 {
-    match judge_form(text) {
-        Verdict::Fault(code, place) => WriteAnswer::Refused(code, place),
-        Verdict::Fine => read_pairs(text, start, deltas),
-    }
+    judge_form(text)?;
+    read_pairs(text, start, deltas)
 }
 
-pub fn points_read(text: &[u8], start: &mut [f32], deltas: &mut [i32]) -> WriteAnswer
+// How many double deltas were read, or what refuses the text, and where.
+pub fn points_read(text: &[u8], start: &mut [f32], deltas: &mut [i32]) -> Result<usize, Refusal>
     ensures { leaves result start.new deltas.new ≡ read_points_of (length start.old) (length deltas.old) text.now }
 {
-    clear_f32(start);
-    clear_i32(deltas);
-    match read_text(text, start, deltas) {
-        WriteAnswer::Done(n) => WriteAnswer::Done(n),
-        WriteAnswer::Refused(code, place) => {
-            clear_i32(deltas);
-            WriteAnswer::Refused(code, place)
-        }
+    clear(start);
+    clear(deltas);
+    let answer = read_text(text, start, deltas);
+    if answer.is_err() {
+        clear(deltas);
     }
+    answer
 }
