@@ -1,5 +1,5 @@
 -- Laws of judging a spline: one double delta, a turn of the loop, and that a spline which passes may be gone along again.
-use mathlib.Core.Path.{◌≡◌, refl, sym, ◌∙◌}
+use mathlib.Core.Path.{◌≡◌, refl, sym, ap, ◌∙◌}
 use mathlib.Core.Bool.{Bool, true, false, cond}
 use mathlib.Core.List.{List, [], ◌∷◌}
 use Prim.Native.Nat.{ℕ, ◌+◌, ◌*◌, ◌/◌, ◌<◌, ◌≤◌}
@@ -12,32 +12,19 @@ use Rattle.control_points.specs.ControlPoints.{valid_point_pos, valid_double_del
 use Rattle.control_points.specs.Asked.{passes, Passable}
 use Rattle.control_points.specs.declared.Pair.{Pair}
 use Rattle.control_points.specs.declared.Stand.{Stand}
-use Rattle.control_points.specs.declared.Start.{Start}
-use Rattle.control_points.specs.declared.Start.TheVariants as S
+use Rattle.control_points.specs.Answers.{Start}
+use Rattle.control_points.specs.Answers as S
 use Rattle.control_points.proofs.Steps.{pair_drop}
-use Rattle.polyline.specs.declared.Gone.{Gone}
-use Rattle.polyline.specs.declared.Gone.TheVariants.{On, Stop}
+use Rattle.polyline.specs.Gone.{Gone, On, Stop}
 use Rattle.polyline.specs.Write.{gone_by, onward, gone_from, gone_of}
-use Rattle.polyline_spline.specs.declared.Begun.TheVariants as begun'
+use Rattle.polyline_spline.specs.Begun as begun'
 use Rattle.polyline_spline.specs.Steps.{Placed, begun_at}
 
 -- ---- one double delta
 
 module _ (p : Stand) (met : Bool) (dd : Pair) where
-  pub gone_delta : valid_double_delta dd ≡ false → Stop Delta ≡ gone_by p met dd
-  unfolding gone_by
-  gone_delta e = rw e
-
   module _ (a : valid_double_delta dd ≡ true) (d : Pair) (is : d ≡ plus_of p.delta dd) where
-    pub gone_far : valid_point_pos d ≡ false → Stop Position ≡ gone_by p met dd
-    unfolding gone_by moved_of
-    gone_far e = rw (a, ← is, e)
-
     module _ (b : valid_point_pos d ≡ true) (q : Pair) (to : q ≡ plus_of p.point d) where
-      pub gone_out : valid_point_pos q ≡ false → Stop Position ≡ gone_by p met dd
-      unfolding gone_by moved_of
-      gone_out e = rw (a, ← is, b, ← to, e)
-
       pub gone_on : valid_point_pos q ≡ true → (s : Bool) (r : Gone) → s ≡ same_point p.point q → r ≡ On (record { delta = d; point = q }) (cond met true s) → r ≡ gone_by p met dd
       unfolding gone_by moved_of
       gone_on e s r x y = rw (a, ← is, b, ← to, e, ← x) y
@@ -56,10 +43,12 @@ module _ (p : Stand) (met : Bool) (dd : Pair) where
     where
       go : (a b c : Bool) → valid_double_delta dd ≡ a → valid_point_pos (moved_of p dd).delta ≡ b → valid_point_pos (moved_of p dd).point ≡ c
           → cond a (cond b (cond c (On (moved_of p dd) (cond met true (same_point p.point (moved_of p dd).point))) (Stop Position)) (Stop Position)) (Stop Delta) ≡ On q m → Went q m
-      go true true true x y z e = record { small = x; is = cc; delta = y; point = z; meets = cc }
-      go true true false x y z e = let w : ◌≡◌ {A = ℕ} 0 1 = cc in absurd (omega arith)
-      go true false c x y z e = let w : ◌≡◌ {A = ℕ} 0 1 = cc in absurd (omega arith)
-      go false b c x y z e = let w : ◌≡◌ {A = ℕ} 0 1 = cc in absurd (omega arith)
+      go true true true x y z e =
+          let pair : ◌≡◌ {A = Stand × Bool} (moved_of p dd, cond met true (same_point p.point (moved_of p dd).point)) (q, m) = cc in
+          record { small = x; is = sym (ap (λ (r : Stand × Bool). r.0) pair); delta = y; point = z; meets = sym (ap (λ (r : Stand × Bool). r.1) pair) }
+      go true true false x y z e = cc
+      go true false c x y z e = cc
+      go false b c x y z e = cc
 
 -- ---- a turn of the loop
 
@@ -90,8 +79,8 @@ module _ (first : Stand) (ds : List ℤ) (p : Stand) (met : Bool) (k : ℕ) (a :
         left = sym (unrolled ∙ rw e) ∙ a.left;
       }
 
-  pub along_stop : (c : Code) → g ≡ Stop c → Stop c ≡ gone_from first false ds
-  along_stop c e = sym (unrolled ∙ rw e) ∙ a.left
+  pub along_stop : (c : Code) (r : Gone) → g ≡ Stop c → r ≡ Stop c → r ≡ gone_from first false ds
+  along_stop c r e f = f ∙ sym (unrolled ∙ rw e) ∙ a.left
 
 gone_end : (p : Stand) (met : Bool) (ds : List ℤ) → length ds < 2 → gone_from p met ds ≡ On p met
 unfolding gone_from
@@ -117,26 +106,10 @@ gone_passes (a ∷ b ∷ ds) p met q m e = go (gone_by p met (record { x = a; y 
     go (On r n) x f rest =
         let w = gone_went p met (record { x = a; y = b }) r n x in
         rw (w.small, w.delta, w.point) (rw w.is at (rest r n f))
-    go (Stop c) x f rest = let w : ◌≡◌ {A = ℕ} 0 1 = cc in absurd (omega arith)
+    go (Stop c) x f rest = cc
 
 pub passable : (start : Pair) (ds : List ℤ) (q : Stand) (m : Bool) → valid_point_pos start ≡ true → gone_of start ds ≡ On q m → Passable (stand_at start) ds
 unfolding gone_of stand_at valid_point_pos
 passable start ds q m h e = record { delta = refl; point = h; rest = gone_passes ds (stand_at start) false q m e }
-
--- ---- the start
-
-module _ (ds : List ℤ) (s : Start) where
-  pub begun_out : s ≡ S.Out → begun'.Stop Position ≡ begun_at ds s
-  begun_out e = rw e
-
-  module _ (p : Pair) (at : s ≡ S.At p) (g : Gone) (is : g ≡ gone_of p ds) where
-    pub begun_stop : (c : Code) → g ≡ Stop c → begun'.Stop c ≡ begun_at ds s
-    begun_stop c e = rw (at, ← is, e)
-
-    pub begun_meets : (q : Stand) (m : Bool) → g ≡ On q m → m ≡ true → begun'.Stop Coincide ≡ begun_at ds s
-    begun_meets q m e t = rw (at, ← is, e, t)
-
-    pub begun_at_lem : (q : Stand) (m : Bool) → g ≡ On q m → m ≡ false → begun'.At p ≡ begun_at ds s
-    begun_at_lem q m e t = rw (at, ← is, e, t)
 
 -- Assumes nothing.

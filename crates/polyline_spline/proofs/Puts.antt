@@ -14,7 +14,7 @@ use Rattle.control_points.specs.declared.Stand.{Stand}
 use Rattle.control_points.proofs.Walks.{points_more, points_done, walk_more}
 use Rattle.write_steps.proofs.Stores.{sets_append}
 use Rattle.polyline.specs.Write.{number_text, pair_text, later_text, points_text}
-use Rattle.polyline_spline.specs.declared.Put.TheVariants.{Ends, Full}
+use Rattle.polyline_spline.specs.Put.{Ends, Full}
 use Rattle.polyline_spline.specs.Steps.{PutLeaves}
 
 pub pair_put : (p : Pair) (l l1 l2 l3 : List ℕ) (at comma end : ℕ) → (l1 ≡ sets l at (number_text p.x)) × (comma ≡ at + length (number_text p.x)) × (comma ≤ at + 8)

@@ -8,16 +8,14 @@ use Rattle.write_judge.specs.Verdict.{Fine, Fault}
 use Rattle.control_points.specs.ControlPoints.{valid_point_pos}
 use Rattle.control_points.specs.declared.Pair.{Pair}
 use Rattle.control_points.specs.declared.Stand.{Stand}
-use Rattle.control_points.specs.declared.Start.{Start}
-use Rattle.control_points.specs.declared.Start.TheVariants as S
-use Rattle.polyline.specs.declared.Gone.{Gone}
-use Rattle.polyline.specs.declared.Gone.TheVariants.{On, Stop}
+use Rattle.control_points.specs.Answers.{Start}
+use Rattle.control_points.specs.Answers as S
+use Rattle.polyline.specs.Gone.{Gone, On, Stop}
 use Rattle.polyline.specs.Read.{and_then}
 use Rattle.polyline.specs.Write.{gone_of, begun, text_at}
-use Rattle.polyline_spline.specs.declared.Begun.{Begun}
-use Rattle.polyline_spline.specs.declared.Begun.TheVariants as begun'
-use Rattle.polyline_spline.specs.declared.Put.{Put}
-use Rattle.polyline_spline.specs.declared.Put.TheVariants.{Ends, Full}
+use Rattle.polyline_spline.specs.Begun.{Begun}
+use Rattle.polyline_spline.specs.Begun as begun'
+use Rattle.polyline_spline.specs.Put.{Put, Ends, Full}
 
 -- a delta and a point that passed POSITION
 pub record Placed (p : Stand) : Type 0 where

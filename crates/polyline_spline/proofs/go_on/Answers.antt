@@ -1,26 +1,18 @@
--- `polyline_spline::go_on` meets its contract: each test is the definition's at the same place.
+-- `polyline_spline::go_on` meets its contract: the sums fit, and the machine's equality of two points in range is that of points.
 use mathlib.Core.Path.{sym, ◌∙◌}
 use Rattle.control_points.proofs.Pairs.{double_delta_fine, point_fine}
-use Rattle.polyline_spline.proofs.Goes.{gone_delta, gone_far, gone_out, gone_on}
+use Rattle.polyline_pairs.proofs.Numbers.{same_is}
+use Rattle.polyline_spline.proofs.Goes.{gone_on}
 use Rattle.polyline_spline.proofs.go_on.Goals as goal
 
-pub returns-then-not-small : goal.returns-then-not-small
-returns-then-not-small c = gone_delta c.args.place c.args.met c.args.dd (sym c.small.ensures ∙ c.if-not-small.true)
+pub add-delta-requires : goal.add-delta-requires
+add-delta-requires c = (point_fine _ c.requires.delta, double_delta_fine _ (sym c.if-not-valid_double_delta.ensures))
 
-pub plus-delta-requires : goal.plus-delta-requires
-plus-delta-requires c = (point_fine _ c.requires.delta, double_delta_fine _ (sym c.small.ensures ∙ c.if-not-small.false))
+pub add-point-requires : goal.add-point-requires
+add-point-requires c = (point_fine _ c.requires.point, point_fine _ (sym c.if-not-valid_point_pos.ensures))
 
-pub returns-then-not-valid : goal.returns-then-not-valid
-returns-then-not-valid c = gone_far c.args.place c.args.met c.args.dd (sym c.small.ensures ∙ c.if-not-small.false) _ c.plus-delta.ensures (sym c.valid.ensures ∙ c.if-not-valid.true)
-
-pub plus-point-requires : goal.plus-point-requires
-plus-point-requires c = (point_fine _ c.requires.point, point_fine _ (sym c.valid.ensures ∙ c.if-not-valid.false))
-
-pub returns-then-not-valid-2 : goal.returns-then-not-valid-2
-returns-then-not-valid-2 c = gone_out c.args.place c.args.met c.args.dd (sym c.small.ensures ∙ c.if-not-small.false) _ c.plus-delta.ensures (sym c.valid.ensures ∙ c.if-not-valid.false) _ c.plus-point.ensures (sym c.valid-2.ensures ∙ c.if-not-valid-2.true)
-
-pub same-meets-requires : goal.same-meets-requires
-same-meets-requires c = (c.requires.point, sym c.valid-2.ensures ∙ c.if-not-valid-2.false)
-
-pub returns : goal.returns
-returns c = gone_on c.args.place c.args.met c.args.dd (sym c.small.ensures ∙ c.if-not-small.false) _ c.plus-delta.ensures (sym c.valid.ensures ∙ c.if-not-valid.false) _ c.plus-point.ensures (sym c.valid-2.ensures ∙ c.if-not-valid-2.false) _ _ c.same-meets.ensures c.reached.ensures
+pub returns-else-met : goal.returns-else-met
+returns-else-met c =
+    let A = c.args in
+    let same = same_is A.place.point c.add-point.result c.requires.point (sym c.if-not-valid_point_pos-2.ensures) in
+    gone_on A.place A.met A.dd (sym c.if-not-valid_double_delta.ensures) _ c.add-delta.ensures (sym c.if-not-valid_point_pos.ensures) _ c.add-point.ensures (sym c.if-not-valid_point_pos-2.ensures) c.eq.result _ (c.eq.ensures ∙ same) (rw c.if-met.false)

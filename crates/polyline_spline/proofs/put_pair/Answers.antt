@@ -16,4 +16,4 @@ pub put_number-requires : goal.put_number-requires
 put_number-requires c = (omega (arith, c.put_number-comma.ensures.2), rw (to_z-of_z {w = w32} {z = c.args.p.y} (record { sfits = omega arith })) (point_range c.args.p c.requires.1).1)
 
 pub returns : goal.returns
-returns c = pair_put c.args.p c.args.text.now _ _ _ c.args.at _ _ (rw (to_z-of_z {w = w32} {z = c.args.p.x} (record { sfits = omega arith })) at c.put_number-comma.ensures) c.put_byte.ensures (rw (to_z-of_z {w = w32} {z = c.args.p.y} (record { sfits = omega arith })) at c.put_number.ensures)
+returns c = pair_put c.args.p c.args.text.now _ _ _ c.args.at _ _ (rw (to_z-of_z {w = w32} {z = c.args.p.x} (record { sfits = omega arith })) at c.put_number-comma.ensures) c.put.ensures (rw (to_z-of_z {w = w32} {z = c.args.p.y} (record { sfits = omega arith })) at c.put_number.ensures)

@@ -1,11 +1,6 @@
 -- `polyline_spline::put_rest` meets its contract: before each double delta, what is put and what is left come to the whole.
-use Prim.Native.Nat.{◌-◌, ◌/◌}
-use lib.ListN.{length}
 use Rattle.polyline_spline.proofs.Puts.{Rest}
 use Rattle.polyline_spline.proofs.put_rest.Given as goal
 
 abbrev pub invariant-loop-k : goal.invariant-loop-k
 invariant-loop-k l = Rest l.initial.place l.deltas l.initial.text l.begin l.text l.place l.at l.k
-
-abbrev pub decreases-loop-k : goal.decreases-loop-k
-decreases-loop-k l = length l.deltas / 2 - l.k
