@@ -1,6 +1,8 @@
 -- Laws of the answers of writing: the spline's part of the double deltas, and what is left.
 use mathlib.Core.Path.{◌≡◌, refl, ap, ◌∙◌}
 use mathlib.Core.Bool.{Bool, true, false, cond}
+use mathlib.Core.Logic.{◌⊎◌, inl, inr}
+use Rattle.std.specs.Result.{is_err}
 use mathlib.Core.List.{List, [], ◌∷◌}
 use Prim.Native.Nat.{ℕ, zero, suc, ◌+◌, ◌-◌, ◌*◌, ◌<◌, ◌≤◌}
 use native.Mathlib.Omega.{arith}
@@ -55,15 +57,12 @@ module _ (ns : List ℕ) (ss : List Float) (ds cs : List ℤ) (k room : ℕ) whe
   unfolding misshapen
   parted e h = let a = agreed ns ss ds cs (rw e) in record { there = h; starts = a.0; deltas = a.1 }
 
-  pub call_shape : (l : List ℕ) → l ≡ replicate room 0 → shaped ns ss ds cs ≡ false → leaves (Refused Shape 0) l ≡ write_points_of ns ss ds cs k room
+  pub call-shape : (l : List ℕ) → l ≡ replicate room 0 → (shaped ns ss ds cs ≡ false) ⊎ ((shaped ns ss ds cs ≡ true) × (length ns ≤ k)) → leaves (Refused Shape 0) l ≡ write_points_of ns ss ds cs k room
   unfolding write_points_of write_verdict no_spline misshapen
-  call_shape l z e = rw (z, e)
+  call-shape l z (inl e) = rw (z, e)
+  call-shape l z (inr e) = rw (z, e.0, le-leb (length ns) k e.1)
 
   module _ (good : shaped ns ss ds cs ≡ true) where
-    pub call_none : (l : List ℕ) → l ≡ replicate room 0 → length ns ≤ k → leaves (Refused Shape 0) l ≡ write_points_of ns ss ds cs k room
-    unfolding write_points_of write_verdict no_spline misshapen
-    call_none l z h = rw (z, good, le-leb (length ns) k h)
-
     module _ (there : k < length ns) (l l' : List ℕ) (zs : l ≡ replicate room 0) (r : WriteAnswer)
         (one : OneLeaves (text_at (part_of ns ds k) (starting_point (get_or ss (2 * k) nan) (get_or ss (2 * k + 1) nan)))
         (one_verdict k (part_of ns ds k) (starting_point (get_or ss (2 * k) nan) (get_or ss (2 * k + 1) nan)) (length l)) r l l') where
@@ -81,32 +80,27 @@ module _ (ns : List ℕ) (ss : List Float) (ds cs : List ℤ) (k room : ℕ) whe
       call-is = rw (good, lt-leb (length ns) k there)
 
       roomy : (v : Verdict) → and_then v (cond (ltb room (length itsText)) (Fault Room k) Fine) ≡ Fine → length itsText ≤ room
-      roomy (Fault c p) e = let z : ◌≡◌ {A = ℕ} 0 1 = cc in absurd (omega arith)
+      roomy (Fault c p) e = cc
       roomy Fine e = go (ltb room (length itsText)) refl e
         where
           go : (b : Bool) → ltb room (length itsText) ≡ b → cond b (Fault Room k) Fine ≡ Fine → length itsText ≤ room
-          go true x e = let z : ◌≡◌ {A = ℕ} 0 1 = cc in absurd (omega arith)
+          go true x e = cc
           go false x e = ltb-false room (length itsText) x
 
-      pub call-done : (n : ℕ) → r ≡ Done n → leaves (Done n) l' ≡ write_points_of ns ss ds cs k room
-      call-done n e = go itsVerdict refl (rw length-l at one) ∙ call-is
+      pub call-done : is_err r ≡ false → leaves r l' ≡ write_points_of ns ss ds cs k room
+      call-done good = go itsVerdict refl (rw length-l at one) ∙ call-is
         where
-          go : (v : Verdict) → itsVerdict ≡ v → OneLeaves itsText v r l l' → leaves (Done n) l' ≡ writing.outcome room itsText v
+          go : (v : Verdict) → itsVerdict ≡ v → OneLeaves itsText v r l l' → leaves r l' ≡ writing.outcome room itsText v
           go Fine x o =
-              let is : n ≡ length itsText = cc o.leaves.0 in
               let h = roomy (begun k (part_of ns ds k) (starting_point (get_or ss (2 * k) nan) (get_or ss (2 * k + 1) nan))) x in
-              rw (is, o.leaves.1, zs, zeros_after room itsText h)
-          go (Fault c p) x o = let z : ◌≡◌ {A = ℕ} 0 1 = cc o.leaves in absurd (omega arith)
+              rw (o.leaves.0, o.leaves.1, zs, zeros_after room itsText h)
+          go (Fault c p) x o = let bad = rw o.leaves at good in cc
 
-      pub call-refused : (code : Code) (place : ℕ) (l'' : List ℕ) → l'' ≡ replicate (length l') 0 → length l' ≡ length l → r ≡ Refused code place
-          → leaves (Refused code place) l'' ≡ write_points_of ns ss ds cs k room
-      call-refused code place l'' z same e = go itsVerdict (rw length-l at one) ∙ call-is
+      pub call-refused : (l'' : List ℕ) → is_err r ≡ true → l'' ≡ replicate (length l') 0 → length l' ≡ length l → leaves r l'' ≡ write_points_of ns ss ds cs k room
+      call-refused l'' bad z same = go itsVerdict (rw length-l at one) ∙ call-is
         where
-          go : (v : Verdict) → OneLeaves itsText v r l l' → leaves (Refused code place) l'' ≡ writing.outcome room itsText v
-          go Fine o = let z : ◌≡◌ {A = ℕ} 0 1 = cc o.leaves.0 in absurd (omega arith)
-          go (Fault c p) o =
-              let x : code ≡ c = cc o.leaves in
-              let y : place ≡ p = cc o.leaves in
-              rw (x, y, z, same ∙ length-l)
+          go : (v : Verdict) → OneLeaves itsText v r l l' → leaves r l'' ≡ writing.outcome room itsText v
+          go Fine o = let good = rw o.leaves.0 at bad in cc
+          go (Fault c p) o = rw (o.leaves, z, same ∙ length-l)
 
 -- Assumes nothing.

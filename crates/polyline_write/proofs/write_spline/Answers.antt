@@ -11,19 +11,19 @@ pub deltas_at-from-requires : goal.deltas_at-from-requires
 deltas_at-from-requires c = (omega (arith, c.requires.there), sym c.requires.deltas)
 
 pub overflow_mul-to : goal.overflow_mul-to
-overflow_mul-to c = omega (arith, at-fits c.args.counts.now c.args.k c.requires.there, c.wide.ensures, c.requires.deltas)
+overflow_mul-to c = omega (arith, at-fits c.args.description.now.counts.now c.args.k c.requires.there, c.requires.deltas)
 
 pub overflow_add-to : goal.overflow_add-to
-overflow_add-to c = omega (arith, at-fits c.args.counts.now c.args.k c.requires.there, c.wide.ensures, c.deltas_at-from.ensures, c.requires.deltas)
+overflow_add-to c = omega (arith, at-fits c.args.description.now.counts.now c.args.k c.requires.there, c.deltas_at-from.ensures, c.requires.deltas)
 
-pub offset_bounds-deltas-from : goal.offset_bounds-deltas-from
-offset_bounds-deltas-from c = omega (arith, at-fits c.args.counts.now c.args.k c.requires.there, c.deltas_at-from.ensures, c.requires.deltas)
+pub offset_bounds-description-from : goal.offset_bounds-description-from
+offset_bounds-description-from c = omega (arith, at-fits c.args.description.now.counts.now c.args.k c.requires.there, c.deltas_at-from.ensures, c.requires.deltas)
 
 pub slice_bounds-write_one-end : goal.slice_bounds-write_one-end
-slice_bounds-write_one-end c = omega (arith, at-fits c.args.counts.now c.args.k c.requires.there, c.wide.ensures, c.deltas_at-from.ensures, c.requires.deltas)
+slice_bounds-write_one-end c = omega (arith, at-fits c.args.description.now.counts.now c.args.k c.requires.there, c.deltas_at-from.ensures, c.requires.deltas)
 
 pub returns : goal.returns
 returns c =
     let d = c.deltas_at-from in
-    let from : d.result ≡ 2 * points_of (take c.args.k c.args.counts.now) = omega (arith, d.ensures) in
-    rw (part_is c.args.counts.now c.args.deltas.now c.args.k _ _ _ from c.wide.ensures refl) at c.write_one.ensures
+    let from : d.result ≡ 2 * points_of (take c.args.k c.args.description.now.counts.now) = omega (arith, d.ensures) in
+    rw (part_is c.args.description.now.counts.now c.args.description.now.deltas.now c.args.k _ _ _ from refl refl) at c.write_one.ensures
