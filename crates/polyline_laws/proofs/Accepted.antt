@@ -23,9 +23,9 @@ use Rattle.control_points.proofs.Coincide.{same_point_lem}
 use Rattle.control_points.proofs.Ranges.{point_decides}
 use Rattle.control_points.proofs.Starts.{start_valid}
 use Rattle.control_points.proofs.Walks.{traced_walk, points_length}
-use Rattle.polyline.specs.declared.Gone.TheVariants as gone
+use Rattle.polyline.specs.Gone as gone
 use Rattle.polyline.specs.declared.Spot.{Spot}
-use Rattle.polyline.specs.declared.Track.TheVariants.{Empty, At}
+use Rattle.polyline.specs.Tracked.{Empty, At}
 use Rattle.polyline.specs.Form.{PointsForm}
 use Rattle.polyline.specs.Stages.{text_of}
 use Rattle.polyline.specs.Spots.{spots_of}
@@ -181,16 +181,16 @@ read_says text start deltas n first ds is l g r t =
 
 fine_done : (start deltas : ℕ) (ss : List Spot) (v : Verdict) (n : ℕ) → (outcome start deltas ss v).answer ≡ Done n → (v ≡ Fine) × (later_of ss ≡ n)
 fine_done start deltas ss Fine n e = (refl, cc)
-fine_done start deltas ss (Fault c p) n e = let z : ◌≡◌ {A = ℕ} 0 1 = cc in absurd (omega arith)
+fine_done start deltas ss (Fault c p) n e = cc
 
 first_fine : (v w : Verdict) → and_then v w ≡ Fine → (v ≡ Fine) × (w ≡ Fine)
 first_fine Fine w e = (refl, e)
-first_fine (Fault c p) w e = let z : ◌≡◌ {A = ℕ} 0 1 = cc in absurd (omega arith)
+first_fine (Fault c p) w e = cc
 
 module _ (text : List ℕ) (start deltas : ℕ) where
   roomy : (short : Bool) → cond short (Fault Room 0) Fine ≡ Fine → short ≡ false
   roomy false e = refl
-  roomy true e = let z : ◌≡◌ {A = ℕ} 0 1 = cc in absurd (omega arith)
+  roomy true e = cc
 
   -- the points of a text that is read
   by_points : (n : ℕ) → PointsForm text → (ps : List Pair) → Says text ps → points_verdict start deltas text ≡ Fine → later_of (spots_of text) ≡ n → PointsAccepted text start deltas n

@@ -11,6 +11,7 @@ use lib.Seq.{take-add}
 use lib.IntN.{ℤ, pos}
 use lib.Ieee.{Float}
 use borrow.Author.Tests.{ltb-true, ltb-false}
+use Rattle.codes.proofs.Refusals.{same_refusal}
 use Rattle.codes.specs.declared.Code.{Code}
 use Rattle.codes.specs.declared.Code.TheVariants.{Text, Position, Coincide, Room}
 use Rattle.list.specs.Steps.{zero_f32}
@@ -21,11 +22,11 @@ use Rattle.dequantize.specs.Judge.{description_of}
 use Rattle.polyline.specs.declared.Spot.{Spot}
 use Rattle.polyline.specs.declared.Stage.{Stage}
 use Rattle.polyline.specs.declared.Stage.TheVariants as S
-use Rattle.polyline.specs.declared.Step.{Step}
-use Rattle.polyline.specs.declared.Step.TheVariants.{To, Stranger}
+use Rattle.polyline.specs.Step.{Step, To, Stranger}
 use Rattle.polyline.specs.declared.Track.{Track}
-use Rattle.polyline.specs.declared.Track.TheVariants.{Empty}
-use Rattle.polyline.specs.declared.Judged.TheVariants.{On, Stop}
+use Rattle.std.specs.Prelude.{Option, Some}
+use Rattle.polyline.specs.Tracked.{Empty}
+use Rattle.polyline.specs.Judged.{On, Stop}
 use Rattle.polyline.specs.Form.{PointsForm}
 use Rattle.polyline.specs.Stages.{next_of, may_end, follow, text_from, text_of}
 use Rattle.polyline.specs.Spots.{spots_of}
@@ -38,20 +39,20 @@ use Rattle.writer.specs.WriteAnswer.{Refused}
 -- ---- TEXT is the form's alone
 
 -- the pairs give POSITION or COINCIDE
-walk_says : (ss : List Spot) (t : Track) (p : ℕ) → track_verdict (track_from t ss) ≡ Fault Text p → ⊥
+walk_says : (ss : List Spot) (t : Option Track) (p : ℕ) → track_verdict (track_from t ss) ≡ Fault Text p → ⊥
 unfolding track_from judged_of
 walk_says [] t p e = let z : ◌≡◌ {A = ℕ} 0 1 = cc in omega arith
-walk_says (s ∷ ss) t p e = go (placeable t s.point) (meets t s.point) e (λ f. walk_says ss (track_to t s.point) p f)
+walk_says (s ∷ ss) t p e = go (placeable t s.point) (meets t s.point) e (λ f. walk_says ss (Some (track_to t s.point)) p f)
   where
     go : (a b : Bool) → track_verdict (after_pair (cond a (cond b (Stop Coincide) (On (track_to t s.point))) (Stop Position)) s.begin (λ u. track_from u ss)) ≡ Fault Text p
-        → (track_verdict (track_from (track_to t s.point) ss) ≡ Fault Text p → ⊥) → ⊥
-    go true true e f = let z : ◌≡◌ {A = ℕ} 0 1 = cc in omega arith
+        → (track_verdict (track_from (Some (track_to t s.point)) ss) ≡ Fault Text p → ⊥) → ⊥
+    go true true e f = let z = (same_refusal e).0 in cc
     go true false e f = f e
-    go false b e f = let z : ◌≡◌ {A = ℕ} 0 1 = cc in omega arith
+    go false b e f = let z = (same_refusal e).0 in cc
 
 room_says : (short : Bool) (p : ℕ) → cond short (Fault Room 0) Fine ≡ Fault Text p → ⊥
-room_says true p e = let z : ◌≡◌ {A = ℕ} 0 1 = cc in omega arith
-room_says false p e = let z : ◌≡◌ {A = ℕ} 0 1 = cc in omega arith
+room_says true p e = let z = (same_refusal e).0 in cc
+room_says false p e = cc
 
 pairs-say : (start deltas : ℕ) (ss : List Spot) (p : ℕ) → pairs_verdict start deltas ss ≡ Fault Text p → ⊥
 unfolding pairs_verdict
@@ -75,14 +76,14 @@ unfolding text_from
 form_says [] s at c p e = go (may_end s) e
   where
     go : (b : Bool) → cond b Fine (Fault Text at) ≡ Fault c p → cond b Fine (Fault Text at) ≡ Fault Text p
-    go true e = let z : ◌≡◌ {A = ℕ} 0 1 = cc in absurd (omega arith)
-    go false e = let z : at ≡ p = cc in ap (λ (j : ℕ). Fault Text j) z
+    go true e = cc
+    go false e = let z : at ≡ p = (same_refusal e).1 in ap (λ (j : ℕ). Fault Text j) z
 form_says (b ∷ bs) s at c p e = go (next_of s b) e (λ t f. form_says bs t (suc at) c p f)
   where
     go : (n : Step) → follow at n (λ t. text_from t (suc at) bs) ≡ Fault c p → ((t : Stage) → text_from t (suc at) bs ≡ Fault c p → text_from t (suc at) bs ≡ Fault Text p)
         → follow at n (λ t. text_from t (suc at) bs) ≡ Fault Text p
     go (To t) e f = f t e
-    go Stranger e f = let z : at ≡ p = cc in ap (λ (j : ℕ). Fault Text j) z
+    go Stranger e f = let z : at ≡ p = (same_refusal e).1 in ap (λ (j : ℕ). Fault Text j) z
 
 -- ---- there is one first bad byte
 
@@ -109,7 +110,7 @@ one_place text p q f g = go (ltb p q) (ltb q p) refl refl
 -- ---- the answer
 
 pub said : (start deltas : ℕ) (ss : List Spot) (v : Verdict) (c : Code) (p : ℕ) → (outcome start deltas ss v).answer ≡ Refused c p → v ≡ Fault c p
-said start deltas ss Fine c p e = let z : ◌≡◌ {A = ℕ} 0 1 = cc in absurd (omega arith)
+said start deltas ss Fine c p e = cc
 said start deltas ss (Fault d q) c p e = cc
 
 pub bad-said : (text : List ℕ) (p : ℕ) → FirstBad text p → text_of text ≡ Fault Text p
@@ -151,7 +152,7 @@ unfolding read_points_of
 read_refused start deltas text c p e = ap (outcome start deltas (spots_of text)) (said start deltas (spots_of text) (points_verdict start deltas text) c p e)
 
 pub wrote : (room : ℕ) (values : List ℕ) (v : Verdict) (c : Code) (p : ℕ) → (writing.outcome room values v).answer ≡ Refused c p → v ≡ Fault c p
-wrote room values Fine c p e = let z : ◌≡◌ {A = ℕ} 0 1 = cc in absurd (omega arith)
+wrote room values Fine c p e = cc
 wrote room values (Fault d q) c p e = cc
 
 pub write_refused : (ns : List ℕ) (ss : List Float) (ds cs : List ℤ) (k room : ℕ) (c : Code) (p : ℕ) → (write_points_of ns ss ds cs k room).answer ≡ Refused c p

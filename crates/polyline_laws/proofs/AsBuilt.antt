@@ -9,6 +9,7 @@ use lib.Dec.{ltb}
 use lib.ListN.{length}
 use lib.IntN.{ℤ}
 use lib.Ieee.{Float}
+use Rattle.codes.proofs.Refusals.{same_refusal}
 use Rattle.codes.specs.declared.Code.{Code}
 use Rattle.codes.specs.declared.Code.TheVariants.{Room, Distance, Area}
 use Rattle.codes.proofs.Decides.{Decides}
@@ -19,7 +20,7 @@ use Rattle.control_points.specs.Refusals.{RoundsTo, Adjacent, delta_at, control_
 use Rattle.dequantize.specs.Refusals.{SplinePasses, SplineRefusal, start_strays, pair_refused, area_above, points_meet}
 use Rattle.dequantize.specs.declared.Given.{Given}
 use Rattle.control_points.specs.declared.Pair.{Pair}
-use Rattle.control_points.specs.declared.Start.TheVariants as S
+use Rattle.control_points.specs.Answers as S
 use Rattle.control_points.proofs.Ranges.{point_decides, double_delta_decides, starting_out}
 use Rattle.polyline.specs.Write.{spline_text, write_verdict, write_points_of}
 use Rattle.polyline_laws.specs.Refusals.{There, Goes, points_by}
@@ -63,8 +64,8 @@ passes_goes d s k p = record {
 
 module _ (ns : List ℕ) (ss : List Float) (ds cs : List ℤ) (k room : ℕ) where
   room_alone : (b : Bool) (c : Code) (p : ℕ) → cond b (Fault Room k) Fine ≡ Fault c p → c ≡ Room
-  room_alone true c p e = let x : Room ≡ c = cc in sym x
-  room_alone false c p e = let z : ◌≡◌ {A = ℕ} 0 1 = cc in absurd (omega arith)
+  room_alone true c p e = sym (same_refusal e).0
+  room_alone false c p e = cc
 
   pub passed_code : There ns ss ds cs k → (s : Given) → SplinePasses (description_of ns ss ds cs) s k → (c : Code) (p : ℕ) → (write_points_of ns ss ds cs k room).answer ≡ Refused c p → c ≡ Room
   unfolding write_points_of passes_goes

@@ -6,12 +6,12 @@ use Prim.Native.Nat.{ℕ, zero, suc, ◌+◌, ◌<◌}
 use native.Mathlib.Omega.{arith}
 use lib.ListN.{length, take}
 use borrow.Author.Tests.{ne_eqb, le-leb}
+use Rattle.codes.proofs.Refusals.{same_refusal}
 use Rattle.codes.specs.declared.Code.TheVariants.{Text}
 use Rattle.write_judge.specs.Verdict.{Fine, Fault}
 use Rattle.polyline.specs.declared.Stage.{Stage}
 use Rattle.polyline.specs.declared.Stage.TheVariants as S
-use Rattle.polyline.specs.declared.Step.{Step}
-use Rattle.polyline.specs.declared.Step.TheVariants.{To, Stranger}
+use Rattle.polyline.specs.Step.{Step, To, Stranger}
 use Rattle.polyline.specs.Form.{IsDigit, IsLeading, Digits, Number, nought, plain, minus, PairForm, pair, PointsForm, last, more}
 use Rattle.polyline.specs.Stages.{lead_of, next_of, may_end, follow, text_from, text_of}
 use Rattle.polyline_laws.specs.Begins.{Begins}
@@ -129,12 +129,12 @@ early s at [] place h e = go (may_end s) e
   where
     go : (b : Bool) → cond b Fine (Fault Text at) ≡ Fault Text place → ⊥
     go true e = let z : ◌≡◌ {A = ℕ} 0 1 = cc in omega arith
-    go false e = let z : at ≡ place = cc in omega arith
+    go false e = let z : at ≡ place = (same_refusal e).1 in omega arith
 early s at (b ∷ bs) place h e = go (next_of s b) e (λ t f. early t (suc at) bs place (omega arith) f)
   where
     go : (n : Step) → follow at n (λ t. text_from t (suc at) bs) ≡ Fault Text place → ((t : Stage) → text_from t (suc at) bs ≡ Fault Text place → ⊥) → ⊥
     go (To t) e f = f t e
-    go Stranger e f = let z : at ≡ place = cc in omega arith
+    go Stranger e f = let z : at ≡ place = (same_refusal e).1 in omega arith
 
 -- a byte that may not stand there may not stand there in any text
 bad_stays : (text rest : List ℕ) (s : Stage) (at k : ℕ) → k < length text → text_from s at text ≡ Fault Text (at + k) → text_from s at (take (suc k) text ++ rest) ≡ Fault Text (at + k)

@@ -22,18 +22,16 @@ use Rattle.control_points.specs.Refusals.{sum_up_to, delta_at, far_at, PairRefus
 use Rattle.control_points.specs.declared.Pair.{Pair}
 use Rattle.control_points.specs.declared.Stand.{Stand}
 use Rattle.control_points.specs.declared.Run.{Run}
-use Rattle.control_points.specs.declared.Coordinate.TheVariants as W
-use Rattle.control_points.specs.declared.Start.TheVariants as S
-use Rattle.control_points.specs.declared.Traced.{Traced}
-use Rattle.control_points.specs.declared.Traced.TheVariants as traced
+use Rattle.control_points.specs.Answers.{Traced, At}
+use Rattle.control_points.specs.Answers as traced
 use Rattle.control_points.proofs.ByKind.{start_by_kind}
 use Rattle.control_points.proofs.Pairs.{in_range_mag, point_range, abs_mag}
 use Rattle.control_points.proofs.Ranges.{double_delta_decides}
 use Rattle.control_points.proofs.Steps.{onto}
 use Rattle.control_points.proofs.Coincide.{control_of, coincides}
 use Rattle.control_points.proofs.Tracing.{trace_stops}
-use Rattle.polyline.specs.declared.Gone.{Gone}
-use Rattle.polyline.specs.declared.Gone.TheVariants as gone
+use Rattle.polyline.specs.Gone.{Gone}
+use Rattle.polyline.specs.Gone as gone
 use Rattle.polyline.specs.Read.{minus_of, double_delta}
 use Rattle.polyline.specs.Write.{gone_by, gone_from, gone_of}
 use Rattle.polyline.specs.Write as writing
@@ -74,10 +72,10 @@ float_back (negsuc n) h =
     let v = round_whole binary32 true (suc n) (omega arith) in
     record { number = whole_number (round binary32 true (suc n) 1) true (suc n) v; round = round_same (round binary32 true (suc n) 1) true (suc n) v; is = (negative_back binary32 31 n (lt→ltb n (2 ^ 24) (omega arith)) (omega arith)).1 }
 
-rounded_back : (z : ℤ) → in_range z ≡ true → rounded_of (f32_of z) ≡ W.At z
+rounded_back : (z : ℤ) → in_range z ≡ true → rounded_of (f32_of z) ≡ At z
 rounded_back z h = let b = float_back z (in_range_mag z h) in start_by_kind (f32_of z) ∙ rw (b.number, b.round, b.is, h)
 
-pub start_back : (p : Pair) → valid_point_pos p ≡ true → starting_point (f32_of p.x) (f32_of p.y) ≡ S.At p
+pub start_back : (p : Pair) → valid_point_pos p ≡ true → starting_point (f32_of p.x) (f32_of p.y) ≡ At p
 unfolding starting_point
 start_back p h = let r = point_range p h in rw (rounded_back p.x r.0, rounded_back p.y r.1)
 
@@ -208,9 +206,10 @@ gone_legal start ds q v e = go (trace_of (wide_limit ds) start ds) refl (sym (go
   where
     go : (t : Traced) → trace_of (wide_limit ds) start ds ≡ t → untraced t ≡ gone.On q false → Legal start ds
     go (traced.On r) h g =
-        let f : r.coincide ≡ false = cc in
+        let pair : ◌≡◌ {A = Stand × Bool} (control_of r, r.coincide) (q, false) = cc in
+        let f : r.coincide ≡ false = ap (λ (o : Stand × Bool). o.1) pair in
         record { begins = start_back start v; limit = wide_limit ds; run = r; traced = h; apart = sym (coincides (wide_limit ds) start ds r h) ∙ f }
-    go (traced.Stop c) h g = let z : ◌≡◌ {A = ℕ} 0 1 = cc in absurd (omega arith)
+    go (traced.Stop c) h g = cc
 
 pub legal_gone : (start : Pair) (ds : List ℤ) (l : Legal start ds) → gone_of start ds ≡ gone.On (control_of l.run) false
 unfolding gone_of stand_at trace_of run_at

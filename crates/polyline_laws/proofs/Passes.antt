@@ -11,12 +11,12 @@ use Rattle.write_judge.specs.Verdict.{Verdict}
 use Rattle.write_judge.specs.Verdict.{Fine, Fault}
 use Rattle.polyline.specs.declared.Stage.{Stage}
 use Rattle.polyline.specs.declared.Stage.TheVariants as S
-use Rattle.polyline.specs.declared.Step.TheVariants.{To, Stranger}
+use Rattle.polyline.specs.Step.{To, Stranger}
 use Rattle.polyline.specs.Form.{IsDigit, IsLeading, Digits, Number, nought, plain, minus, pair, PointsForm, last, more}
 use Rattle.polyline.specs.Stages.{lead_of, begin_of, end_of, next_of, may_end, follow, text_from, text_of}
 
 never : {X : Type 0} (at : ℕ) → Fault Text at ≡ Fine → X
-never at e = let z : ◌≡◌ {A = ℕ} 0 1 = cc in absurd (omega arith)
+never at e = cc
 
 -- ---- a byte that passes, by stage
 

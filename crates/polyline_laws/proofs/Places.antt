@@ -5,12 +5,12 @@ use mathlib.Core.List.{List, [], ◌∷◌, ◌++◌}
 use Prim.Native.Nat.{ℕ, zero, suc, ◌+◌, ◌≤◌}
 use native.Mathlib.Omega.{arith}
 use lib.ListN.{length, take}
+use Rattle.codes.proofs.Refusals.{same_refusal}
 use Rattle.codes.specs.declared.Code.TheVariants.{Text}
 use Rattle.write_judge.specs.Verdict.{Fine, Fault}
 use Rattle.polyline.specs.declared.Stage.{Stage}
 use Rattle.polyline.specs.declared.Stage.TheVariants as S
-use Rattle.polyline.specs.declared.Step.{Step}
-use Rattle.polyline.specs.declared.Step.TheVariants.{To, Stranger}
+use Rattle.polyline.specs.Step.{Step, To, Stranger}
 use Rattle.polyline.specs.Stages.{next_of, may_end, follow, text_from, text_of}
 use Rattle.polyline_laws.specs.Begins.{FormJudged, FirstBadByte}
 use Rattle.polyline_laws.proofs.Forms.{form_passes, bad_byte, no_form}
@@ -50,7 +50,7 @@ goes_on [] s at (suc j) e = absurd (go (may_end s) e)
   where
     go : (b : Bool) → cond b Fine (Fault Text at) ≡ Fault Text (at + suc j) → ⊥
     go true e = let z : ◌≡◌ {A = ℕ} 0 1 = cc in omega arith
-    go false e = let z : at ≡ at + suc j = cc in omega arith
+    go false e = let z : at ≡ at + suc j = (same_refusal e).1 in omega arith
 goes_on (b ∷ bs) s at (suc j) e = go (next_of s b) refl e (λ t f. goes_on bs t (suc at) j f)
   where
     go : (n : Step) → next_of s b ≡ n → follow at n (λ t. text_from t (suc at) bs) ≡ Fault Text (at + suc j)
@@ -59,7 +59,7 @@ goes_on (b ∷ bs) s at (suc j) e = go (next_of s b) refl e (λ t f. goes_on bs 
         let m : at + suc j ≡ suc at + j = omega arith in
         let g = f t (rw m at e) in
         record { more = g.more; inside = omega (arith, g.inside); passes = rw x g.passes }
-    go Stranger x e f = let z : at ≡ at + suc j = cc in absurd (omega arith)
+    go Stranger x e f = let z : at ≡ at + suc j = (same_refusal e).1 in absurd (omega arith)
 
 pub form_judged : FormJudged
 unfolding text_of

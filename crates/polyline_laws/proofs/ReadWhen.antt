@@ -7,6 +7,7 @@ use Prim.Native.Nat.{ℕ, zero, suc, ◌+◌, ◌-◌, ◌*◌, ◌≤◌, ◌<�
 use native.Mathlib.Omega.{arith}
 use lib.Dec.{ltb}
 use lib.ListN.{length}
+use Rattle.codes.proofs.Refusals.{same_refusal}
 use Rattle.codes.specs.declared.Code.{Code}
 use Rattle.codes.specs.declared.Code.TheVariants.{Text, Position, Coincide, Room}
 use Rattle.codes.proofs.Decides.{Decides, less_than, either_decides}
@@ -18,11 +19,10 @@ use Rattle.control_points.specs.declared.Pair.{Pair}
 use Rattle.control_points.specs.declared.Stand.{Stand}
 use Rattle.control_points.proofs.Ranges.{point_decides}
 use Rattle.control_points.proofs.Coincide.{same_point_lem}
-use Rattle.polyline.specs.declared.Track.TheVariants.{Empty, At}
-use Rattle.polyline.specs.declared.Judged.{Judged}
-use Rattle.polyline.specs.declared.Judged.TheVariants.{On, Stop}
-use Rattle.polyline.specs.declared.Tracked.{Tracked}
-use Rattle.polyline.specs.declared.Tracked.TheVariants.{Came, Halt}
+use Rattle.std.specs.Prelude.{Some}
+use Rattle.polyline.specs.Tracked.{Empty, At}
+use Rattle.polyline.specs.Judged.{Judged, On, Stop}
+use Rattle.polyline.specs.Tracked.{Tracked, Came, Halt}
 use Rattle.polyline.specs.Stages.{text_of}
 use Rattle.polyline.specs.Spots.{spots_of}
 use Rattle.polyline.specs.Read.{minus_of, placeable, meets, track_to, judged_of, after_pair, track_from, track_verdict, and_then, pairs_verdict, points_verdict, read_points_of}
@@ -156,7 +156,7 @@ ends (q ∷ ps) at p start v = go (judged_of (At p start) q) (later_verdict p st
         → ((r : Stand) → valid_point_pos r.point ≡ true → Ends (suc (at + length (pair_text q))) r.point ps (track_from (At r start) (spots_by (suc (at + length (pair_text q))) ps)))
         → Ends at p.point (q ∷ ps) (after_pair w at (λ u. track_from u (spots_by (suc (at + length (pair_text q))) ps)))
     go w (passed h) ih =
-        ends_on at p.point q ps h (track_from (track_to (At p start) q) (spots_by (suc (at + length (pair_text q))) ps))
+        ends_on at p.point q ps h (track_from (Some (track_to (At p start) q)) (spots_by (suc (at + length (pair_text q))) ps))
         (ih (record { delta = minus_of q p.point; point = q }) (passes_valid p.point q ps h))
     go w (stopped y) ih = record { j = 0; inside = omega arith; before = λ i l. absurd (omega arith); why = y; place = omega arith }
 
@@ -214,7 +214,7 @@ module _ (p : Pair) (ps : List Pair) where
   walk_says = go (valid_point_pos p) refl
     where
       go : (t : Bool) → valid_point_pos p ≡ t
-          → Says-so (p ∷ ps) (track_verdict (after_pair (cond t (On (At (stand_at p) p)) (Stop Position)) 0 (λ u. track_from u (spots_by behind ps))))
+          → Says-so (p ∷ ps) (track_verdict (after_pair (cond t (On (record { place = stand_at p; start = p })) (Stop Position)) 0 (λ u. track_from u (spots_by behind ps))))
       go true e = first_says (track_from (At (stand_at p) p) (spots_by behind ps)) ((point_decides p).passed e) (ends ps behind (stand_at p) p e)
       go false e = record { j = 0; inside = omega arith; before = λ i l. absurd (omega arith); why = misplaced ((point_decides p).failed e); place = refl }
 
@@ -258,16 +258,16 @@ module _ (text : List ℕ) (start deltas : ℕ) where
       lacks : Before (q ∷ ps) (length (q ∷ ps)) → (t : Bool) → Decides t (PointsLack start deltas (q ∷ ps)) ((2 ≤ start) × (2 * (length (q ∷ ps) - 1) ≤ deltas)) → cond t (Fault Room 0) Fine ≡ Fault c p
           → PointsReadRefusal text start deltas c p
       lacks b true d e =
-          let x : Room ≡ c = cc in
-          let y : 0 ≡ p = cc in
+          let x : Room ≡ c = (same_refusal e).0 in
+          let y : 0 ≡ p = (same_refusal e).1 in
           subst (λ (k : ℕ). PointsReadRefusal text start deltas c k) y (subst (λ (k : Code). PointsReadRefusal text start deltas k 0) x (room (q ∷ ps) s b (d.passed refl)))
-      lacks b false d e = let z : ◌≡◌ {A = ℕ} 0 1 = cc in absurd (omega arith)
+      lacks b false d e = cc
 
       go : (v : Verdict) → Says-so (q ∷ ps) v → and_then v (cond (ltb start 2 || ltb deltas (2 * (length (q ∷ ps) - 1))) (Fault Room 0) Fine) ≡ Fault c p → PointsReadRefusal text start deltas c p
       go Fine b e = lacks b (ltb start 2 || ltb deltas (2 * (length (q ∷ ps) - 1))) (lacks_decides start deltas (q ∷ ps)) e
       go (Fault d b) w e =
-          let x : d ≡ c = cc in
-          let y : b ≡ p = cc in
+          let x : d ≡ c = (same_refusal e).0 in
+          let y : b ≡ p = (same_refusal e).1 in
           subst (λ (k : ℕ). PointsReadRefusal text start deltas c k) (sym w.place ∙ y)
           (subst (λ (k : Code). PointsReadRefusal text start deltas k (first_byte (q ∷ ps) w.j)) x (by d w.j w.inside w.before w.why))
 
@@ -280,8 +280,8 @@ module _ (text : List ℕ) (start deltas : ℕ) where
       go (Fault d q) x e =
           let f : FirstBad text q = bad-there text d q x in
           let i : Fault Text q ≡ Fault c p = sym (bad-said text q f) ∙ x ∙ e in
-          let k : Text ≡ c = cc in
-          let l : q ≡ p = cc in
+          let k : Text ≡ c = (same_refusal i).0 in
+          let l : q ≡ p = (same_refusal i).1 in
           subst (λ (m : ℕ). PointsReadRefusal text start deltas c m) l (subst (λ (m : Code). PointsReadRefusal text start deltas m q) k (bad q f))
 
   -- the table gives the verdict

@@ -18,10 +18,9 @@ use Rattle.write_judge.specs.Verdict.{Fine}
 use Rattle.control_points.specs.ControlPoints.{starting_point, control_points}
 use Rattle.dequantize.specs.Judge.{Description, description_of, start_x, start_y, deltas_at, deltas_of}
 use Rattle.control_points.specs.declared.Pair.{Pair}
-use Rattle.control_points.specs.declared.Start.TheVariants as S
+use Rattle.control_points.specs.Answers as S
 use Rattle.control_points.proofs.Starts.{start_valid}
-use Rattle.polyline.specs.declared.Gone.{Gone}
-use Rattle.polyline.specs.declared.Gone.TheVariants.{On, Stop}
+use Rattle.polyline.specs.Gone.{Gone, On, Stop}
 use Rattle.polyline.specs.Read.{PointsOutcome, leaves, read_points_of}
 use Rattle.polyline.specs.Write.{points_text, gone_of, settled, spline_verdict, spline_text, write_points_of}
 use Rattle.polyline_laws.specs.Refusals.{Legal, There, PointsAccepted, PointsWritten}
@@ -148,8 +147,8 @@ module _ (ns : List ℕ) (ss : List Float) (ds cs : List ℤ) (k room n : ℕ) (
     where
       go : (g : Gone) → gone_of origin (deltas_of d k) ≡ g → settled k g ≡ Fine → Legal origin (deltas_of d k)
       go (On q false) e f = gone_legal origin (deltas_of d k) q (start_valid (start_x d k) (start_y d k) origin origin_is) e
-      go (On q true) e f = let z : ◌≡◌ {A = ℕ} 0 1 = cc in absurd (omega arith)
-      go (Stop c) e f = let z : ◌≡◌ {A = ℕ} 0 1 = cc in absurd (omega arith)
+      go (On q true) e f = cc
+      go (Stop c) e f = cc
 
   pub read_back : (start deltas : ℕ) → 2 ≤ start → 2 * get_or ns k 0 ≤ deltas
       → read_points_of start deltas (take n (write_points_of ns ss ds cs k room).list) ≡ leaves (Done (get_or ns k 0)) (start_left start origin) (deltas_left deltas (get_or ns k 0) (deltas_of d k))

@@ -9,6 +9,7 @@ use lib.Dec.{ltb, leb}
 use lib.ListN.{length, get_or, replicate}
 use lib.IntN.{ℤ}
 use lib.Ieee.{Float}
+use Rattle.codes.proofs.Refusals.{same_refusal}
 use Rattle.codes.specs.declared.Code.{Code}
 use Rattle.codes.specs.declared.Code.TheVariants.{Room, Shape, Position, Coincide}
 use Rattle.codes.proofs.Decides.{both, Decides, at_most, less_than}
@@ -24,10 +25,10 @@ use Rattle.control_points.specs.Refusals.{Inside, Outside, Small, Large, RoundsT
 use Rattle.control_points.specs.Refusals as building
 use Rattle.control_points.specs.declared.Pair.{Pair}
 use Rattle.control_points.specs.declared.Run.{Run}
-use Rattle.control_points.specs.declared.Start.{Start}
-use Rattle.control_points.specs.declared.Start.TheVariants as S
-use Rattle.control_points.specs.declared.Traced.{Traced}
-use Rattle.control_points.specs.declared.Traced.TheVariants.{On, Stop}
+use Rattle.control_points.specs.Answers.{Start}
+use Rattle.control_points.specs.Answers as S
+use Rattle.control_points.specs.Answers.{Traced}
+use Rattle.control_points.specs.Answers.{On, Stop}
 use Rattle.control_points.proofs.Coincide.{same_point_lem, coincides}
 use Rattle.control_points.proofs.Ranges.{starts_at, starting_at, starts_out, starting_out}
 use Rattle.control_points.proofs.Starts.{start_valid}
@@ -233,17 +234,17 @@ module _ (ns : List ℕ) (ss : List Float) (ds cs : List ℤ) (k room' : ℕ) wh
     where
       short : Holds all k → (b : Bool) → ltb room' (length (spline_text all k)) ≡ b → cond b (Fault Room k) Fine ≡ Fault c p → PointsWriteRefusal ns ss ds cs k room' c p
       short h true l e =
-          let x : Room ≡ c = cc in
-          let y : k ≡ p = cc in
+          let x : Room ≡ c = (same_refusal e).0 in
+          let y : k ≡ p = (same_refusal e).1 in
           let r : room' < length (points_text (points_by all k h.goes)) = subst (λ (t : List ℕ). room' < length t) h.text ((less_than room' (length (spline_text all k))).passed l) in
           subst (λ (m : ℕ). PointsWriteRefusal ns ss ds cs k room' c m) y (subst (λ (m : Code). PointsWriteRefusal ns ss ds cs k room' m k) x (room t h.goes h.apart r))
-      short h false l e = let z : ◌≡◌ {A = ℕ} 0 1 = cc in absurd (omega arith)
+      short h false l e = cc
 
       go : (v : Verdict) → Verdicted all k v → and_then v (cond (ltb room' (length (spline_text all k))) (Fault Room k) Fine) ≡ Fault c p → PointsWriteRefusal ns ss ds cs k room' c p
       go Fine h e = short h (ltb room' (length (spline_text all k))) refl e
       go (Fault c' q) h e =
-          let x : c' ≡ c = cc in
-          let y : q ≡ p = cc in
+          let x : c' ≡ c = (same_refusal e).0 in
+          let y : q ≡ p = (same_refusal e).1 in
           subst (λ (m : ℕ). PointsWriteRefusal ns ss ds cs k room' c m) (sym h.1 ∙ y) (subst (λ (m : Code). PointsWriteRefusal ns ss ds cs k room' m k) x (table_of t c' h.0))
 
   nowhere_verdict : no_spline ns ss ds cs k ≡ true → write_verdict ns ss ds cs k room' ≡ Fault Shape 0
@@ -256,8 +257,8 @@ module _ (ns : List ℕ) (ss : List Float) (ds cs : List ℤ) (k room' : ℕ) wh
       go : (b : Bool) → no_spline ns ss ds cs k ≡ b → PointsWriteRefusal ns ss ds cs k room' c p
       go true x =
           let f : Fault Shape 0 ≡ Fault c p = sym (nowhere_verdict x) ∙ e in
-          let y : Shape ≡ c = cc in
-          let z : 0 ≡ p = cc in
+          let y : Shape ≡ c = (same_refusal f).0 in
+          let z : 0 ≡ p = (same_refusal f).1 in
           subst (λ (m : ℕ). PointsWriteRefusal ns ss ds cs k room' c m) z (subst (λ (m : Code). PointsWriteRefusal ns ss ds cs k room' m 0) y (shape (there_decides.passed x)))
       go false x = let t = there_decides.failed x in refused_there t c p (sym (there_verdict t) ∙ e)
 
@@ -293,12 +294,12 @@ module _ (ns : List ℕ) (ss : List Float) (ds cs : List ℤ) (k room' : ℕ) wh
 
   fine_held : (v : Verdict) → Verdicted all k v → (b : Bool) → ltb room' (length (spline_text all k)) ≡ b → and_then v (cond b (Fault Room k) Fine) ≡ Fine → Holds all k × (length (spline_text all k) ≤ room')
   fine_held Fine h false l e = (h, (less_than room' (length (spline_text all k))).failed l)
-  fine_held Fine h true l e = let z : ◌≡◌ {A = ℕ} 0 1 = cc in absurd (omega arith)
-  fine_held (Fault c p) h b l e = let z : ◌≡◌ {A = ℕ} 0 1 = cc in absurd (omega arith)
+  fine_held Fine h true l e = cc
+  fine_held (Fault c p) h b l e = cc
 
   fine_done : (v : Verdict) (text : List ℕ) (n : ℕ) → (writing.outcome room' text v).answer ≡ Done n → (v ≡ Fine) × (n ≡ length text)
   fine_done Fine text n e = (refl, cc)
-  fine_done (Fault c p) text n e = let z : ◌≡◌ {A = ℕ} 0 1 = cc in absurd (omega arith)
+  fine_done (Fault c p) text n e = cc
 
   written : (n : ℕ) → (write_points_of ns ss ds cs k room').answer ≡ Done n → PointsWritten ns ss ds cs k room' n
   unfolding write_points_of

@@ -10,8 +10,8 @@ use Rattle.dequantize.specs.Judge.{Description, description_of, start_x, start_y
 use Rattle.control_points.specs.Refusals.{Inside, Outside, Small, Large, RoundsTo, Strays, nowhere, delta_at, control_point_at, Adjacent}
 use Rattle.control_points.specs.declared.Pair.{Pair}
 use Rattle.control_points.specs.declared.Run.{Run}
-use Rattle.control_points.specs.declared.Start.TheVariants.{At}
-use Rattle.control_points.specs.declared.Traced.TheVariants.{On}
+use Rattle.control_points.specs.Answers.{At}
+use Rattle.control_points.specs.Answers.{On}
 use Rattle.polyline.specs.Form.{PointsForm}
 use Rattle.polyline.specs.Read.{minus_of}
 use Rattle.polyline.specs.Write.{points_text}
