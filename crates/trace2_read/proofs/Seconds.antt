@@ -14,7 +14,8 @@ use Rattle.codes.specs.declared.Code.TheVariants.{Room}
 use Rattle.list.specs.List.{ListRooms, got, stop}
 use Rattle.reader.specs.Read.{ReadOutcome, leaves, rooms_of, outcome}
 use Rattle.reader.specs.Rest.{ListLeft, Wiped}
-use Rattle.read_list.specs.declared.ReadAnswer.{ReadAnswer}
+use Rattle.codes.specs.Refusal.{refused}
+use Rattle.read_list.specs.Answer.{ReadAnswer}
 use Rattle.writer.specs.Write.{Check, check, first_fault}
 use Rattle.write_judge.specs.Verdict.{Fine, Fault}
 use Rattle.write_judge.proofs.Checks.{fails, passed, faults_before, fine_before, both_fine}
@@ -23,8 +24,7 @@ use Rattle.little.proofs.Little.{numbers_length}
 use Rattle.trace.specs.Read.{splines_in, points_in, tight, described_in, read_trace_of}
 use Rattle.trace_load.specs.Steps.{Loadable}
 use Rattle.trace_read.proofs.Loads.{Sound, sound_body, sound_loadable, same_rooms, wiped_refused, wiped_done}
-use Rattle.trace2.specs.Read.{laid_checks, file_checks, whole_checks2, read_file, answer_of, edition_of, file_leaves, edition_told, with_edition, read_file_of}
-use Rattle.trace2.specs.declared.FileAnswer.{FileAnswer}
+use Rattle.trace2.specs.Read.{laid_checks, file_checks, whole_checks2, read_file, answer_of, edition_of, file_leaves, edition_told, FileAnswer, with_edition, read_file_of}
 use Rattle.trace2.proofs.Versions.{second_alike, nine_so, ninth_so, other_as_before, short_as_before}
 use Rattle.trace2_judge.specs.Steps.{Second}
 use Rattle.trace2_judge.proofs.Laid.{laid_sound}
@@ -96,7 +96,7 @@ module _ (rooms : ListRooms) (bytes : List ℕ) (said : Second bytes) where
 
 module _ (bytes n wn : List ℕ) (s ws : List Float) (d wd c wc : List ℤ) (w : Wiped n wn s ws d wd c wc) (said : Second bytes) where
   pub read_refused : (k : Code) (q : ℕ) → first_fault (whole_checks2 (rooms_of wn ws wd wc) bytes) ≡ Fault k q
-      → leaves (ReadAnswer.Refused k q) wn ws wd wc ≡ outcome (rooms_of n s d c) (read_file (rooms_of n s d c) bytes)
+      → leaves (refused k q) wn ws wd wc ≡ outcome (rooms_of n s d c) (read_file (rooms_of n s d c) bytes)
   read_refused k q e = rw (judged_fault (rooms_of n s d c) bytes said k q (rw (same_rooms bytes n wn s ws d wd c wc w) at e)) (wiped_refused bytes n wn s ws d wd c wc w k q)
 
   pub read_done : (r : ReadAnswer) (n' : List ℕ) (s' : List Float) (d' c' : List ℤ) → first_fault (whole_checks2 (rooms_of wn ws wd wc) bytes) ≡ Fine

@@ -2,7 +2,7 @@
 // A file that does not say version 2 is left to `trace_read`; the steps here are those of a header of nine numbers, the ninth of which is the edition.
 #![tactic(auto)]
 
-ghost use Rattle.std.specs.Prelude.{◌≡◌, [], length, get_or};
+ghost use Rattle.std.specs.Prelude.{◌≡◌, [], length, get_or, Ok};
 ghost use Rattle.list.specs.List.{Got};
 ghost use Rattle.reader.specs.Read.{leaves, outcome, rooms_of};
 ghost use Rattle.reader.specs.Rest.{ListLeft};
@@ -11,18 +11,17 @@ ghost use Rattle.little.specs.Little.{numbers_in};
 ghost use Rattle.trace.specs.Read.{splines_in, points_in, described_in};
 ghost use Rattle.trace_load.specs.Steps.{Loadable};
 ghost use Rattle.trace_read.specs.Steps.{rooms_from};
-ghost use Rattle.trace2.specs.Read.{whole_checks2, read_file, answer_of, edition_of, edition_told, file_leaves, read_file_of};
+ghost use Rattle.trace2.specs.Read.{whole_checks2, read_file, file_leaves, read_file_of};
 ghost use Rattle.trace2_judge.specs.Steps.{Second};
 ghost use Rattle.trace2_read.specs.Steps.{second};
 
-use codes::Code;
+use codes::{Code, Refusal};
 use little::{number_at, signed};
-use reader::{ReadAnswer, wipe};
+use reader::{Read, wipe};
 use trace_load::load_parts;
 use trace_read::{lacks_room, trace_read};
-use trace2::FileAnswer;
+use trace2::FileRead;
 use trace2_judge::judge_second;
-use write_judge::Verdict;
 
 // ---- the numbers of the header
 
@@ -30,10 +29,7 @@ use write_judge::Verdict;
 fn says_second(bytes: &[u8]) -> bool
     ensures { result ≡ second bytes.now }
 {
-    if bytes.len() < 32 {
-        return false;
-    }
-    number_at(bytes, 0) == 2
+    32 <= bytes.len() && number_at(bytes, 0) == 2
 }
 
 // The ninth number of a file, or 0 where there is none.
@@ -41,9 +37,10 @@ fn ninth(bytes: &[u8]) -> u32
     ensures { result ≡ get_or (numbers_in bytes.now) 8 0 }
 {
     if 36 <= bytes.len() {
-        return number_at(bytes, 8);
+        number_at(bytes, 8)
+    } else {
+        0
     }
-    0
 }
 
 // ---- the checks
@@ -55,21 +52,17 @@ fn judge_whole(
     starts: usize,
     deltas: usize,
     coefficients: usize,
-) -> Verdict
+) -> Result<(), Refusal>
     requires { Second bytes.now }
     ensures { result ≡ first_fault (whole_checks2 (rooms_from counts starts deltas coefficients) bytes.now) }
 {
-    match judge_second(bytes) {
-        Verdict::Fault(c, place) => Verdict::Fault(c, place),
-        Verdict::Fine => {
-            let s = number_at(bytes, 1) as usize;
-            let p = number_at(bytes, 2) as usize;
-            if lacks_room(counts, starts, deltas, coefficients, s, p) {
-                return Verdict::Fault(Code::Room, 0);
-            }
-            Verdict::Fine
-        }
+    judge_second(bytes)?;
+    let s = number_at(bytes, 1) as usize;
+    let p = number_at(bytes, 2) as usize;
+    if lacks_room(counts, starts, deltas, coefficients, s, p) {
+        return Err((Code::Room, 0));
     }
+    Ok(())
 }
 
 // ---- the whole file
@@ -81,9 +74,9 @@ fn load(
     starts: &mut [f32],
     deltas: &mut [i32],
     coefficients: &mut [i32],
-) -> ReadAnswer
+) -> Read
     requires { Loadable bytes.now 9 (splines_in (numbers_in bytes.now)) (points_in (numbers_in bytes.now)) (rooms_of counts.old starts.old deltas.old coefficients.old) }
-    ensures { ListLeft (Got.got (described_in 9 (numbers_in bytes.now)) []) result counts.old counts.new starts.old starts.new deltas.old deltas.new coefficients.old coefficients.new }
+    ensures { ListLeft (Got.got (described_in 9 (numbers_in bytes.now)) []) (Ok result) counts.old counts.new starts.old starts.new deltas.old deltas.new coefficients.old coefficients.new }
 {
     let s = number_at(bytes, 1);
     let p = number_at(bytes, 2);
@@ -98,7 +91,11 @@ fn load(
         deltas,
         coefficients,
     );
-    ReadAnswer::Done(s, p, adjustment)
+    Read {
+        splines: s,
+        points: p,
+        adjustment,
+    }
 }
 
 // A file that says version 2, but for its edition.
@@ -108,32 +105,20 @@ fn read_second(
     starts: &mut [f32],
     deltas: &mut [i32],
     coefficients: &mut [i32],
-) -> ReadAnswer
+) -> Result<Read, Refusal>
     requires { Second bytes.now }
     ensures { leaves result counts.new starts.new deltas.new coefficients.new
         ≡ outcome (rooms_of counts.old starts.old deltas.old coefficients.old) (read_file (rooms_of counts.old starts.old deltas.old coefficients.old) bytes.now) }
 {
     wipe(counts, starts, deltas, coefficients);
-    match judge_whole(
+    judge_whole(
         bytes,
         counts.len(),
         starts.len(),
         deltas.len(),
         coefficients.len(),
-    ) {
-        Verdict::Fault(c, place) => ReadAnswer::Refused(c, place),
-        Verdict::Fine => load(bytes, counts, starts, deltas, coefficients),
-    }
-}
-
-// An answer with the edition of its file.
-fn with_edition(answer: ReadAnswer, edition: u32) -> FileAnswer
-    ensures { (answer_of result ≡ answer) × (edition_of result ≡ edition_told answer edition) }
-{
-    match answer {
-        ReadAnswer::Done(s, p, adjustment) => FileAnswer::Done(s, p, adjustment, edition),
-        ReadAnswer::Refused(c, place) => FileAnswer::Refused(c, place),
-    }
+    )?;
+    Ok(load(bytes, counts, starts, deltas, coefficients))
 }
 
 pub fn trace_read2(
@@ -142,16 +127,16 @@ pub fn trace_read2(
     starts: &mut [f32],
     deltas: &mut [i32],
     coefficients: &mut [i32],
-) -> FileAnswer
+) -> Result<FileRead, Refusal>
     ensures { file_leaves result counts.new starts.new deltas.new coefficients.new
         ≡ read_file_of (rooms_of counts.old starts.old deltas.old coefficients.old) bytes.now }
 {
     if says_second(bytes) {
         let edition = ninth(bytes);
-        let answer = read_second(bytes, counts, starts, deltas, coefficients);
-        with_edition(answer, edition)
+        let read = read_second(bytes, counts, starts, deltas, coefficients)?;
+        Ok(FileRead { read, edition })
     } else {
-        let answer = trace_read(bytes, counts, starts, deltas, coefficients);
-        with_edition(answer, 1)
+        let read = trace_read(bytes, counts, starts, deltas, coefficients)?;
+        Ok(FileRead { read, edition: 1 })
     }
 }

@@ -2,5 +2,5 @@
 use Rattle.trace2_read.proofs.Seconds.{no_ninth}
 use Rattle.trace2_read.proofs.ninth.Goals as goal
 
-pub returns : goal.returns
-returns c = no_ninth c.args.bytes.now c.if-bytes-ge36.false
+pub returns-else-bytes-ge36 : goal.returns-else-bytes-ge36
+returns-else-bytes-ge36 c = no_ninth c.args.bytes.now c.if-bytes-ge36.false
