@@ -13,7 +13,9 @@ use Rattle.codes.specs.declared.Code.TheVariants.{Short, Room, Header, Edition}
 use Rattle.list.specs.List.{ListRooms, got, stop, Described, described}
 use Rattle.reader.specs.Read.{ReadOutcome, outcome}
 use Rattle.reader.specs.Refusals.{ReadRefused}
-use Rattle.read_list.specs.declared.ReadAnswer.{ReadAnswer}
+use Rattle.codes.specs.Refusal.{refused}
+use Rattle.codes.proofs.Refusals.{same_refusal}
+use Rattle.read_list.specs.Answer.{ReadAnswer, done}
 use Rattle.writer.specs.Write.{Check, check, first_fault}
 use Rattle.write_judge.specs.Verdict.{Verdict}
 use Rattle.write_judge.specs.Verdict.{Fine, Fault}
@@ -204,27 +206,26 @@ module _ (rooms : ListRooms) (bytes : List ℕ) where
   read_is = refl
 
   -- a done answer, and a refused one, tell what was found
-  answer_of_lem : (c : Code) (q : ℕ) → (read_file_of rooms bytes).read.answer ≡ ReadAnswer.Refused c q → first_fault (whole_checks2 rooms bytes) ≡ Fault c q
+  answer_of_lem : (c : Code) (q : ℕ) → (read_file_of rooms bytes).read.answer ≡ refused c q → first_fault (whole_checks2 rooms bytes) ≡ Fault c q
   answer_of_lem c q e = go (first_fault (whole_checks2 rooms bytes)) refl
     where
-      done : (x : Described) → (outcome rooms (got x [])).answer ≡ ReadAnswer.Refused c q → first_fault (whole_checks2 rooms bytes) ≡ Fault c q
-      done (described a zs ns ds cs) e = let z : ◌≡◌ {A = ℕ} 0 1 = cc in absurd (omega arith)
+      whole : (x : Described) → (outcome rooms (got x [])).answer ≡ refused c q → first_fault (whole_checks2 rooms bytes) ≡ Fault c q
+      whole (described a zs ns ds cs) e = let z : ◌≡◌ {A = ℕ} 0 1 = cc in absurd (omega arith)
 
       go : (v : Verdict) → first_fault (whole_checks2 rooms bytes) ≡ v → first_fault (whole_checks2 rooms bytes) ≡ Fault c q
-      go Fine f = done (described_in (header_long (get_or Ns 0 0)) Ns) (sym (ap (λ (o : ReadOutcome). o.answer) (read_is ∙ ap (outcome rooms) (judged_fine f))) ∙ e)
+      go Fine f = whole (described_in (header_long (get_or Ns 0 0)) Ns) (sym (ap (λ (o : ReadOutcome). o.answer) (read_is ∙ ap (outcome rooms) (judged_fine f))) ∙ e)
       go (Fault k p) f =
-          let z : ReadAnswer.Refused k p ≡ ReadAnswer.Refused c q = sym (ap (λ (o : ReadOutcome). o.answer) (read_is ∙ ap (outcome rooms) (judged_fault k p f))) ∙ e in
-          let x : k ≡ c = cc in
-          let y : p ≡ q = cc in
-          f ∙ ap (λ (d : Code). Fault d p) x ∙ ap (Fault c) y
+          let z : ◌≡◌ {A = ReadAnswer} (refused k p) (refused c q) = sym (ap (λ (o : ReadOutcome). o.answer) (read_is ∙ ap (outcome rooms) (judged_fault k p f))) ∙ e in
+          let same = same_refusal z in
+          f ∙ ap (λ (d : Code). Fault d p) same.0 ∙ ap (Fault c) same.1
 
-  pub done_fine : (s p : ℕ) (a : _) → (read_file_of rooms bytes).read.answer ≡ ReadAnswer.Done s p a → first_fault (whole_checks2 rooms bytes) ≡ Fine
+  pub done_fine : (s p : ℕ) (a : _) → (read_file_of rooms bytes).read.answer ≡ done s p a → first_fault (whole_checks2 rooms bytes) ≡ Fine
   done_fine s p a e = go (first_fault (whole_checks2 rooms bytes)) refl
     where
       go : (v : Verdict) → first_fault (whole_checks2 rooms bytes) ≡ v → first_fault (whole_checks2 rooms bytes) ≡ Fine
       go Fine f = f
       go (Fault k q) f =
-          let z : ReadAnswer.Refused k q ≡ ReadAnswer.Done s p a = sym (ap (λ (o : ReadOutcome). o.answer) (read_is ∙ ap (outcome rooms) (judged_fault k q f))) ∙ e in
+          let z : ◌≡◌ {A = ReadAnswer} (refused k q) (done s p a) = sym (ap (λ (o : ReadOutcome). o.answer) (read_is ∙ ap (outcome rooms) (judged_fault k q f))) ∙ e in
           let y : ◌≡◌ {A = ℕ} 0 1 = cc in absurd (omega arith)
 
   pub refused_so : (c : Code) (q : ℕ) → R c q → read_file_of rooms bytes ≡ record { read = outcome rooms (stop c q); edition = 0 }
@@ -232,7 +233,7 @@ module _ (rooms : ListRooms) (bytes : List ℕ) where
   refused_so c q r = rw (judged_fault c q (told_fault c q r))
 
   -- refused exactly so
-  pub read_exactly : (c : Code) (q : ℕ) → (read_file_of rooms bytes).read.answer ≡ ReadAnswer.Refused c q ↔ R c q
+  pub read_exactly : (c : Code) (q : ℕ) → (read_file_of rooms bytes).read.answer ≡ refused c q ↔ R c q
   read_exactly c q = (λ e. fault_told c q (answer_of_lem c q e), λ r. ap (λ (o : FileOutcome). o.read.answer) (refused_so c q r))
 
   pub read_refused : (c : Code) (q : ℕ) (o : FileOutcome) → o ≡ read_file_of rooms bytes → R c q → ReadRefused rooms c q o.read × (o.edition ≡ 0)

@@ -19,7 +19,7 @@ use Rattle.list.specs.List.{ListRooms, got, stop, Described, described}
 use Rattle.list.specs.Steps.{f32_of, zero_f32}
 use Rattle.reader.specs.Read.{ReadOutcome}
 use Rattle.reader.specs.Read as reading
-use Rattle.read_list.specs.declared.ReadAnswer.{ReadAnswer}
+use Rattle.read_list.specs.Answer.{done}
 use Rattle.writer.specs.Write.{check, first_fault, whole_of, WriteOutcome, leaves}
 use Rattle.write_judge.specs.Verdict.{Fine}
 use Rattle.writer.specs.WriteAnswer.{Done}
@@ -137,7 +137,7 @@ module _ (ns : List ℕ) (ss : List Float) (ds cs : List ℤ) (a : ℤ) (e : ℕ
 -- ---- what is written is read, in either version
 
 -- a file whose description `trace_read` reads says version 1
-says_one : (rooms : ListRooms) (bytes : List ℕ) (s p : ℕ) (a : ℤ) → (read_trace_of rooms bytes).answer ≡ ReadAnswer.Done s p a → number bytes 0 ≡ 2 → ⊥
+says_one : (rooms : ListRooms) (bytes : List ℕ) (s p : ℕ) (a : ℤ) → (read_trace_of rooms bytes).answer ≡ done s p a → number bytes 0 ≡ 2 → ⊥
 says_one rooms bytes s p a d v =
     let t = done_read rooms bytes (read_trace_of rooms bytes) s p a refl d in
     let k = (found_first rooms bytes t.fine).version in
@@ -147,7 +147,7 @@ module _ (ns : List ℕ) (ss : List Float) (ds cs : List ℤ) (a : ℤ) (v e roo
     (p : o ≡ write_file_of ns ss ds cs a v e room) (d : o.answer ≡ Done n) (rooms : ListRooms) (h : Enough rooms ns ss ds cs) where
   abbrev Back : FileOutcome
   Back = record {
-    read = reading.leaves (ReadAnswer.Done (length ns) (points_of ns) a) (padded rooms.counts 0 ns) (padded rooms.starts zero_f32 ss) (padded rooms.deltas (pos 0) ds) (padded rooms.coefficients (pos 0) cs);
+    read = reading.leaves (done (length ns) (points_of ns) a) (padded rooms.counts 0 ns) (padded rooms.starts zero_f32 ss) (padded rooms.deltas (pos 0) ds) (padded rooms.coefficients (pos 0) cs);
     edition = e;
   }
 
@@ -202,7 +202,7 @@ accepted_second e ns ss ds cs a room f h =
     let z = second_size ns ss ds cs a e f in
     accepted_left (write_checks2 2 e ns ss ds cs) (file_of version2 (e ∷ []) (described a (map whole_of ss) ns ds cs)) (4 * numbers_of 9 (length ns) (points_of ns)) room f z (omega arith)
 
-module _ (rooms : ListRooms) (bytes : List ℕ) (q : FileOutcome) (s p : ℕ) (a : ℤ) (b : Bytes bytes) (r : q ≡ read_file_of rooms bytes) (d : q.read.answer ≡ ReadAnswer.Done s p a) (room : ℕ) (h : length bytes ≤ room) where
+module _ (rooms : ListRooms) (bytes : List ℕ) (q : FileOutcome) (s p : ℕ) (a : ℤ) (b : Bytes bytes) (r : q ≡ read_file_of rooms bytes) (d : q.read.answer ≡ done s p a) (room : ℕ) (h : length bytes ≤ room) where
   abbrev Again : ℕ → WriteOutcome
   Again v = write_file_of (take s q.read.counts) (take (2 * s) q.read.starts) (take (2 * p) q.read.deltas) (take (128 * s) q.read.coefficients) a v q.edition room
 
@@ -255,7 +255,7 @@ module _ (rooms : ListRooms) (bytes : List ℕ) (q : FileOutcome) (s p : ℕ) (a
 
 -- two files of one version that are read as one description with one edition are the same bytes
 pub same_file : (rooms : ListRooms) (bytes bytes' : List ℕ) (q : FileOutcome) (s p : ℕ) (a : ℤ) → Bytes bytes → Bytes bytes' → q ≡ read_file_of rooms bytes → q ≡ read_file_of rooms bytes'
-    → q.read.answer ≡ ReadAnswer.Done s p a → number bytes 0 ≡ number bytes' 0 → bytes ≡ bytes'
+    → q.read.answer ≡ done s p a → number bytes 0 ≡ number bytes' 0 → bytes ≡ bytes'
 same_file rooms bytes bytes' q s p a b b' r r' d v =
     let room = length bytes + length bytes' in
     let o = write_file_of (take s q.read.counts) (take (2 * s) q.read.starts) (take (2 * p) q.read.deltas) (take (128 * s) q.read.coefficients) a (number bytes' 0) q.edition room in

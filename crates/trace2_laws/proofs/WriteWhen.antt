@@ -10,6 +10,7 @@ use lib.ListN.{length}
 use lib.IntN.{ℤ}
 use lib.Ieee.{Float}
 use borrow.Author.Tests.{lt-ltb, le-ltb, ltb-true, ltb-false, eq-eqb, ne_eqb, eqb-true}
+use Rattle.codes.proofs.Refusals.{same_refusal}
 use Rattle.codes.specs.declared.Code.{Code}
 use Rattle.codes.specs.declared.Code.TheVariants.{Room, Shape, Header, Edition}
 use Rattle.shape.specs.Shape.{points_of, Shaped}
@@ -207,9 +208,8 @@ module _ (ns : List ℕ) (ss : List Float) (ds cs : List ℤ) (v e : ℕ) where
           go : (x : Verdict) → first_fault (Content ++ Last) ≡ x → (outcome room File x).answer ≡ Refused c q → first_fault (Content ++ Last) ≡ Fault c q
           go Fine f e = let z : ◌≡◌ {A = ℕ} 0 1 = cc in absurd (omega arith)
           go (Fault k i) f e =
-              let x : k ≡ c = cc in
-              let y : i ≡ q = cc in
-              f ∙ ap (λ (d : Code). Fault d i) x ∙ ap (Fault c) y
+              let same = same_refusal e in
+              f ∙ ap (λ (d : Code). Fault d i) same.0 ∙ ap (Fault c) same.1
 
       refused_so : (c : Code) (q : ℕ) → R c q → write_file_of ns ss ds cs a v e room ≡ outcome room File (Fault c q)
       unfolding write_file_of
