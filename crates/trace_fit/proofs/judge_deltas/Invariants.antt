@@ -1,7 +1,7 @@
 -- `judge_deltas` meets its contract: what the checks of all numbers say is what those of the numbers left say.
 use mathlib.Core.Path.{◌≡◌}
-use Prim.Native.Nat.{◌+◌, ◌-◌, ◌≤◌}
-use lib.ListN.{length, drop}
+use Prim.Native.Nat.{◌+◌}
+use lib.ListN.{drop}
 use Rattle.codes.specs.declared.Code.TheVariants.{Delta}
 use Rattle.writer.specs.Write.{first_fault}
 use Rattle.trace.specs.Trace.{wild, number_checks}

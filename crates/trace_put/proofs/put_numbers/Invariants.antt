@@ -1,6 +1,6 @@
 -- `put_numbers` meets its contract: the numbers from `i` on are left to put.
 use mathlib.Core.Path.{◌≡◌}
-use Prim.Native.Nat.{◌+◌, ◌-◌, ◌*◌, ◌≤◌}
+use Prim.Native.Nat.{◌+◌, ◌*◌}
 use lib.ListN.{length, drop}
 use lib.Seq.{sets}
 use Rattle.little.specs.Little.{bytes_of}

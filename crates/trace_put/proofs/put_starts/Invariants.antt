@@ -1,7 +1,7 @@
 -- `put_starts` meets its contract: the starts from `i` on are left to put, and each was judged.
 use mathlib.Core.Path.{◌≡◌}
 use mathlib.Core.List.{map}
-use Prim.Native.Nat.{◌+◌, ◌-◌, ◌*◌, ◌≤◌}
+use Prim.Native.Nat.{◌+◌, ◌*◌}
 use lib.ListN.{length, drop}
 use lib.Seq.{sets}
 use Rattle.little.specs.Little.{bytes_of}
