@@ -8,22 +8,24 @@ use native.Mathlib.Omega.{arith}
 use lib.Dec.{leb}
 use lib.IntN.{ℤ}
 use borrow.Author.Tests.{leb-true, leb-false, le-leb, lt-leb}
+use Rattle.std.specs.Prelude.{Ok}
 use Rattle.codes.specs.declared.Code.{Code}
 use Rattle.dequantize.specs.Judge.{Description}
 use Rattle.control_points.specs.Refusals as tracing
 use Rattle.dequantize.specs.Refusals as judging
 use Rattle.dequantize.specs.declared.Given.{Given}
 use Rattle.control_points.specs.declared.Pair.{Pair}
-use Rattle.build_answer.specs.declared.BuildAnswer.{BuildAnswer}
+use Rattle.build_answer.specs.BuildAnswer.{BuildAnswer}
+use Rattle.build_answer.specs.BuildAnswer as plainly
+use Rattle.build_answer.specs.declared.Built.{Built}
 use Rattle.table.specs.Table.{BuildRooms, Setting, BuildOutcome, refused_with, build_of}
 use Rattle.verdict.specs.Verdict.{sized}
 use Rattle.table.specs.Refusals.{BuildRefusal}
 use Rattle.table.specs.Refusals as building
 use Rattle.table.proofs.Users.{refused, refused_exactly}
 use Rattle.verdict.proofs.Checks.{both}
-use Rattle.profile.specs.declared.ProfileAnswer.{ProfileAnswer}
-use Rattle.profile_told.specs.declared.ProfileBuildAnswer.{ProfileBuildAnswer}
-use Rattle.profile_told.specs.declared.ProfileBuildAnswer.TheVariants.{Done, Broken, Refused}
+use Rattle.profile.specs.Answers.{ProfileAnswer, Meets}
+use Rattle.profile_told.specs.Answers.{ProfileBuildAnswer, Done, Broken, Refused}
 use Rattle.profile_build.specs.Building.{ProfileBuildOutcome, of_build, stopped_with, as_built, check_profile_of, after_check, build_profile_of}
 use Rattle.profile_laws.specs.Rules.{Meeting, Breaking, Says, meets, breaks, refuses}
 use Rattle.profile_laws.specs.Rules as rules
@@ -66,15 +68,15 @@ module _ (d : Description) (i : Setting) (e : ℕ) (r : BuildRooms) where
   unfolding check_profile_of
   checked s x y = rw (is_sized i s) (said d i.adjustment e x y)
 
-  too_large_lem : (2 ^ 23 < i.width) ⊎ (2 ^ 23 < i.height) → check_profile_of d i.adjustment i.width i.height e ≡ ProfileAnswer.Refused Code.Size 0
+  too_large_lem : (2 ^ 23 < i.width) ⊎ (2 ^ 23 < i.height) → check_profile_of d i.adjustment i.width i.height e ≡ Refused Code.Size 0
   unfolding check_profile_of
   too_large_lem h = rw (not_sized i h)
 
   pub as_build : Plain d i e r → by_profile ≡ as_built (build_of d i r)
-  as_build p = decided ProfileAnswer.Meets (checked p.sized ProfileAnswer.Meets (meets p.meets))
+  as_build p = decided Meets (checked p.sized Meets (meets p.meets))
 
   pub breaks_leaves : (rule k : ℕ) → BreaksRule d i e r rule k → by_profile ≡ stopped_with r (Broken rule k)
-  breaks_leaves rule k b = decided (ProfileAnswer.Broken rule k) (checked b.sized (ProfileAnswer.Broken rule k) (breaks b.breaks))
+  breaks_leaves rule k b = decided (Broken rule k) (checked b.sized (Broken rule k) (breaks b.breaks))
 
   -- a build's refusal, every cell
   stopped_is : (c : Code) (p : ℕ) → as_built (refused_with r c p) ≡ stopped_with r (Refused c p)
@@ -82,9 +84,9 @@ module _ (d : Description) (i : Setting) (e : ℕ) (r : BuildRooms) where
   stopped_is c p = refl
 
   pub refusal_leaves : (c : Code) (p : ℕ) → ProfileBuildRefusal d i e r c p → by_profile ≡ stopped_with r (Refused c p)
-  refusal_leaves _ _ (size h) = decided (ProfileAnswer.Refused Code.Size 0) (too_large_lem h)
-  refusal_leaves _ _ (shape s n) = decided (ProfileAnswer.Refused Code.Shape 0) (checked s (ProfileAnswer.Refused Code.Shape 0) (refuses (rules.shape n)))
-  refusal_leaves _ _ (edition s h n) = decided (ProfileAnswer.Refused Code.Edition 0) (checked s (ProfileAnswer.Refused Code.Edition 0) (refuses (rules.edition h n)))
+  refusal_leaves _ _ (size h) = decided (Refused Code.Size 0) (too_large_lem h)
+  refusal_leaves _ _ (shape s n) = decided (Refused Code.Shape 0) (checked s (Refused Code.Shape 0) (refuses (rules.shape n)))
+  refusal_leaves _ _ (edition s h n) = decided (Refused Code.Edition 0) (checked s (Refused Code.Edition 0) (refuses (rules.edition h n)))
   refusal_leaves c p (building q b) = as_build q ∙ ap (λ (o : BuildOutcome). as_built o) (refused d i r b) ∙ stopped_is c p
 
   -- ---- and one of them holds
@@ -117,17 +119,20 @@ module _ (d : Description) (i : Setting) (e : ℕ) (r : BuildRooms) where
   stopped_answer x = refl
 
   -- of a build's answer
-  is_done : (b : BuildAnswer) (s n t f : ℕ) → of_build b ≡ Done s n t f → b ≡ BuildAnswer.Done s n t f
-  is_done (BuildAnswer.Done s' n' t' f') s n t f q = cc
-  is_done (BuildAnswer.Refused c p) s n t f q = absurd (let z : ◌≡◌ {A = ℕ} 0 1 = cc in omega arith)
+  is_done : (b : BuildAnswer) (s n t f : ℕ) → of_build b ≡ Done s n t f → b ≡ plainly.Done s n t f
+  is_done (Ok b) s n t f q = let e : ◌≡◌ {A = Built} b (record { segments = s; entries = n; estimate = t; faint = f }) = cc in rw e
+  is_done (plainly.Refused c p) s n t f q = absurd (let z : ◌≡◌ {A = ℕ} 0 1 = cc in omega arith)
 
-  is_refused : (b : BuildAnswer) (c : Code) (p : ℕ) → of_build b ≡ Refused c p → b ≡ BuildAnswer.Refused c p
-  is_refused (BuildAnswer.Done s n t f) c p q = absurd (let z : ◌≡◌ {A = ℕ} 0 1 = cc in omega arith)
-  is_refused (BuildAnswer.Refused c' p') c p q = cc
+  is_refused : (b : BuildAnswer) (c : Code) (p : ℕ) → of_build b ≡ Refused c p → b ≡ plainly.Refused c p
+  is_refused (Ok b) c p q = absurd (let z : ◌≡◌ {A = ℕ} 0 1 = cc in omega arith)
+  is_refused (plainly.Refused c' p') c p q =
+      let u : c' ≡ c = cc in
+      let v : p' ≡ p = cc in
+      rw (u, v)
 
   not_broken : (b : BuildAnswer) (rule k : ℕ) → of_build b ≡ Broken rule k → ⊥
-  not_broken (BuildAnswer.Done s n t f) rule k q = let z : ◌≡◌ {A = ℕ} 0 1 = cc in omega arith
-  not_broken (BuildAnswer.Refused c p) rule k q = let z : ◌≡◌ {A = ℕ} 0 1 = cc in omega arith
+  not_broken (Ok b) rule k q = let z : ◌≡◌ {A = ℕ} 0 1 = cc in omega arith
+  not_broken (plainly.Refused c p) rule k q = let z : ◌≡◌ {A = ℕ} 0 1 = cc in omega arith
 
   done_given : (s n t f : ℕ) → by_profile.answer ≡ Done s n t f → DoneByBuild d i e r s n t f
   done_given s n t f q = go way
@@ -135,10 +140,10 @@ module _ (d : Description) (i : Setting) (e : ℕ) (r : BuildRooms) where
       go : Way → DoneByBuild d i e r s n t f
       go (plain p) = record { fits = p; built = is_done (build_of d i r).answer s n t f (sym (answer_of_lem (as_build p)) ∙ q) }
       go (broken rule k b) =
-          let x : Broken rule k ≡ Done s n t f = sym (stopped_answer (Broken rule k)) ∙ sym (answer_of_lem (breaks_leaves rule k b)) ∙ q in
+          let x : ◌≡◌ {A = ProfileBuildAnswer} (Broken rule k) (Done s n t f) = sym (stopped_answer (Broken rule k)) ∙ sym (answer_of_lem (breaks_leaves rule k b)) ∙ q in
           absurd (let z : ◌≡◌ {A = ℕ} 0 1 = cc in omega arith)
       go (refusal c p w) =
-          let x : Refused c p ≡ Done s n t f = sym (stopped_answer (Refused c p)) ∙ sym (answer_of_lem (refusal_leaves c p w)) ∙ q in
+          let x : ◌≡◌ {A = ProfileBuildAnswer} (Refused c p) (Done s n t f) = sym (stopped_answer (Refused c p)) ∙ sym (answer_of_lem (refusal_leaves c p w)) ∙ q in
           absurd (let z : ◌≡◌ {A = ℕ} 0 1 = cc in omega arith)
 
   pub done_exactly : (s n t f : ℕ) → (by_profile.answer ≡ Done s n t f) ↔ DoneByBuild d i e r s n t f
@@ -150,12 +155,12 @@ module _ (d : Description) (i : Setting) (e : ℕ) (r : BuildRooms) where
       go : Way → BreaksRule d i e r rule k
       go (plain p) = absurd (not_broken (build_of d i r).answer rule k (sym (answer_of_lem (as_build p)) ∙ q))
       go (broken rule' k' b) =
-          let x : Broken rule' k' ≡ Broken rule k = sym (stopped_answer (Broken rule' k')) ∙ sym (answer_of_lem (breaks_leaves rule' k' b)) ∙ q in
+          let x : ◌≡◌ {A = ProfileBuildAnswer} (Broken rule' k') (Broken rule k) = sym (stopped_answer (Broken rule' k')) ∙ sym (answer_of_lem (breaks_leaves rule' k' b)) ∙ q in
           let u : rule' ≡ rule = cc in
           let v : k' ≡ k = cc in
           rw (← u, ← v) b
       go (refusal c p w) =
-          let x : Refused c p ≡ Broken rule k = sym (stopped_answer (Refused c p)) ∙ sym (answer_of_lem (refusal_leaves c p w)) ∙ q in
+          let x : ◌≡◌ {A = ProfileBuildAnswer} (Refused c p) (Broken rule k) = sym (stopped_answer (Refused c p)) ∙ sym (answer_of_lem (refusal_leaves c p w)) ∙ q in
           absurd (let z : ◌≡◌ {A = ℕ} 0 1 = cc in omega arith)
 
   pub broken_exactly : (rule k : ℕ) → (by_profile.answer ≡ Broken rule k) ↔ BreaksRule d i e r rule k
@@ -167,10 +172,10 @@ module _ (d : Description) (i : Setting) (e : ℕ) (r : BuildRooms) where
       go : Way → ProfileBuildRefusal d i e r c p
       go (plain w) = building w ((refused_exactly d i r c p).0 (is_refused (build_of d i r).answer c p (sym (answer_of_lem (as_build w)) ∙ q)))
       go (broken rule k b) =
-          let x : Broken rule k ≡ Refused c p = sym (stopped_answer (Broken rule k)) ∙ sym (answer_of_lem (breaks_leaves rule k b)) ∙ q in
+          let x : ◌≡◌ {A = ProfileBuildAnswer} (Broken rule k) (Refused c p) = sym (stopped_answer (Broken rule k)) ∙ sym (answer_of_lem (breaks_leaves rule k b)) ∙ q in
           absurd (let z : ◌≡◌ {A = ℕ} 0 1 = cc in omega arith)
       go (refusal c' p' w) =
-          let x : Refused c' p' ≡ Refused c p = sym (stopped_answer (Refused c' p')) ∙ sym (answer_of_lem (refusal_leaves c' p' w)) ∙ q in
+          let x : ◌≡◌ {A = ProfileBuildAnswer} (Refused c' p') (Refused c p) = sym (stopped_answer (Refused c' p')) ∙ sym (answer_of_lem (refusal_leaves c' p' w)) ∙ q in
           let u : c' ≡ c = cc in
           let v : p' ≡ p = cc in
           rw (← u, ← v) w

@@ -8,8 +8,8 @@ use lib.IntN.{ℤ, pos, negsuc}
 use lib.Signed.{le_z, ◌≤ℤ◌, le_z_yes}
 use Rattle.dequantize.specs.Judge.{Description}
 use Rattle.editions.specs.declared.Limits.{Limits}
-use Rattle.editions.specs.declared.Edition.TheVariants.{Known}
-use Rattle.profile.specs.declared.ProfileAnswer.TheVariants.{Meets}
+use Rattle.editions.specs.Editions.{Known}
+use Rattle.profile.specs.Answers.{Meets}
 use Rattle.profile.specs.Profile.{edition1, edition2, limits_of, answer_of}
 use Rattle.profile_laws.specs.Rules.{SplineMeets, MeetsRules, Allows, two, Meeting, Says, meets}
 use Rattle.profile_laws.proofs.Says.{allows_limits, says_exactly, said}

@@ -12,10 +12,9 @@ use Rattle.shape.specs.Shape.{shaped}
 use Rattle.shape.proofs.Shape.{is_shaped, shaped_is, not_shaped}
 use Rattle.dequantize.specs.Judge.{Description, Shaped}
 use Rattle.editions.specs.declared.Limits.{Limits}
-use Rattle.editions.specs.declared.Edition.TheVariants.{Known, Unknown}
-use Rattle.profile_rules.specs.declared.Finding.{Finding}
-use Rattle.profile.specs.declared.ProfileAnswer.{ProfileAnswer}
-use Rattle.profile.specs.declared.ProfileAnswer.TheVariants.{Meets, Broken, Refused}
+use Rattle.editions.specs.Editions.{Known, Unknown}
+use Rattle.profile_rules.specs.Finding.{Finding}
+use Rattle.profile.specs.Answers.{ProfileAnswer, Meets, Broken, Refused}
 use Rattle.profile.specs.Profile.{edition1, edition2, limits_of, rules_finding, answered, by_edition, answer_of}
 use Rattle.profile_laws.specs.Rules.{Allows, one, two, NoEdition, Meeting, Breaking, ProfileRefusal, shape, edition, Says, meets, breaks, refuses}
 use Rattle.profile_laws.proofs.Splines.{RulesFind, all_kept, one_broken, rules_find, meets_finding, breaks_finding}

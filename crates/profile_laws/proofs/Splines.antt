@@ -13,7 +13,8 @@ use lib.Seq.{drop-cons}
 use borrow.Author.Tests.{leb-true, leb-false}
 use Rattle.dequantize.specs.Judge.{Description}
 use Rattle.editions.specs.declared.Limits.{Limits}
-use Rattle.profile_rules.specs.declared.Finding.{Finding}
+use Rattle.profile_rules.specs.Finding.{Finding}
+use Rattle.profile_rules.specs.Finding as found
 use Rattle.profile.specs.Profile.{kept, first_finding, counted, within, zero_from, deltas_finding, sigma_finding, colour_finding, spline_finding, splines_finding, rules_finding}
 use Rattle.profile_laws.specs.Rules.{Rule1, Rule3, SplineMeets, MeetsRules, SplineBreaks, second, fourth, fifth, sixth, FirstBroken, first, third, spline}
 use Rattle.profile_laws.proofs.Tests.{failed, fails, rule1, rule2, rule3, rule4, rule5, colours_hold, x_zero, b_zero}
@@ -38,8 +39,8 @@ module _ (l : Limits) (d : Description) (a : ℤ) where
   at k = spline_finding l (get_or d.counts k 0) d.coefficients k
 
   data SplineFinds (k : ℕ) : Finding → Type 0 where
-    keeps : SplineMeets l d a k → SplineFinds k Finding.Kept
-    breaks : {rule : ℕ} → SplineBreaks l d a k rule → SplineFinds k (Finding.Broken rule k)
+    keeps : SplineMeets l d a k → SplineFinds k found.Kept
+    breaks : {rule : ℕ} → SplineBreaks l d a k rule → SplineFinds k (found.Broken rule k)
 
   spline_finds : (k : ℕ) → SplineFinds k (at k)
   unfolding spline_finding deltas_finding sigma_finding colour_finding
@@ -65,12 +66,12 @@ module _ (l : Limits) (d : Description) (a : ℤ) where
         colours = colours_hold l d a k s w;
       })
 
-  spline_kept : (k : ℕ) → SplineMeets l d a k → at k ≡ Finding.Kept
+  spline_kept : (k : ℕ) → SplineMeets l d a k → at k ≡ found.Kept
   unfolding spline_finding deltas_finding sigma_finding colour_finding
   spline_kept k m =
       rw ((rule2 l d a k).passes m.deltas, (rule4 l d a k).passes m.later, (rule5 l d a k).passes m.first, x_zero l d a k m.colours, b_zero l d a k m.colours)
 
-  spline_broken : (k rule : ℕ) → SplineBreaks l d a k rule → at k ≡ Finding.Broken rule k
+  spline_broken : (k rule : ℕ) → SplineBreaks l d a k rule → at k ≡ found.Broken rule k
   unfolding spline_finding deltas_finding sigma_finding colour_finding
   spline_broken k _ (second n) = rw (fails (rule2 l d a k) n)
   spline_broken k _ (fourth p n) = rw ((rule2 l d a k).passes p, fails (rule4 l d a k) n)
@@ -80,7 +81,7 @@ module _ (l : Limits) (d : Description) (a : ℤ) where
       (go (zero_from d.coefficients (128 * k) 32) refl (zero_from d.coefficients (128 * k + 64) 32) refl)
     where
       go : (x : Bool) → zero_from d.coefficients (128 * k) 32 ≡ x → (b : Bool) → zero_from d.coefficients (128 * k + 64) 32 ≡ b
-          → first_finding (kept x 6 k) (kept b 6 k) ≡ Finding.Broken 6 k
+          → first_finding (kept x 6 k) (kept b 6 k) ≡ found.Broken 6 k
       go false s b w = refl
       go true s false w = refl
       go true s true w = absurd (n (colours_hold l d a k s w))
@@ -91,14 +92,14 @@ module _ (l : Limits) (d : Description) (a : ℤ) where
   from k = splines_finding l (drop k d.counts) d.coefficients k
 
   data FindsFrom (k : ℕ) : Finding → Type 0 where
-    keep : ((j : ℕ) → k ≤ j → j < count → SplineMeets l d a j) → FindsFrom k Finding.Kept
-    break : {rule j : ℕ} → k ≤ j → j < count → ((m : ℕ) → k ≤ m → m < j → SplineMeets l d a m) → SplineBreaks l d a j rule → FindsFrom k (Finding.Broken rule j)
+    keep : ((j : ℕ) → k ≤ j → j < count → SplineMeets l d a j) → FindsFrom k found.Kept
+    break : {rule j : ℕ} → k ≤ j → j < count → ((m : ℕ) → k ≤ m → m < j → SplineMeets l d a m) → SplineBreaks l d a j rule → FindsFrom k (found.Broken rule j)
 
   from_turn : (k : ℕ) → k < count → from k ≡ first_finding (at k) (from (suc k))
   unfolding splines_finding
   from_turn k h = rw (drop-cons d.counts k 0 h)
 
-  from_end : (k : ℕ) → count ≤ k → from k ≡ Finding.Kept
+  from_end : (k : ℕ) → count ≤ k → from k ≡ found.Kept
   unfolding splines_finding
   from_end k h = rw (drop_of_length-le d.counts h)
 
@@ -131,8 +132,8 @@ module _ (l : Limits) (d : Description) (a : ℤ) where
   -- ---- a description
 
   pub data RulesFind : Finding → Type 0 where
-    all_kept : MeetsRules l d a → RulesFind Finding.Kept
-    one_broken : {rule k : ℕ} → FirstBroken l d a rule k → RulesFind (Finding.Broken rule k)
+    all_kept : MeetsRules l d a → RulesFind found.Kept
+    one_broken : {rule k : ℕ} → FirstBroken l d a rule k → RulesFind (found.Broken rule k)
 
   pub rules_find : RulesFind (rules_finding l d.counts d.coefficients a)
   unfolding rules_finding
@@ -149,11 +150,11 @@ module _ (l : Limits) (d : Description) (a : ℤ) where
   unfolding rules_finding
   whole_kept p q = rw ((rule1 l d a).passes p, (rule3 l d a).passes q)
 
-  pub meets_finding : MeetsRules l d a → rules_finding l d.counts d.coefficients a ≡ Finding.Kept
+  pub meets_finding : MeetsRules l d a → rules_finding l d.counts d.coefficients a ≡ found.Kept
   meets_finding m =
       whole_kept m.splines m.adjusted ∙ skips count 0 (omega arith) (λ j p q. m.each j (omega arith)) ∙ from_end (0 + count) (omega arith)
 
-  pub breaks_finding : (rule k : ℕ) → FirstBroken l d a rule k → rules_finding l d.counts d.coefficients a ≡ Finding.Broken rule k
+  pub breaks_finding : (rule k : ℕ) → FirstBroken l d a rule k → rules_finding l d.counts d.coefficients a ≡ found.Broken rule k
   unfolding rules_finding
   breaks_finding _ _ (first n) = rw (fails (rule1 l d a) n)
   breaks_finding _ _ (third p n) = rw ((rule1 l d a).passes p, fails (rule3 l d a) n)

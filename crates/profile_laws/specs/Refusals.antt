@@ -4,7 +4,7 @@ use Rattle.std.specs.Prelude.{◌≡◌, ◌⊎◌, ℕ, ◌^◌, ◌≤◌, ◌
 use Rattle.codes.specs.declared.Code.{Code}
 use Rattle.dequantize.specs.Judge.{Description, Shaped}
 use Rattle.table.specs.Table.{Setting, BuildRooms, build_of}
-use Rattle.build_answer.specs.declared.BuildAnswer.{BuildAnswer}
+use Rattle.build_answer.specs.BuildAnswer as BuildAnswer
 use Rattle.table.specs.Refusals.{BuildRefusal}
 use Rattle.profile_laws.specs.Rules.{NoEdition, Meeting, Breaking}
 

@@ -4,8 +4,7 @@ use Rattle.std.specs.Prelude.{◌≡◌, ℕ, ◌+◌, ◌*◌, ◌≤◌, ◌<�
 use Rattle.codes.specs.declared.Code.{Code}
 use Rattle.dequantize.specs.Judge.{Description, Shaped}
 use Rattle.editions.specs.declared.Limits.{Limits}
-use Rattle.profile.specs.declared.ProfileAnswer.{ProfileAnswer}
-use Rattle.profile.specs.declared.ProfileAnswer.TheVariants.{Meets, Broken, Refused}
+use Rattle.profile.specs.Answers.{ProfileAnswer, Meets, Broken, Refused}
 use Rattle.profile.specs.Profile.{edition1, edition2}
 
 -- from the first to the second, both included
