@@ -7,18 +7,15 @@ use native.Mathlib.Omega.{arith}
 use lib.IntN.{ℤ}
 use lib.ListN.{length, drop, length-drop}
 use Rattle.codes.specs.declared.Code.{Code}
-use Rattle.codes.specs.declared.Code.TheVariants.{Delta, Position, Coincide}
+use Rattle.codes.specs.declared.Code.TheVariants.{Delta, Position}
 use Rattle.control_points.specs.ControlPoints.{valid_point_pos, valid_double_delta, same_point, plus_of, moved_of, stand_at, pair_at}
 use Rattle.control_points.specs.Asked.{passes, Passable}
 use Rattle.control_points.specs.declared.Pair.{Pair}
 use Rattle.control_points.specs.declared.Stand.{Stand}
-use Rattle.control_points.specs.Answers.{Start}
-use Rattle.control_points.specs.Answers as S
 use Rattle.control_points.proofs.Steps.{pair_drop}
 use Rattle.polyline.specs.Gone.{Gone, On, Stop}
 use Rattle.polyline.specs.Write.{gone_by, onward, gone_from, gone_of}
-use Rattle.polyline_spline.specs.Begun as begun'
-use Rattle.polyline_spline.specs.Steps.{Placed, begun_at}
+use Rattle.polyline_spline.specs.Steps.{Placed}
 
 -- ---- one double delta
 

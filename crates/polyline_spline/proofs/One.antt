@@ -1,33 +1,27 @@
 -- Laws of writing one spline: where it begins, and its verdict with what is left.
-use mathlib.Core.Path.{◌≡◌, refl, sym, ap}
+use mathlib.Core.Path.{◌≡◌, refl, ap}
 use mathlib.Core.Bool.{true, false}
 use mathlib.Core.List.{List}
 use Prim.Native.Nat.{ℕ}
-use native.Mathlib.Omega.{arith}
 use lib.IntN.{ℤ}
 use lib.Ieee.{Float}
-use lib.ListN.{length}
-use borrow.Author.Tests.{lt-ltb, le-ltb}
 use Rattle.codes.specs.declared.Code.{Code}
-use Rattle.codes.specs.declared.Code.TheVariants.{Room}
-use Rattle.write_judge.specs.Verdict.{Fine, Fault}
-use Rattle.control_points.specs.ControlPoints.{starting_point, control_points, stand_at, valid_point_pos}
+use Rattle.write_judge.specs.Verdict.{Fine}
+use Rattle.control_points.specs.ControlPoints.{starting_point, stand_at, valid_point_pos}
 use Rattle.control_points.specs.Asked.{Passable}
 use Rattle.control_points.specs.declared.Pair.{Pair}
 use Rattle.control_points.specs.Answers.{Start}
 use Rattle.control_points.specs.Answers as S
 use Rattle.control_points.proofs.Starts.{start_valid}
 use Rattle.polyline.specs.Gone.{Gone, On, Stop}
-use Rattle.polyline.specs.Write.{points_text, gone_of, settled, begun, text_at}
+use Rattle.polyline.specs.Write.{gone_of, begun}
 use Rattle.polyline_spline.specs.Begun.{Begun}
 use Rattle.polyline_spline.specs.Begun as begun'
 use Rattle.std.specs.Prelude.{Result, Ok, Err}
 use Rattle.std.specs.Result.{MatchResult, is_ok}
 use Rattle.codes.specs.Refusal.{Refusal}
-use Rattle.polyline_spline.specs.Put.{Ends, Full}
-use Rattle.polyline_spline.specs.Steps.{settled_at, begun_at, PutLeaves, one_verdict, OneLeaves}
+use Rattle.polyline_spline.specs.Steps.{settled_at, begun_at}
 use Rattle.polyline_spline.proofs.Goes.{passable}
-use Rattle.writer.specs.WriteAnswer.{Done, Refused}
 
 pub start_kept : (r : Begun) (p : Pair) (P : Code → Type 0) → MatchResult r (λ x. ◌≡◌ {A = Result Pair Refusal} (Ok p) (Ok x)) P → true ≡ is_ok r → r ≡ begun'.At p
 start_kept (Ok x) p P m v = cc

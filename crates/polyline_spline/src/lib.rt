@@ -111,7 +111,13 @@ fn put_points(start: Pair, deltas: &[i32], text: &mut [u8]) -> Option<usize>
 // ---- both
 
 // The spline k by its double deltas: judged, then put.
-pub fn write_one(x: f32, y: f32, deltas: &[i32], k: usize, text: &mut [u8]) -> Result<usize, Refusal>
+pub fn write_one(
+    x: f32,
+    y: f32,
+    deltas: &[i32],
+    k: usize,
+    text: &mut [u8],
+) -> Result<usize, Refusal>
     ensures { OneLeaves (text_at deltas.now (starting_point x y)) (one_verdict k deltas.now (starting_point x y) (length text.old)) result text.old text.new }
 {
     let start = begin_at(x, y, deltas).map_err(|code| (code, k))?;

@@ -11,14 +11,13 @@ use lib.IntN.{ℤ}
 use lib.Ieee.{Float, nan}
 use lib.ListN.{length, get_or, take, drop, replicate, length-replicate}
 use borrow.Author.Tests.{ltb-false, le-leb, lt-leb}
-use Rattle.codes.specs.declared.Code.{Code}
 use Rattle.codes.specs.declared.Code.TheVariants.{Shape, Room}
 use Rattle.shape.specs.Shape.{points_of, shaped}
 use Rattle.writer.specs.Write.{misshapen, leaves}
 use Rattle.writer.specs.Write as writing
 use Rattle.write_judge.specs.Verdict.{Verdict}
 use Rattle.write_judge.specs.Verdict.{Fine, Fault}
-use Rattle.writer.specs.WriteAnswer.{WriteAnswer, Done, Refused}
+use Rattle.writer.specs.WriteAnswer.{WriteAnswer, Refused}
 use Rattle.write_judge.proofs.Checks.{agreed}
 use Rattle.write_steps.proofs.Stores.{zeros_after}
 use Rattle.control_points.specs.ControlPoints.{starting_point}

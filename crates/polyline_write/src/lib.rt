@@ -41,7 +41,11 @@ fn write_spline(description: &Description<'_>, k: usize, text: &mut [u8]) -> Res
 }
 
 // How many bytes the points of a spline take, or what refuses it, and where.
-pub fn points_write(description: &Description<'_>, spline: usize, text: &mut [u8]) -> Result<usize, Refusal>
+pub fn points_write(
+    description: &Description<'_>,
+    spline: usize,
+    text: &mut [u8],
+) -> Result<usize, Refusal>
     ensures { leaves result text.new
         ≡ write_points_of description.now.counts.now description.now.starts.now description.now.deltas.now description.now.coefficients.now spline (length text.old) }
 {
