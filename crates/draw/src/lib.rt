@@ -14,6 +14,7 @@ use desks::Sight;
 use entries::draw_entries;
 
 // Draws n pixels of row y for a desk, from column x0 on, into three channels that begin at column x0, and says how many updates that took.
+// The channels stay three parameters here and below: a struct of `&mut` slices was tried, and the proof of a function that lends parts of two of its fields did not close.
 pub fn draw(
     table: &Table<'_>,
     sight: &Sight<'_>,
