@@ -1,40 +1,31 @@
 -- What the exported layers return and leave: a layer's outcome as numbers and slices. Definitions only.
-use Rattle.std.specs.Prelude.{◌≡◌, Bool, true, false, cond, List, [], ◌∷◌, ℕ, ◌/◌, leb, ℤ, pos, length, replicate, Float}
+use Rattle.std.specs.Prelude.{◌≡◌, Bool, true, false, cond, List, [], ◌∷◌, ℕ, ◌/◌, leb, ℤ, pos, length, replicate, Option, Some, None, Result, Ok, Err, Float}
 use Rattle.numbers.specs.Arith.{0·0}
 use Rattle.codes.specs.Codes.{number_of}
 use Rattle.codes.specs.declared.Code.{Code}
-use Rattle.codes.specs.declared.Code.TheVariants.{Done, Room, Shape, Position}
+use Rattle.codes.specs.declared.Code.TheVariants.{Room, Shape, Position}
 use Rattle.dequantize.specs.declared.Given.{Given}
 use Rattle.dequantize.specs.declared.Spline.{Spline}
 use Rattle.control_points.specs.declared.Pair.{Pair}
+use Rattle.control_points.specs.Answers.{Start, At, Out, Traced, On, Stop}
 use Rattle.control_points.specs.ControlPoints.{trace_of}
-use Rattle.control_points.specs.declared.Start.{Start}
-use Rattle.control_points.specs.declared.Start.TheVariants.{At, Out}
-use Rattle.control_points.specs.declared.Traced.{Traced}
-use Rattle.control_points.specs.declared.Traced.TheVariants.{On, Stop}
-use Rattle.dequantize.specs.Judge.{Description, judge_of}
-use Rattle.dequantize.specs.declared.judge.Judged.{Judged}
-use Rattle.dequantize.specs.declared.judge.Judged.TheVariants.{Fine, Refused}
+use Rattle.shape.specs.Description.{Description}
+use Rattle.dequantize.specs.Answers.{Judged, Fine, Refused}
+use Rattle.dequantize.specs.Judge.{judge_of}
 use Rattle.curve.specs.Curve.{path_of, path_room, curved_of, curved_on}
-use Rattle.curve.specs.declared.Curved.{Curved}
-use Rattle.curve.specs.declared.Curved.TheVariants as path
+use Rattle.curve.specs.Curved.{Curved}
+use Rattle.curve.specs.Curved as path
 use Rattle.walk.specs.Walk.{Walk, walked_of, WalkedOn, walk_length}
-use Rattle.walk.specs.declared.Walked.{Walked}
-use Rattle.walk.specs.declared.Walked.TheVariants as walk
+use Rattle.walk.specs.Walked.{Walked}
+use Rattle.walk.specs.Walked as walk
 use Rattle.transform.specs.declared.Sums.{Sums}
 use Rattle.points.specs.Points.{filled_of}
-use Rattle.points.specs.declared.Filled.{Filled}
-use Rattle.points.specs.declared.Filled.TheVariants as filled
+use Rattle.points.specs.Filled.{Filled}
+use Rattle.points.specs.Filled as filled
 use Rattle.segments.specs.Segment.{eight_of}
-use Rattle.segments.specs.declared.Added.{Added}
-use Rattle.segments.specs.declared.Added.TheVariants.{Made, Nothing}
 use Rattle.segments.specs.declared.Range.{Range}
 use Rattle.segments.specs.declared.Segment.{Segment}
 use Rattle.verdict.specs.Verdict.{shaped, or_refused}
-use Rattle.layers.specs.declared.Ran.{Ran}
-use Rattle.layers.specs.declared.JudgedTold.{JudgedTold}
-use Rattle.layers.specs.declared.Eight.{Eight}
-use Rattle.layers.specs.declared.Counted.{Counted}
 
 -- ---- dequantizing
 
@@ -43,7 +34,13 @@ abbrev pub traced_from : ℕ → List ℤ → Start → Traced
 traced_from limit ds Out = Stop Position
 traced_from limit ds (At start) = trace_of limit start ds
 
--- the last control point and the Manhattan sum, or the code's number
+-- the code's number, the last control point and the Manhattan sum
+pub record Ran : Type 0 where
+  pub number : ℕ
+  pub x : ℤ
+  pub y : ℤ
+  pub manhattan : ℕ
+
 abbrev pub ran_leaves : ℕ → ℤ → ℤ → ℕ → Ran
 ran_leaves number x y manhattan = record { number = number; x = x; y = y; manhattan = manhattan }
 
@@ -68,14 +65,21 @@ abbrev pub dequantized_leaves : ℕ → List Float → List Float → List Float
 dequantized_leaves r x y b sigma estimate coincide =
     record { number = r; x = x; y = y; b = b; sigma = sigma; estimate = estimate; coincide = coincide }
 
-abbrev pub dequantized_export : Spline → DequantizedExport
-dequantized_export s = dequantized_leaves (number_of s.code) s.x s.y s.b s.sigma s.estimate s.coincide
+-- a refusal has rows of zeros, no estimate and no points that are the same
+abbrev pub dequantized_export : Result Spline Code → DequantizedExport
+dequantized_export (Ok s) = dequantized_leaves 0 s.x s.y s.b s.sigma s.estimate s.coincide
+dequantized_export (Err code) = dequantized_leaves (number_of code) (replicate 32 0·0) (replicate 32 0·0) (replicate 32 0·0) (replicate 32 0·0) 0 false
 
 -- SHAPE, then all splines
 abbrev pub judged_of : Description → Given → Judged
 judged_of d g = or_refused (shaped d) Shape (judge_of d g)
 
 -- a judging's number, place and summed estimate
+pub record JudgedTold : Type 0 where
+  pub number : ℕ
+  pub place : ℕ
+  pub estimate : ℕ
+
 abbrev pub judged_leaves : ℕ → ℕ → ℕ → JudgedTold
 judged_leaves number place estimate = record { number = number; place = place; estimate = estimate }
 
@@ -86,11 +90,19 @@ told_judged (Refused code k) = judged_leaves (number_of code) k 0
 -- ---- the curve and the walk
 
 -- the code's number, and how many records a buffer holds
+pub record Counted : Type 0 where
+  pub number : ℕ
+  pub count : ℕ
+
 abbrev pub counted_leaves : ℕ → ℕ → Counted
 counted_leaves number count = record { number = number; count = count }
 
 abbrev pub refused_with : Code → Counted
 refused_with code = counted_leaves (number_of code) 0
+
+abbrev pub counted_of : Result ℕ Code → Counted
+counted_of (Ok n) = counted_leaves 0 n
+counted_of (Err code) = refused_with code
 
 abbrev pub counted_path : Curved → Counted
 counted_path (path.Points n) = counted_leaves 0 n
@@ -147,20 +159,24 @@ length_from n last o = cond (leb 2 n) (cond (leb n 8388608) (length_leaves 0 (wa
 
 -- a spline of these rows; its other fields do not enter the sums
 abbrev pub spline_of_rows : List Float → List Float → List Float → List Float → Spline
-spline_of_rows x y b sigma = record { code = Done; x = x; y = y; b = b; sigma = sigma; estimate = 0; coincide = false }
+spline_of_rows x y b sigma = record { x = x; y = y; b = b; sigma = sigma; estimate = 0; coincide = false }
 
 abbrev pub four_of : Sums → List Float
 four_of s = s.x ∷ s.y ∷ s.b ∷ s.sigma ∷ []
 
 -- ---- segments
 
+pub record Eight : Type 0 where
+  pub made : Bool
+  pub numbers : List Float
+
 abbrev pub eight_leaves : Bool → List Float → Eight
 eight_leaves made numbers = record { made = made; numbers = numbers }
 
 -- the eight floats, or that there are none, and zeros
-abbrev pub eight_in : Added → Eight
-eight_in (Made segment) = eight_leaves true (eight_of segment)
-eight_in Nothing = eight_leaves false (replicate 8 0·0)
+abbrev pub eight_in : Option Segment → Eight
+eight_in (Some segment) = eight_leaves true (eight_of segment)
+eight_in None = eight_leaves false (replicate 8 0·0)
 
 abbrev pub two_of : Range → List ℕ
 two_of r = r.first ∷ r.past ∷ []

@@ -6,24 +6,20 @@ ghost use Rattle.std.specs.Prelude.{true, ◌≡◌, leb, length};
 ghost use Rattle.dequantize.specs.Coefficients.{inv_adjusted_quant};
 ghost use Rattle.control_points.specs.ControlPoints.{starting_point, valid_point_pos};
 ghost use Rattle.dequantize.specs.Dequantize.{dequantize_of};
-ghost use Rattle.dequantize.specs.Judge.{description_of};
+ghost use Rattle.shape.specs.Description.{description_of, description_in};
 ghost use Rattle.dequantize.specs.Limits.{spline_area_limit};
 ghost use Rattle.walk.specs.Walk.{walk_in, walk_room, walk_length};
 ghost use Rattle.transform.specs.Transform.{sums_of};
 ghost use Rattle.points.specs.Points.{segment_room, add_segments_from_points, FilledOn};
 ghost use Rattle.segments.specs.Segment.{add_segment, segment_at};
 ghost use Rattle.segments.specs.Ranges.{rows_of, columns_of};
-ghost use Rattle.layers.specs.Exported.{ran_of, ran_leaves, traced_from, given_of, dequantized_leaves, dequantized_export, judged_of, told_judged, judged_leaves, refused_with, counted_leaves, counted_path, path_leaves, path_from, curved_from, counted_walk, walked_along, WalkLeft, length_leaves, length_from, spline_of_rows, four_of, eight_in, eight_leaves, two_of, counted_segments, filled_along};
+ghost use Rattle.layers.specs.Exported.{ran_of, ran_leaves, traced_from, given_of, dequantized_leaves, dequantized_export, judged_of, told_judged, judged_leaves, counted_leaves, counted_of, path_leaves, path_from, curved_from, walked_along, WalkLeft, length_leaves, length_from, spline_of_rows, four_of, eight_in, eight_leaves, two_of, counted_segments, filled_along};
 
-use codes::Code;
-use control_points::{Pair, Start, Traced};
-use curve::Curved;
-use dequantize::judge::Judged;
+use codes::{Code, Refusal};
+use control_points::{Pair, Run};
 use dequantize::{Given, Spline};
-use points::Filled;
-use segments::{Added, Range, Segment};
-use transform::Sums;
-use walk::Walked;
+use segments::Segment;
+use shape::Description;
 
 // ---- dequantizing
 
@@ -41,44 +37,14 @@ pub extern "C" fn layers_inv_adjusted_quant(adjustment: i32) -> f32
     dequantize::coefficients::inv_adjusted_quant(adjustment)
 }
 
-// The running state after all double deltas, as numbers: the code's, the last control point, the Manhattan sum.
-#[derive(Clone, Copy)]
-struct Ran {
-    number: u32,
-    x: i32,
-    y: i32,
-    manhattan: u64,
-}
-
-fn ran_on(traced: Traced) -> Ran
-    ensures { result ≡ ran_of traced }
-{
-    match traced {
-        Traced::On(run) => Ran {
-            number: 0,
-            x: run.point.x,
-            y: run.point.y,
-            manhattan: run.manhattan,
-        },
-        Traced::Stop(code) => Ran {
-            number: codes::number_of(code),
-            x: 0,
-            y: 0,
-            manhattan: 0,
-        },
-    }
-}
-
-fn traced_from(start_x: f32, start_y: f32, deltas: &[i32], limit: u64) -> Traced
+fn traced_from(start_x: f32, start_y: f32, deltas: &[i32], limit: u64) -> Result<Run, Code>
     ensures { result ≡ traced_from limit deltas.now (starting_point start_x start_y) }
 {
-    match control_points::starting_point(start_x, start_y) {
-        Start::Out => Traced::Stop(Code::Position),
-        Start::At(start) => control_points::trace(start, deltas, limit),
-    }
+    let start = control_points::starting_point(start_x, start_y).ok_or(Code::Position)?;
+    control_points::trace(start, deltas, limit)
 }
 
-// The last control point of a spline: those before it are had from fewer double deltas.
+// The last control point of a spline and the Manhattan sum, as numbers: those before it are had from fewer double deltas.
 #[unsafe(no_mangle)]
 pub extern "C" fn layers_trace(
     start_x: f32,
@@ -92,13 +58,20 @@ pub extern "C" fn layers_trace(
     ensures { ran_leaves result x.new y.new manhattan.new
         ≡ ran_of (traced_from limit deltas.now (starting_point start_x start_y)) }
 {
-    let ran = ran_on(traced_from(start_x, start_y, deltas, limit));
-    let last_x = ran.x;
-    let last_y = ran.y;
-    *x = last_x;
-    *y = last_y;
-    *manhattan = ran.manhattan;
-    ran.number
+    match traced_from(start_x, start_y, deltas, limit) {
+        Ok(run) => {
+            *x = run.point.x;
+            *y = run.point.y;
+            *manhattan = run.manhattan;
+            0
+        }
+        Err(code) => {
+            *x = 0;
+            *y = 0;
+            *manhattan = 0;
+            u32::from(code)
+        }
+    }
 }
 
 // One spline: its code's number, four rows of coefficients, the estimate, and whether two adjacent control points are the same.
@@ -128,63 +101,43 @@ pub extern "C" fn layers_dequantize(
         y_to_b,
         limit,
     };
-    let spline = dequantize::dequantize(start_x, start_y, deltas, coefficients, given);
-    let row_x = spline.x;
-    let row_y = spline.y;
-    let row_b = spline.b;
-    let row_sigma = spline.sigma;
-    *x = row_x;
-    *y = row_y;
-    *b = row_b;
-    *sigma = row_sigma;
-    *estimate = spline.estimate;
-    *coincide = spline.coincide;
-    let code = spline.code;
-    codes::number_of(code)
-}
-
-// The answer of a judging as numbers: the code's, the place and the summed estimate.
-#[derive(Clone, Copy)]
-struct JudgedTold {
-    number: u32,
-    place: usize,
-    estimate: u64,
-}
-
-fn told_judged(judged: Judged) -> JudgedTold
-    ensures { result ≡ told_judged judged }
-{
-    match judged {
-        Judged::Fine(estimate) => JudgedTold {
-            number: 0,
-            place: 0,
-            estimate,
-        },
-        Judged::Refused(code, place) => JudgedTold {
-            number: codes::number_of(code),
-            place,
-            estimate: 0,
-        },
+    match dequantize::dequantize(start_x, start_y, deltas, coefficients, given) {
+        Ok(spline) => {
+            let row_x = spline.x;
+            let row_y = spline.y;
+            let row_b = spline.b;
+            let row_sigma = spline.sigma;
+            *x = row_x;
+            *y = row_y;
+            *b = row_b;
+            *sigma = row_sigma;
+            *estimate = spline.estimate;
+            *coincide = spline.coincide;
+            0
+        }
+        Err(code) => {
+            *x = [0.0; 32];
+            *y = [0.0; 32];
+            *b = [0.0; 32];
+            *sigma = [0.0; 32];
+            *estimate = 0;
+            *coincide = false;
+            u32::from(code)
+        }
     }
 }
 
 // SHAPE comes before any judging.
-fn judged_of(
-    counts: &[u32],
-    starts: &[f32],
-    deltas: &[i32],
-    coefficients: &[i32],
-    given: Given,
-) -> Judged
-    ensures { result ≡ judged_of (description_of counts.now starts.now deltas.now coefficients.now) given }
+fn judged_of(description: &Description<'_>, given: Given) -> Result<u64, Refusal>
+    ensures { result ≡ judged_of (description_in description.now) given }
 {
-    if !shape::shape_good(counts, starts, deltas, coefficients) {
-        return Judged::Refused(Code::Shape, 0);
+    if !shape::is_shaped(description) {
+        return Err((Code::Shape, 0));
     }
-    dequantize::judge::judge(counts, starts, deltas, coefficients, given)
+    dequantize::judge::judge(description, given)
 }
 
-// All splines of a description.
+// All splines of a description: the code's number, the place and the summed estimate.
 #[unsafe(no_mangle)]
 pub extern "C" fn layers_judge(
     counts: &[u32],
@@ -201,63 +154,66 @@ pub extern "C" fn layers_judge(
     ensures { judged_leaves result place.new estimate.new
         ≡ told_judged (judged_of (description_of counts.now starts.now deltas.now coefficients.now) (given_of adjustment y_to_x y_to_b limit)) }
 {
+    let description = Description {
+        counts,
+        starts,
+        deltas,
+        coefficients,
+    };
     let given = Given {
         adjustment,
         y_to_x,
         y_to_b,
         limit,
     };
-    let answer = told_judged(judged_of(counts, starts, deltas, coefficients, given));
-    *place = answer.place;
-    *estimate = answer.estimate;
-    answer.number
+    match judged_of(&description, given) {
+        Ok(total) => {
+            *place = 0;
+            *estimate = total;
+            0
+        }
+        Err((code, k)) => {
+            *place = k;
+            *estimate = 0;
+            u32::from(code)
+        }
+    }
 }
 
 // ---- the curve and the walk
 
-// The answer of a layer that fills a lent buffer, as numbers: the code's, and how many records there are.
-#[derive(Clone, Copy)]
-struct Counted {
-    number: u32,
-    count: usize,
-}
-
-fn refused_with(code: Code) -> Counted
-    ensures { result ≡ refused_with code }
+// What a layer that fills a lent buffer answers, as numbers: the code's, and how many records there are.
+fn told(counted: Result<usize, Code>, count: &mut usize) -> u32
+    ensures { counted_leaves result count.new ≡ counted_of counted }
 {
-    Counted {
-        number: codes::number_of(code),
-        count: 0,
-    }
-}
-
-fn counted_path(curved: Curved) -> Counted
-    ensures { result ≡ counted_path curved }
-{
-    match curved {
-        Curved::Points(count) => Counted { number: 0, count },
-        Curved::Room => refused_with(Code::Room),
+    match counted {
+        Ok(n) => {
+            *count = n;
+            0
+        }
+        Err(code) => {
+            *count = 0;
+            u32::from(code)
+        }
     }
 }
 
 // The path from a start that is in range: the trace of its control points comes first, at no limit to their distance.
-fn path_from(start: Pair, deltas: &[i32], path: &mut [f32]) -> Counted
+fn path_from(start: Pair, deltas: &[i32], path: &mut [f32]) -> Result<usize, Code>
     requires { valid_point_pos start ≡ true }
-    ensures { path_leaves result path.new ≡ path_from start deltas.now path.old }
+    ensures { path_leaves (counted_of result) path.new ≡ path_from start deltas.now path.old }
 {
     match control_points::trace(start, deltas, 18446744073709551615) {
-        Traced::Stop(code) => refused_with(code),
-        Traced::On(_) => counted_path(curve::curve(start, deltas, path)),
+        Err(code) => Err(code),
+        Ok(_) => curve::curve(start, deltas, path).ok_or(Code::Room),
     }
 }
 
-fn curved_from(start_x: f32, start_y: f32, deltas: &[i32], path: &mut [f32]) -> Counted
-    ensures { path_leaves result path.new ≡ curved_from (starting_point start_x start_y) deltas.now path.old }
+fn curved_from(start_x: f32, start_y: f32, deltas: &[i32], path: &mut [f32]) -> Result<usize, Code>
+    ensures { path_leaves (counted_of result) path.new ≡ curved_from (starting_point start_x start_y) deltas.now path.old }
 {
-    match control_points::starting_point(start_x, start_y) {
-        Start::Out => refused_with(Code::Position),
-        Start::At(start) => path_from(start, deltas, path),
-    }
+    let start = control_points::starting_point(start_x, start_y).ok_or(Code::Position)?;
+    path_from(start, deltas, path)
 }
 
 // The path of a spline: its code's number, and how many points there are.
@@ -271,29 +227,18 @@ pub extern "C" fn layers_curve(
 ) -> u32
     ensures { path_leaves (counted_leaves result count.new) path.new ≡ curved_from (starting_point start_x start_y) deltas.now path.old }
 {
-    let counted = curved_from(start_x, start_y, deltas, path);
-    *count = counted.count;
-    counted.number
-}
-
-fn counted_walk(walked: Walked) -> Counted
-    ensures { result ≡ counted_walk walked }
-{
-    match walked {
-        Walked::Points(count) => Counted { number: 0, count },
-        Walked::Room => refused_with(Code::Room),
-    }
+    told(curved_from(start_x, start_y, deltas, path), count)
 }
 
 // A path has one point or more.
-fn walked_along(path: &[f32], walk: &mut [f32]) -> Counted
-    ensures { (result ≡ walked_along (leb 2 (length path.now)) (walk_in (walk_room (length walk.old)) path.now))
+fn walked_along(path: &[f32], walk: &mut [f32]) -> Result<usize, Code>
+    ensures { (counted_of result ≡ walked_along (leb 2 (length path.now)) (walk_in (walk_room (length walk.old)) path.now))
         × WalkLeft (leb 2 (length path.now)) (walk_in (walk_room (length walk.old)) path.now) walk.old walk.new }
 {
     if path.len() < 2 {
-        return refused_with(Code::Shape);
+        return Err(Code::Shape);
     }
-    counted_walk(walk::walk(path, walk))
+    walk::walk(path, walk).ok_or(Code::Room)
 }
 
 // The walk along a path: its code's number, and how many points there are.
@@ -302,21 +247,17 @@ pub extern "C" fn layers_walk(path: &[f32], walk: &mut [f32], count: &mut usize)
     ensures { (counted_leaves result count.new ≡ walked_along (leb 2 (length path.now)) (walk_in (walk_room (length walk.old)) path.now))
         × WalkLeft (leb 2 (length path.now)) (walk_in (walk_room (length walk.old)) path.now) walk.old walk.new }
 {
-    let counted = walked_along(path, walk);
-    *count = counted.count;
-    counted.number
+    told(walked_along(path, walk), count)
 }
 
 // The length of a walk of n points, by the last one's multiplier, and its code's number: a walk has two points or more, and 2^23 at most.
+#[tactic(auto, unfolding(crate::specs::Exported::length_from))]
 #[unsafe(no_mangle)]
 pub extern "C" fn layers_length_of(n: usize, last: f32, length: &mut f32) -> u32
     ensures { length_leaves result length.new ≡ length_from n last length.old }
 {
-    if n < 2 {
-        return codes::number_of(Code::Shape);
-    }
-    if n > 8388608 {
-        return codes::number_of(Code::Shape);
+    if n < 2 || n > 8388608 {
+        return u32::from(Code::Shape);
     }
     *length = walk::length_of(n, last);
     0
@@ -324,18 +265,11 @@ pub extern "C" fn layers_length_of(n: usize, last: f32, length: &mut f32) -> u32
 
 // ---- the transform
 
-fn four(sums: Sums) -> [f32; 4]
-    ensures { result ≡ four_of sums }
-{
-    [sums.x, sums.y, sums.b, sums.sigma]
-}
-
 // A spline of these rows; its other fields do not enter the sums.
 fn spline_of(x: [f32; 32], y: [f32; 32], b: [f32; 32], sigma: [f32; 32]) -> Spline
     ensures { result ≡ spline_of_rows x y b sigma }
 {
     Spline {
-        code: Code::Done,
         x,
         y,
         b,
@@ -357,45 +291,13 @@ pub extern "C" fn layers_sums_at(
 )
     ensures { sums.new ≡ four_of (sums_of (spline_of_rows x.now y.now b.now sigma.now) t) }
 {
-    let spline = spline_of(*x, *y, *b, *sigma);
-    let numbers = four(transform::sums_at(spline, t));
-    *sums = numbers;
+    let made = transform::sums_at(spline_of(*x, *y, *b, *sigma), t);
+    *sums = [made.x, made.y, made.b, made.sigma];
 }
 
 // ---- segments
 
-// What a point makes, as eight floats; zeros where it makes nothing.
-#[derive(Clone, Copy)]
-struct Eight {
-    made: bool,
-    numbers: [f32; 8],
-}
-
-fn in_eight(added: Added) -> Eight
-    ensures { result ≡ eight_in added }
-{
-    match added {
-        Added::Made(segment) => Eight {
-            made: true,
-            numbers: [
-                segment.center_x,
-                segment.center_y,
-                segment.maximum_distance,
-                segment.inv_sigma,
-                segment.sigma_over_4_times_intensity,
-                segment.color0,
-                segment.color1,
-                segment.color2,
-            ],
-        },
-        Added::Nothing => Eight {
-            made: false,
-            numbers: [0.0; 8],
-        },
-    }
-}
-
-// Whether a point makes a segment, and its eight floats.
+// Whether a point makes a segment, and its eight floats; zeros where it makes none.
 #[unsafe(no_mangle)]
 pub extern "C" fn layers_add_segment(
     center_x: f32,
@@ -410,7 +312,7 @@ pub extern "C" fn layers_add_segment(
 ) -> bool
     ensures { eight_leaves result segment.new ≡ eight_in (add_segment center_x center_y intensity c0 c1 c2 sigma high_precision) }
 {
-    let added = in_eight(segments::add_segment(
+    match segments::add_segment(
         center_x,
         center_y,
         intensity,
@@ -419,16 +321,25 @@ pub extern "C" fn layers_add_segment(
         c2,
         sigma,
         high_precision,
-    ));
-    let numbers = added.numbers;
-    *segment = numbers;
-    added.made
-}
-
-fn two(range: Range) -> [u32; 2]
-    ensures { result ≡ two_of range }
-{
-    [range.first, range.past]
+    ) {
+        Some(made) => {
+            *segment = [
+                made.center_x,
+                made.center_y,
+                made.maximum_distance,
+                made.inv_sigma,
+                made.sigma_over_4_times_intensity,
+                made.color0,
+                made.color1,
+                made.color2,
+            ];
+            true
+        }
+        None => {
+            *segment = [0.0; 8];
+            false
+        }
+    }
 }
 
 // The rows of a segment of eight floats: the first, and one past the last.
@@ -436,8 +347,8 @@ fn two(range: Range) -> [u32; 2]
 pub extern "C" fn layers_rows(segment: &[f32; 8], ends: &mut [u32; 2])
     ensures { ends.new ≡ two_of (rows_of (segment_at segment.now 0)) }
 {
-    let numbers = two(Segment::at(segment, 0).rows());
-    *ends = numbers;
+    let rows = Segment::at(segment, 0).rows();
+    *ends = [rows.first, rows.past];
 }
 
 // The columns of a segment of eight floats: the first, and one past the last.
@@ -445,20 +356,11 @@ pub extern "C" fn layers_rows(segment: &[f32; 8], ends: &mut [u32; 2])
 pub extern "C" fn layers_columns(segment: &[f32; 8], ends: &mut [u32; 2])
     ensures { ends.new ≡ two_of (columns_of (segment_at segment.now 0)) }
 {
-    let numbers = two(Segment::at(segment, 0).columns());
-    *ends = numbers;
+    let columns = Segment::at(segment, 0).columns();
+    *ends = [columns.first, columns.past];
 }
 
 // ---- the segments of a walk
-
-fn counted_segments(filled: Filled) -> Counted
-    ensures { result ≡ counted_segments filled }
-{
-    match filled {
-        Filled::Count(count) => Counted { number: 0, count },
-        Filled::Room => refused_with(Code::Room),
-    }
-}
 
 // No walk has more than 2^23 points.
 fn filled_along(
@@ -467,12 +369,12 @@ fn filled_along(
     walk_length: f32,
     high_precision: bool,
     segments: &mut [f32],
-) -> Filled
+) -> Option<usize>
     ensures { (result ≡ filled_along walk.now (segment_room (length segments.old)) (add_segments_from_points spline walk.now walk_length high_precision))
         × FilledOn result 0 (add_segments_from_points spline walk.now walk_length high_precision) segments.old segments.new }
 {
     if walk.len() / 3 > 8388608 {
-        return Filled::Room;
+        return None;
     }
     points::add_segments_from_points(spline, walk, walk_length, high_precision, segments, 0)
 }
@@ -494,13 +396,6 @@ pub extern "C" fn layers_add_segments_from_points(
         × FilledOn (filled_along walk.now (segment_room (length segments.old)) (add_segments_from_points (spline_of_rows x.now y.now b.now sigma.now) walk.now walk_length high_precision)) 0 (add_segments_from_points (spline_of_rows x.now y.now b.now sigma.now) walk.now walk_length high_precision) segments.old segments.new }
 {
     let spline = spline_of(*x, *y, *b, *sigma);
-    let counted = counted_segments(filled_along(
-        spline,
-        walk,
-        walk_length,
-        high_precision,
-        segments,
-    ));
-    *count = counted.count;
-    counted.number
+    let filled = filled_along(spline, walk, walk_length, high_precision, segments);
+    told(filled.ok_or(Code::Room), count)
 }

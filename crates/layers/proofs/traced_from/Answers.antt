@@ -1,13 +1,8 @@
--- `traced_from` meets its contract, by what the start gave.
-use mathlib.Core.Path.{sym, ◌∙◌}
+-- A start that was not refused is a place.
+use Rattle.std.proofs.Common.{sym, ◌∙◌}
 use Rattle.control_points.proofs.Starts.{start_valid}
+use Rattle.layers.proofs.Turned.{was_at}
 use Rattle.layers.proofs.traced_from.Goals as goal
 
 pub trace-requires : goal.trace-requires
-trace-requires c = start_valid _ _ _ (sym c.starting_point.ensures ∙ c.in-At.is)
-
-pub returns-in-Out : goal.returns-in-Out
-returns-in-Out c = rw (sym c.starting_point.ensures ∙ c.in-Out.is)
-
-pub returns-in-At : goal.returns-in-At
-returns-in-At c = rw (c.trace.ensures, sym c.starting_point.ensures ∙ c.in-At.is)
+trace-requires c = start_valid _ _ _ (sym c.starting_point.ensures ∙ was_at _ _ (sym c.ok_or.ensures.value ∙ c.in_ok-start.was))
