@@ -1,5 +1,4 @@
 -- The laws of the crate `table`.
-pub mod Area
 pub mod Placing
 pub mod InRooms
 pub mod Users

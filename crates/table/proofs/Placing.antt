@@ -10,7 +10,8 @@ use Rattle.codes.specs.declared.Code.{Code}
 use Rattle.buffers.specs.Onto.{onto}
 use Rattle.buffers.proofs.Fronts.{sets_front}
 use Rattle.dequantize.specs.declared.Given.{Given}
-use Rattle.dequantize.specs.declared.judge.Judged.{Judged}
+use Rattle.dequantize.specs.Answers.{Judged}
+use Rattle.dequantize.specs.Answers as Judged
 use Rattle.dequantize.specs.Judge.{Description}
 use Rattle.curve.specs.Curve.{path_room}
 use Rattle.walk.specs.Walk.{walk_room}
@@ -18,7 +19,7 @@ use Rattle.points.specs.Points.{eights}
 use Rattle.points.proofs.Adding.{length_eights}
 use Rattle.owners.specs.Owners.{owned_room}
 use Rattle.painting.specs.Painting.{Painted, All, NoRoomAt, drawn_of, DrawnOn, paint_of}
-use Rattle.painting.specs.declared.Segmented.{Segmented}
+use Rattle.painting.specs.Segmented as Segmented
 use Rattle.rows.specs.Rows.{in_row, listed_rows}
 use Rattle.rows.proofs.Table.{rest_same}
 use Rattle.table.specs.Table.{BuildRooms, BuildOutcome, Setting, rooms_of, given_of, refused_with, after_rows, after_paint, build_of}

@@ -11,7 +11,7 @@ use Rattle.dequantize.specs.Judge.{Description, deltas_of, total_of}
 use Rattle.control_points.specs.Refusals.{Adjacent}
 use Rattle.dequantize.specs.Refusals.{Traces, SplinePasses, points_meet}
 use Rattle.control_points.specs.declared.Pair.{Pair}
-use Rattle.build_answer.specs.declared.BuildAnswer.TheVariants.{Refused}
+use Rattle.build_answer.specs.BuildAnswer.{Refused}
 use Rattle.table.specs.Table.{BuildRooms, Setting, given_of, build_of}
 use Rattle.table.specs.Segments.{Fits}
 use Rattle.table.specs.Refusals.{judged}

@@ -15,7 +15,8 @@ use Rattle.painting.proofs.Segments.{makes_one, makes_owned, drawn_makes, drawn_
 use Rattle.rows.specs.Rows.{in_row, start_of, rows, up_to}
 use Rattle.rows.proofs.Users.{length_up_to}
 use Rattle.faint.specs.Faint.{faint_in}
-use Rattle.build_answer.specs.declared.BuildAnswer.TheVariants.{Done}
+use Rattle.build_answer.specs.BuildAnswer.{Done}
+use Rattle.build_answer.proofs.Ends.{done_same}
 use Rattle.table.specs.Table.{BuildRooms, Setting, BuildOutcome, given_of, refused_with, build_of}
 use Rattle.table.specs.Segments.{entry_total, NeedsMet, done_with, BuildMakes, NoLess, MakesOne, OwnsOne, EnoughIsDone, DoneMakes, MoreRoomNeverRefuses}
 use Rattle.table.proofs.InRooms.{painted}
@@ -39,19 +40,20 @@ unfolding refused_with done_with
 build_makes d i r s e estimate faint h = go (either_way d i r)
   where
     go : Accepts d i r ⊎ Refuses d i r → BuildMakes d i r s e estimate faint
-    go (inr w) = absurd (let z : ◌≡◌ {A = ℕ} 0 1 = cc (sym (ap (λ (t : BuildOutcome). t.answer) (refused d i r w.why)) ∙ h) in omega arith)
+    go (inr w) = absurd (cc (ap (λ (t : BuildOutcome). t.answer) (refused d i r w.why), h))
     go (inl a) =
         let m = met d i r a.segs a.owners a.needs in
         let q : Done (length a.segs) (entry_total i a.segs) (total_of d (given_of i) (length d.counts)) (faint_in (eights a.segs) (length a.segs)) ≡ Done s e estimate faint = sym (ap (λ (t : BuildOutcome). t.answer) m) ∙ h in
+        let same = done_same _ _ _ _ s e estimate faint q in
         record {
           segs = a.segs;
           owners = a.owners;
           makes = drawn_makes d (given_of i) i.high a.needs.drawn;
           needs = a.needs;
-          count = cc;
-          entry_count_lem = cc;
-          estimated = cc;
-          faint_count = cc;
+          count = same.segments;
+          entry_count_lem = same.entries;
+          estimated = same.estimate;
+          faint_count = same.faint;
           numbers = ap (λ (t : BuildOutcome). t.segments) m;
           leaves_them = m;
         }

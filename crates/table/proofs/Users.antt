@@ -10,8 +10,10 @@ use lib.Dec.{leb}
 use lib.ListN.{length}
 use borrow.Author.Tests.{leb-true, leb-false, le-leb, lt-leb}
 use Rattle.codes.specs.declared.Code.{Code}
+use Rattle.codes.proofs.Refusals.{same_refusal}
 use Rattle.shape.proofs.Shape as Shape
-use Rattle.dequantize.specs.declared.judge.Judged.{Judged}
+use Rattle.dequantize.specs.Answers.{Judged}
+use Rattle.dequantize.specs.Answers as Judged
 use Rattle.dequantize.specs.Judge.{Description, Shaped, total_of, judge_of}
 use Rattle.dequantize.specs.Refusals.{AllPass}
 use Rattle.dequantize.proofs.Refusals.{fine_all, all_fine, judged_exactly}
@@ -22,7 +24,7 @@ use Rattle.painting.specs.Segments.{DrawnUpTo}
 use Rattle.painting.proofs.Segments.{all_exactly, room_exactly}
 use Rattle.rows.specs.Rows.{in_row}
 use Rattle.rows.proofs.Users.{room_when, table_when, either}
-use Rattle.build_answer.specs.declared.BuildAnswer.TheVariants.{Refused}
+use Rattle.build_answer.specs.BuildAnswer.{Refused}
 use Rattle.table.specs.Table.{BuildRooms, Setting, BuildOutcome, given_of, refused_with, after_rows, after_paint, after_judge, build_of}
 use Rattle.verdict.specs.Verdict.{sized, shaped, verdict_of}
 use Rattle.table.specs.Segments.{entry_total, Fits, NeedsMet, done_with}
@@ -134,7 +136,7 @@ module _ (d : Description) (i : Setting) (r : BuildRooms) where
       inside w false s t h = inr (record {
         code = Code.Shape;
         place = 0;
-        why = shape (leb-true i.width (2 ^ 23) w.0) (leb-true i.height (2 ^ 23) w.1) (λ k. let z : ◌≡◌ {A = ℕ} 0 1 = cc (sym (is_shaped d k) ∙ s) in omega arith);
+        why = shape (leb-true i.width (2 ^ 23) w.0) (leb-true i.height (2 ^ 23) w.1) (λ k. cc (is_shaped d k, s));
       })
       inside w true s false h = inr (record {
         code = Code.Room;
@@ -156,12 +158,11 @@ module _ (d : Description) (i : Setting) (r : BuildRooms) where
   given c p e = go either_way
     where
       go : Accepts ⊎ Refuses → BuildRefusal d i r c p
-      go (inl a) = absurd (let z : ◌≡◌ {A = ℕ} 0 1 = cc (sym (ap (λ (t : BuildOutcome). t.answer) (met a.segs a.owners a.needs)) ∙ e) in omega arith)
+      go (inl a) = absurd (cc (ap (λ (t : BuildOutcome). t.answer) (met a.segs a.owners a.needs), e))
       go (inr w) =
           let q : Refused w.code w.place ≡ Refused c p = sym (ap (λ (t : BuildOutcome). t.answer) (refused w.why)) ∙ e in
-          let a : w.code ≡ c = cc in
-          let b : w.place ≡ p = cc in
-          rw (← a, ← b) w.why
+          let same = same_refusal q in
+          rw (← same.0, ← same.1) w.why
 
   -- a code is given exactly when its line of the table says
   pub refused_exactly : (c : Code) (p : ℕ) → ((build_of d i r).answer ≡ Refused c p) ↔ BuildRefusal d i r c p

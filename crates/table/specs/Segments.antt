@@ -10,7 +10,7 @@ use Rattle.points.specs.Points.{eights}
 use Rattle.painting.specs.Segments.{MakesUpTo, DrawnUpTo, Suffices}
 use Rattle.rows.specs.Rows.{in_row, start_of, rows, up_to}
 use Rattle.faint.specs.Faint.{faint_in}
-use Rattle.build_answer.specs.declared.BuildAnswer.TheVariants.{Done}
+use Rattle.build_answer.specs.BuildAnswer.{Done}
 use Rattle.table.specs.Table.{Setting, BuildRooms, BuildOutcome, given_of, leaves, zeros, build_of}
 
 -- the segments of a description with their owners: those of its splines, in their order, and the number of each one's spline

@@ -2,7 +2,9 @@
 use Rattle.std.specs.Prelude.{Bool, ℕ, ◌*◌, ℤ, length, Float}
 use Rattle.codes.specs.declared.Code.TheVariants as Code
 use Rattle.dequantize.specs.declared.Given.{Given}
-use Rattle.dequantize.specs.declared.judge.Judged.{Judged}
+use Rattle.dequantize.specs.Answers.{Judged}
+use Rattle.dequantize.specs.Answers as Judged
+use Rattle.table.specs.declared.Setting as Declared
 use Rattle.dequantize.specs.Limits.{spline_area_limit}
 use Rattle.dequantize.specs.Judge.{Description}
 use Rattle.verdict.specs.Verdict.{verdict_of}
@@ -37,6 +39,10 @@ setting_of adjustment width height ytox ytob high level10 = record {
   high = high;
   level10 = level10;
 }
+
+-- the setting that a value of the Rust type holds
+abbrev pub setting_in : Declared.Setting → Setting
+setting_in s = setting_of s.adjustment s.width s.height s.y_to_x s.y_to_b s.high_precision s.level10
 
 abbrev pub given_of : Setting → Given
 given_of i = record { adjustment = i.adjustment; y_to_x = i.ytox; y_to_b = i.ytob; limit = spline_area_limit i.level10 (i.width * i.height) }
