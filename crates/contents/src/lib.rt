@@ -4,14 +4,14 @@
 mod short;
 mod telling;
 
-pub use short::{Tried, tell_list, tell_trace};
+pub use short::{tell_list, tell_trace};
 pub use telling::say;
 
 // The usual configured limit.
 pub const CONFIGURED: u32 = 1048576;
 
 // What a description was read from: a list of so many values, or a trace file of so many bytes and its edition.
-#[derive(Clone, Copy)]
+#[derive(Clone, Copy, Debug, PartialEq, Eq)]
 pub enum Source {
     List(usize),
     File(usize, u32),

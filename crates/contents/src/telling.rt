@@ -1,61 +1,44 @@
 // What a description holds, in words.
-ghost use Rattle.std.specs.Prelude.{◌≤◌};
-
 use crate::Source;
 use std::io::Stdout;
+use words::{Failure, out};
 
-fn say_counts(to: Stdout, source: Source, splines: u64, points: u64, adjustment: i32) -> u8
-    ensures { result ≤ 3 }
-{
-    let packed = list::pack_signed(adjustment) as u64;
+fn say_counts(
+    to: Stdout,
+    source: Source,
+    splines: usize,
+    points: usize,
+    adjustment: i32,
+) -> Result<(), Failure> {
     match source {
-        Source::List(values) => words::out(
+        Source::List(values) => out(
             to,
-            b"# values: # splines, # points, adjustment ~\n",
-            &[values as u64, splines, points, packed],
+            format_args!(
+                "{values} values: {splines} splines, {points} points, adjustment {adjustment}\n"
+            ),
         ),
-        Source::File(bytes, edition) => words::out(
+        Source::File(bytes, edition) => out(
             to,
-            b"# bytes: # splines, # points, adjustment ~, edition #\n",
-            &[bytes as u64, splines, points, packed, edition as u64],
+            format_args!(
+                "{bytes} bytes: {splines} splines, {points} points, adjustment {adjustment}, edition {edition}\n"
+            ),
         ),
     }
 }
 
-// A coordinate, as the value that a list holds for it.
-fn packed(v: f32) -> u64 {
-    list::pack_signed(kinds::saturating_f32_to_i32(v)) as u64
-}
-
-fn say_spline(to: Stdout, k: usize, x: f32, y: f32, points: u32) -> u8
-    ensures { result ≤ 3 }
-{
-    words::out(
+fn say_spline(to: Stdout, k: usize, start: &[f32], points: u32) -> Result<(), Failure> {
+    let &[x, y] = start else {
+        return Ok(());
+    };
+    let x = kinds::saturating_f32_to_i32(x);
+    let y = kinds::saturating_f32_to_i32(y);
+    out(
         to,
-        b"spline # starts at ~, ~ and has # points\n",
-        &[k as u64, packed(x), packed(y), points as u64],
+        format_args!("spline {k} starts at {x}, {y} and has {points} points\n"),
     )
 }
 
-// Each spline; the status so far.
-fn say_splines(to: Stdout, counts: &[u32], starts: &[f32]) -> u8
-    ensures { result ≤ 3 }
-{
-    let mut k: usize = 0;
-    while k < counts.len() {
-        if starts.len() / 2 <= k {
-            return 0;
-        }
-        let status = say_spline(to, k, starts[2 * k], starts[2 * k + 1], counts[k]);
-        if status != 0 {
-            return status;
-        }
-        k += 1;
-    }
-    0
-}
-
-// What a description holds, in words; the status.
+// What a description holds, in words.
 pub fn say(
     to: Stdout,
     counts: &[u32],
@@ -63,12 +46,12 @@ pub fn say(
     points: usize,
     adjustment: i32,
     source: Source,
-) -> u8
-    ensures { result ≤ 3 }
+) -> Result<(), Failure>
+    ensures { Unit {0} }
 {
-    let status = say_counts(to, source, counts.len() as u64, points as u64, adjustment);
-    if status != 0 {
-        return status;
+    say_counts(to, source, counts.len(), points, adjustment)?;
+    for (k, (&points, start)) in counts.iter().zip(starts.chunks_exact(2)).enumerate() {
+        say_spline(to, k, start, points)?;
     }
-    say_splines(to, counts, starts)
+    Ok(())
 }

@@ -7,42 +7,34 @@ ghost use Rattle.std.specs.Prelude.{◌≡◌};
 
 use codes::Code;
 use segments::Segment;
-use table::BuildAnswer;
+use shape::Description;
+use table::Setting;
+use words::{Failure, wrong};
 
-// How many segments are drawn, or the spline that has no room.
-#[derive(Clone, Copy)]
-enum Counted {
-    Count(u32),
-    Short(usize),
-}
-
-// A description drawn in this precision, and its rows left out.
+// A description drawn in this precision, and its rows left out: how many segments it has, or the spline that has no room.
 fn draw_all(
-    counts: &[u32],
-    starts: &[f32],
-    deltas: &[i32],
-    coefficients: &[i32],
+    description: &Description<'_>,
     adjustment: i32,
-    high: bool,
+    high_precision: bool,
     path: &mut [f32],
     walk: &mut [f32],
     segments: &mut [f32],
     owners: &mut [u64],
-) -> Counted {
+) -> Result<u32, usize> {
     let mut row_starts = [0u32; 1];
     let mut entries = [0u32; 1];
-    match table::build(
-        counts,
-        starts,
-        deltas,
-        coefficients,
+    let setting = Setting {
         adjustment,
-        0,
-        0,
-        0.0,
-        1.0,
-        high,
-        true,
+        width: 0,
+        height: 0,
+        y_to_x: 0.0,
+        y_to_b: 1.0,
+        high_precision,
+        level10: true,
+    };
+    match table::build(
+        description,
+        setting,
         path,
         walk,
         segments,
@@ -50,197 +42,131 @@ fn draw_all(
         &mut row_starts,
         &mut entries,
     ) {
-        BuildAnswer::Refused(_, k) => Counted::Short(k),
-        BuildAnswer::Done(count, _, _, _) => Counted::Count(count),
+        Ok(built) => Ok(built.segments),
+        Err((_, k)) => Err(k),
     }
 }
 
 // How many rows of the image a segment has.
-fn rows_of(segments: &[f32], i: usize, height: u32) -> u64 {
-    if segments.len() / 8 <= i {
+fn rows_of(segments: &[f32], i: u32, height: u32) -> u64 {
+    let at = i as usize;
+    if segments.len() / 8 <= at {
         return 0;
     }
-    let range = Segment::at(segments, i).rows();
-    let first = range.first;
-    let past = if range.past < height {
-        range.past
-    } else {
-        height
-    };
-    if past < first {
-        0
-    } else {
-        (past - first) as u64
-    }
+    let rows = Segment::at(segments, at).rows();
+    u64::from(rows.past.min(height).saturating_sub(rows.first))
 }
 
 // The entries that the rows of so many segments need.
 fn entries_of(segments: &[f32], count: u32, height: u32) -> u64 {
     let mut sum: u64 = 0;
-    let mut i: u32 = 0;
-    while i < count {
-        sum = numbers::saturating_add(sum, rows_of(segments, i as usize, height));
-        i += 1;
+    for i in 0..count {
+        sum = sum.saturating_add(rows_of(segments, i, height));
     }
     sum
 }
 
 // The double deltas before the spline k, two numbers a point, as far as a list that was read has them.
 fn deltas_before(counts: &[u32], k: usize) -> usize {
-    let mut at: u64 = 0;
-    let mut i: usize = 0;
-    while i < k {
-        if counts.len() <= i {
-            return at as usize;
-        }
-        at = numbers::saturating_add(at, twice(counts[i]));
-        i += 1;
+    let mut at: usize = 0;
+    for &count in counts.iter().take(k) {
+        at = at.saturating_add(2 * count as usize);
     }
-    at as usize
+    at
 }
 
-fn twice(n: u32) -> u64 {
-    2 * (n as u64)
+// The description from the spline k on.
+fn from_spline<'a>(description: &Description<'a>, k: usize) -> Option<Description<'a>> {
+    let at = deltas_before(description.counts, k);
+    if description.counts.len() <= k
+        || description.starts.len() / 2 <= k
+        || description.deltas.len() < at
+        || description.coefficients.len() / 128 <= k
+    {
+        return None;
+    }
+    Some(Description {
+        counts: &description.counts[k..],
+        starts: &description.starts[2 * k..],
+        deltas: &description.deltas[at..],
+        coefficients: &description.coefficients[128 * k..],
+    })
 }
 
 // A spline of n points has a path of 16 n + 1.
-fn say_path(k: usize, n: u32) -> u8
-    ensures { result ≡ 1 }
+fn of_path(k: usize, n: u32) -> Failure
+    ensures { result ≡ Failure.Refused }
 {
-    words::wrong(
-        1,
-        b"refused: ROOM (7) at spline #: its path has # points, and this program has room for 65536\n",
-        &[k as u64, 16 * (n as u64) + 1],
+    let points = 16 * u64::from(n) + 1;
+    wrong(
+        Failure::Refused,
+        format_args!(
+            "refused: ROOM (7) at spline {k}: its path has {points} points, and this program has room for 65536\n"
+        ),
     )
 }
 
-fn say_walk(k: usize) -> u8
-    ensures { result ≡ 1 }
+fn of_walk(k: usize) -> Failure
+    ensures { result ≡ Failure.Refused }
 {
-    words::wrong(
-        1,
-        b"refused: ROOM (7) at spline #: its walk has more points than this program has room for, 65536\n",
-        &[k as u64],
+    wrong(
+        Failure::Refused,
+        format_args!(
+            "refused: ROOM (7) at spline {k}: its walk has more points than this program has room for, 65536\n"
+        ),
     )
 }
 
-fn say_segments(k: usize) -> u8
-    ensures { result ≡ 1 }
+fn of_segments(k: usize) -> Failure
+    ensures { result ≡ Failure.Refused }
 {
-    words::wrong(
-        1,
-        b"refused: ROOM (7) at spline #: with it there are more segments than this program has room for, 1048576\n",
-        &[k as u64],
+    wrong(
+        Failure::Refused,
+        format_args!(
+            "refused: ROOM (7) at spline {k}: with it there are more segments than this program has room for, 1048576\n"
+        ),
     )
 }
 
-fn say_entries(needed: u64) -> u8
-    ensures { result ≡ 1 }
+fn of_entries(needed: u64) -> Failure
+    ensures { result ≡ Failure.Refused }
 {
-    words::wrong(
-        1,
-        b"refused: ROOM (7) at spline 0: the rows of all splines have # entries, and this program has room for 16777216\n",
-        &[needed],
+    wrong(
+        Failure::Refused,
+        format_args!(
+            "refused: ROOM (7) at spline 0: the rows of all splines have {needed} entries, and this program has room for 16777216\n"
+        ),
     )
 }
 
-// The spline k was drawn as the first of all: where it has no room then either, its walk is too long, else the segments are too many.
-fn say_drawn(drawn: Counted, k: usize) -> u8
-    ensures { result ≡ 1 }
-{
-    match drawn {
-        Counted::Count(_) => say_segments(k),
-        Counted::Short(first) => if first == 0 {
-            say_walk(k)
-        } else {
-            say_segments(k)
-        },
-    }
-}
-
-// The first spline of these, which is the spline k of all and has n points, has no room: its path, which its points tell, its walk, which it then has no room for as the first of all either, or the segments.
-fn say_first(
-    counts: &[u32],
-    starts: &[f32],
-    deltas: &[i32],
-    coefficients: &[i32],
-    adjustment: i32,
-    k: usize,
-    n: u32,
-    path: &mut [f32],
-    walk: &mut [f32],
-    segments: &mut [f32],
-    owners: &mut [u64],
-) -> u8
-    ensures { result ≡ 1 }
-{
-    if 4095 < n {
-        return say_path(k, n);
-    }
-    let drawn = draw_all(
-        counts,
-        starts,
-        deltas,
-        coefficients,
-        adjustment,
-        false,
-        path,
-        walk,
-        segments,
-        owners,
-    );
-    say_drawn(drawn, k)
-}
-
-// The spline k has no room.
-fn say_spline(
-    counts: &[u32],
-    starts: &[f32],
-    deltas: &[i32],
-    coefficients: &[i32],
+// The spline k has no room: its path, which its points tell; its walk, which then has no room as the first of all either; or the segments.
+fn of_spline(
+    description: &Description<'_>,
     adjustment: i32,
     k: usize,
     path: &mut [f32],
     walk: &mut [f32],
     segments: &mut [f32],
     owners: &mut [u64],
-) -> u8
-    ensures { result ≡ 1 }
+) -> Failure
+    ensures { result ≡ Failure.Refused }
 {
-    let at = deltas_before(counts, k);
-    if counts.len() <= k {
-        return refusals::of_building(Code::Room, k);
+    let Some(rest) = from_spline(description, k) else {
+        return refusals::of_building((Code::Room, k));
+    };
+    match rest.counts.first() {
+        Some(&n) if 4095 < n => return of_path(k, n),
+        _ => {}
     }
-    if starts.len() / 2 <= k {
-        return refusals::of_building(Code::Room, k);
+    match draw_all(&rest, adjustment, false, path, walk, segments, owners) {
+        Err(0) => of_walk(k),
+        _ => of_segments(k),
     }
-    if deltas.len() < at {
-        return refusals::of_building(Code::Room, k);
-    }
-    if coefficients.len() / 128 <= k {
-        return refusals::of_building(Code::Room, k);
-    }
-    say_first(
-        &counts[k..],
-        &starts[2 * k..],
-        &deltas[at..],
-        &coefficients[128 * k..],
-        adjustment,
-        k,
-        counts[k],
-        path,
-        walk,
-        segments,
-        owners,
-    )
 }
 
-// Which room of the program was too short for a description that was refused for ROOM; the status of a refusal.
-pub fn say(
-    counts: &[u32],
-    starts: &[f32],
-    deltas: &[i32],
-    coefficients: &[i32],
+// Which room of the program was too short for a description that was refused for ROOM.
+pub fn of_room(
+    description: &Description<'_>,
     adjustment: i32,
     height: u32,
     high: bool,
@@ -248,33 +174,11 @@ pub fn say(
     walk: &mut [f32],
     segments: &mut [f32],
     owners: &mut [u64],
-) -> u8
-    ensures { result ≡ 1 }
+) -> Failure
+    ensures { result ≡ Failure.Refused }
 {
-    match draw_all(
-        counts,
-        starts,
-        deltas,
-        coefficients,
-        adjustment,
-        high,
-        path,
-        walk,
-        segments,
-        owners,
-    ) {
-        Counted::Count(count) => say_entries(entries_of(segments, count, height)),
-        Counted::Short(k) => say_spline(
-            counts,
-            starts,
-            deltas,
-            coefficients,
-            adjustment,
-            k,
-            path,
-            walk,
-            segments,
-            owners,
-        ),
+    match draw_all(description, adjustment, high, path, walk, segments, owners) {
+        Ok(count) => of_entries(entries_of(segments, count, height)),
+        Err(k) => of_spline(description, adjustment, k, path, walk, segments, owners),
     }
 }
