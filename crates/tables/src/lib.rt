@@ -1,12 +1,12 @@
 // The table of a description, built in fixed rooms, and what is asked of it.
 #![tactic(auto)]
 
-ghost use Rattle.std.specs.Prelude.{◌≤◌};
-ghost use Rattle.tables.specs.Builds.{built_status};
-
 use canvas::Task;
+use checks::Table;
 use codes::Code;
-use table::BuildAnswer;
+use shape::Description;
+use table::Setting;
+use words::Undone;
 
 // Rooms that are soon cleared and hold most tables: of 8192 points of a path and 16384 of a walk, for 49152 segments with their owners.
 const SHORT_PATH: usize = 16384;
@@ -33,29 +33,9 @@ const ENTRIES: usize = 16777216;
 // For 16384 rows.
 const ROW_STARTS: usize = 16385;
 
-// The status; or the rooms are too short for the table.
-#[derive(Clone, Copy)]
-pub enum Built {
-    Status(u8),
-    Room,
-}
-
-// ROOM, or the status of another refusal.
-fn refuse(code: Code, place: usize) -> Built
-    ensures { built_status result ≤ 3 }
-{
-    if codes::number_of(code) == 7 {
-        return Built::Room;
-    }
-    Built::Status(refusals::of_building(code, place))
-}
-
 // In lent rooms. X gains nothing of Y and B all of it, as usual; the precision that is asked for, and the lesser area limit.
 fn build_in(
-    counts: &[u32],
-    starts: &[f32],
-    deltas: &[i32],
-    coefficients: &[i32],
+    description: &Description<'_>,
     adjustment: i32,
     task: Task<'_>,
     path: &mut [f32],
@@ -64,24 +44,19 @@ fn build_in(
     owners: &mut [u64],
     row_starts: &mut [u32],
     entries: &mut [u32],
-) -> Built
-    ensures { built_status result ≤ 3 }
-{
-    let width = task.width;
-    let height = task.height;
-    let high = task.high;
-    match table::build(
-        counts,
-        starts,
-        deltas,
-        coefficients,
+) -> Result<(), Undone> {
+    let setting = Setting {
         adjustment,
-        width,
-        height,
-        0.0,
-        1.0,
-        high,
-        false,
+        width: task.width,
+        height: task.height,
+        y_to_x: 0.0,
+        y_to_b: 1.0,
+        high_precision: task.high,
+        level10: false,
+    };
+    let built = match table::build(
+        description,
+        setting,
         path,
         walk,
         segments,
@@ -89,28 +64,25 @@ fn build_in(
         row_starts,
         entries,
     ) {
-        BuildAnswer::Refused(code, place) => refuse(code, place),
-        BuildAnswer::Done(made, listed, estimate, faint) => Built::Status(showing::perform(
-            segments,
-            owners,
-            made,
-            entries,
-            listed,
-            row_starts,
-            counts.len(),
-            estimate,
-            faint,
-            task,
-        )),
-    }
+        Ok(built) => built,
+        Err((Code::Room, _)) => return Err(Undone::Left),
+        Err(refusal) => return Err(refusals::of_building(refusal).into()),
+    };
+    let table = Table {
+        segments,
+        segment_count: built.segments,
+        entries,
+        entry_count: built.entries,
+        row_starts,
+        height: task.height,
+    };
+    showing::perform(&table, owners, description.counts.len(), built, task)?;
+    Ok(())
 }
 
-// Rooms are lent as arrays: the length of each is then known by its type, and no proof counts its cells.
+// Rooms are lent as arrays: the length of each is then known by its type, and no proof counts its cells. Tried with const parameters for the lengths: the proof that arrays of such lengths have a size did not close.
 fn build_short(
-    counts: &[u32],
-    starts: &[f32],
-    deltas: &[i32],
-    coefficients: &[i32],
+    description: &Description<'_>,
     adjustment: i32,
     task: Task<'_>,
     path: &mut [f32; SHORT_PATH],
@@ -119,14 +91,9 @@ fn build_short(
     owners: &mut [u64; SHORT_OWNERS],
     row_starts: &mut [u32; ROW_STARTS],
     entries: &mut [u32; SHORT_ENTRIES],
-) -> Built
-    ensures { built_status result ≤ 3 }
-{
+) -> Result<(), Undone> {
     build_in(
-        counts,
-        starts,
-        deltas,
-        coefficients,
+        description,
         adjustment,
         task,
         path,
@@ -139,10 +106,7 @@ fn build_short(
 }
 
 fn build_long(
-    counts: &[u32],
-    starts: &[f32],
-    deltas: &[i32],
-    coefficients: &[i32],
+    description: &Description<'_>,
     adjustment: i32,
     task: Task<'_>,
     path: &mut [f32; PATH],
@@ -151,14 +115,9 @@ fn build_long(
     owners: &mut [u64; OWNERS],
     row_starts: &mut [u32; ROW_STARTS],
     entries: &mut [u32; ENTRIES],
-) -> Built
-    ensures { built_status result ≤ 3 }
-{
+) -> Result<(), Undone> {
     build_in(
-        counts,
-        starts,
-        deltas,
-        coefficients,
+        description,
         adjustment,
         task,
         path,
@@ -171,16 +130,7 @@ fn build_long(
 }
 
 // What is asked of a table that is built in the short rooms.
-fn in_short(
-    counts: &[u32],
-    starts: &[f32],
-    deltas: &[i32],
-    coefficients: &[i32],
-    adjustment: i32,
-    task: Task<'_>,
-) -> Built
-    ensures { built_status result ≤ 3 }
-{
+fn in_short(description: &Description<'_>, adjustment: i32, task: Task<'_>) -> Result<(), Undone> {
     let mut path = [0.0f32; SHORT_PATH];
     let mut walk = [0.0f32; SHORT_WALK];
     let mut segments = [0.0f32; SHORT_SEGMENTS];
@@ -188,10 +138,7 @@ fn in_short(
     let mut row_starts = [0u32; ROW_STARTS];
     let mut entries = [0u32; SHORT_ENTRIES];
     build_short(
-        counts,
-        starts,
-        deltas,
-        coefficients,
+        description,
         adjustment,
         task,
         &mut path,
@@ -204,16 +151,7 @@ fn in_short(
 }
 
 // What is asked of a table that is built in the long rooms.
-fn in_long(
-    counts: &[u32],
-    starts: &[f32],
-    deltas: &[i32],
-    coefficients: &[i32],
-    adjustment: i32,
-    task: Task<'_>,
-) -> Built
-    ensures { built_status result ≤ 3 }
-{
+fn in_long(description: &Description<'_>, adjustment: i32, task: Task<'_>) -> Result<(), Undone> {
     let mut path = [0.0f32; PATH];
     let mut walk = [0.0f32; WALK];
     let mut segments = [0.0f32; SEGMENTS];
@@ -221,10 +159,7 @@ fn in_long(
     let mut row_starts = [0u32; ROW_STARTS];
     let mut entries = [0u32; ENTRIES];
     build_long(
-        counts,
-        starts,
-        deltas,
-        coefficients,
+        description,
         adjustment,
         task,
         &mut path,
@@ -236,20 +171,12 @@ fn in_long(
     )
 }
 
-// What is asked of the table of a description.
-pub fn build(
-    counts: &[u32],
-    starts: &[f32],
-    deltas: &[i32],
-    coefficients: &[i32],
-    adjustment: i32,
-    task: Task<'_>,
-) -> Built
-    ensures { built_status result ≤ 3 }
+// What is asked of the table of a description, in the short rooms, or in the long ones where those are too short.
+pub fn build(description: &Description<'_>, adjustment: i32, task: Task<'_>) -> Result<(), Undone>
+    ensures { Unit {0} }
 {
-    let built = in_short(counts, starts, deltas, coefficients, adjustment, task);
-    let Built::Room = built else {
-        return built;
-    };
-    in_long(counts, starts, deltas, coefficients, adjustment, task)
+    match in_short(description, adjustment, task) {
+        Err(Undone::Left) => in_long(description, adjustment, task),
+        done => done,
+    }
 }

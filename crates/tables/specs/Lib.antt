@@ -1,2 +1,0 @@
--- The definitions of the crate `tables`.
-pub mod Builds
