@@ -1,30 +1,21 @@
 // `gauge svg out`: a whole drawing in an open file, a polyline a trace.
 #![tactic(auto)]
 
-ghost use Rattle.std.specs.Prelude.{◌≡◌, ◌≤◌};
+ghost use Rattle.std.specs.Prelude.{◌≡◌};
 ghost use Rattle.drawing.specs.Thickness.{mean_sigma, hundredths_of};
 
 use dequantize::coefficients::inv_adjusted_quant;
+use shape::Description;
 use std::fs::File;
 use std::io::{Error, Stdout, Write};
-use writer::WriteAnswer;
+use words::{Failure, out, tell};
 
 // The text of a spline that has all the points that this program has room for: a pair takes 17 bytes at most, and one parts it from the next.
 const TEXT: usize = 18874386;
 
-// The status, after a line that says why the file could not be written.
-fn unwritten(why: Error) -> u8
-    ensures { result ≤ 3 }
-{
-    words::fail(b"the drawing", why);
-    1
-}
-
-// The bytes that the text of a spline with so many points takes at most.
-fn room_of(points: u32) -> usize
-    ensures { result ≤ 77309411328 }
-{
-    18 * (points as usize + 1)
+// How a command fails that could not write the drawing.
+fn no_drawing(why: Error) -> Failure {
+    words::fail(Failure::Refused, b"the drawing", why)
 }
 
 // The mean of sigma along a trace, by its first sigma coefficient.
@@ -53,152 +44,89 @@ fn sigma_of(coefficients: &[i32], k: usize) -> i32 {
 
 // Writes a polyline with this text of points.
 fn line(mut file: &File, k: usize, hundredths: u64, text: &[u8]) -> std::io::Result<()> {
-    words::tell(
+    let pixels = hundredths / 100;
+    let rest = hundredths % 100;
+    tell(
         file,
-        b"<polyline id=\"trace-#\" fill=\"none\" stroke=\"black\" stroke-linejoin=\"round\" stroke-width=\"#.##\" points=\"",
-        &[
-            k as u64,
-            hundredths / 100,
-            hundredths / 10 % 10,
-            hundredths % 10,
-        ],
+        format_args!(
+            "<polyline id=\"trace-{k}\" fill=\"none\" stroke=\"black\" stroke-linejoin=\"round\" stroke-width=\"{pixels}.{rest:02}\" points=\""
+        ),
     )?;
     file.write_all(text)?;
     file.write_all(b"\"/>\n")
 }
 
-// The first n bytes are the text of points.
-fn line_first(file: &File, k: usize, hundredths: u64, text: &[u8], n: usize) -> u8
-    ensures { result ≤ 3 }
-{
-    if text.len() < n {
-        return 1;
-    }
-    if let Err(why) = line(file, k, hundredths, &text[0..n]) {
-        return unwritten(why);
-    }
-    0
-}
-
 // Trace k, with room for its text of points.
 fn trace(
-    counts: &[u32],
-    starts: &[f32],
-    deltas: &[i32],
-    coefficients: &[i32],
+    description: &Description<'_>,
     adjustment: i32,
     k: usize,
     file: &File,
     text: &mut [u8],
-) -> u8
-    ensures { result ≤ 3 }
-{
-    let hundredths = thickness(mean_sigma(sigma_of(coefficients, k), adjustment));
-    match polyline_write::points_write(counts, starts, deltas, coefficients, k, text) {
-        WriteAnswer::Refused(code, place) => refusals::of_building(code, place),
-        WriteAnswer::Done(n) => line_first(file, k, hundredths, text, n),
-    }
+) -> Result<(), Failure> {
+    let sigma = sigma_of(description.coefficients, k);
+    let hundredths = thickness(mean_sigma(sigma, adjustment));
+    let n = polyline_write::points_write(description, k, text).map_err(
+        |refusal| refusals::of_building(refusal),
+    )?;
+    let points = text.get(..n).ok_or(Failure::Refused)?;
+    line(file, k, hundredths, points).map_err(no_drawing)
 }
 
-// Every trace; the status so far.
+// Every trace.
 fn traces(
-    counts: &[u32],
-    starts: &[f32],
-    deltas: &[i32],
-    coefficients: &[i32],
+    description: &Description<'_>,
     adjustment: i32,
     file: &File,
     text: &mut [u8],
-) -> u8
-    ensures { result ≤ 3 }
-{
-    let mut k = 0;
-    while k < counts.len() {
-        let room = room_of(counts[k]);
-        if text.len() < room {
-            return 1;
-        }
-        let status = trace(
-            counts,
-            starts,
-            deltas,
-            coefficients,
-            adjustment,
-            k,
-            file,
-            &mut text[0..room],
-        );
-        if status != 0 {
-            return status;
-        }
-        k += 1;
+) -> Result<(), Failure> {
+    for (k, &points) in description.counts.iter().enumerate() {
+        let room = 18 * (points as usize + 1);
+        let text = text.get_mut(..room).ok_or(Failure::Refused)?;
+        trace(description, adjustment, k, file, text)?;
     }
-    0
+    Ok(())
 }
 
 // In this program the pixel in column x and row y has its centre at x, y; in a drawing a pixel begins there. So the drawing begins half a pixel before.
 fn begin(file: &File, width: u32, height: u32) -> std::io::Result<()> {
-    words::tell(file, b"<?xml version=\"1.0\" encoding=\"UTF-8\"?>\n", &[])?;
-    words::tell(
+    tell(file, "<?xml version=\"1.0\" encoding=\"UTF-8\"?>\n")?;
+    tell(
         file,
-        b"<svg xmlns=\"http://www.w3.org/2000/svg\" width=\"#\" height=\"#\" viewBox=\"-0.5 -0.5 # #\">\n",
-        &[width as u64, height as u64, width as u64, height as u64],
+        format_args!(
+            "<svg xmlns=\"http://www.w3.org/2000/svg\" width=\"{width}\" height=\"{height}\" viewBox=\"-0.5 -0.5 {width} {height}\">\n"
+        ),
     )
 }
 
 // The drawing of a description in an image of this size, each text of points in a room first. The room is lent as an array: its length is then known by its type, and no proof counts its cells.
 fn write_in(
-    counts: &[u32],
-    starts: &[f32],
-    deltas: &[i32],
-    coefficients: &[i32],
+    description: &Description<'_>,
     adjustment: i32,
     width: u32,
     height: u32,
     to: Stdout,
     mut file: &File,
     text: &mut [u8; TEXT],
-) -> u8
-    ensures { result ≤ 3 }
-{
-    if let Err(why) = begin(file, width, height) {
-        return unwritten(why);
-    }
-    let status = traces(counts, starts, deltas, coefficients, adjustment, file, text);
-    if status != 0 {
-        return status;
-    }
-    if let Err(why) = file.write_all(b"</svg>\n") {
-        return unwritten(why);
-    }
-    words::out(to, b"# traces\n", &[counts.len() as u64])
+) -> Result<(), Failure> {
+    begin(file, width, height).map_err(no_drawing)?;
+    traces(description, adjustment, file, text)?;
+    file.write_all(b"</svg>\n").map_err(no_drawing)?;
+    let n = description.counts.len();
+    out(to, format_args!("{n} traces\n"))
 }
 
-// The same; the status.
+// The same.
 pub fn write(
-    counts: &[u32],
-    starts: &[f32],
-    deltas: &[i32],
-    coefficients: &[i32],
+    description: &Description<'_>,
     adjustment: i32,
     width: u32,
     height: u32,
     to: Stdout,
     file: &File,
-) -> u8
-    ensures { result ≤ 3 }
+) -> Result<(), Failure>
+    ensures { Unit {0} }
 {
     let mut text = [0u8; TEXT];
-    write_in(
-        counts,
-        starts,
-        deltas,
-        coefficients,
-        adjustment,
-        width,
-        height,
-        to,
-        file,
-        &mut text,
-    )
+    write_in(description, adjustment, width, height, to, file, &mut text)
 }
