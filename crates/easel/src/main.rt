@@ -6,15 +6,18 @@
 
 ghost use Rattle.std.specs.Prelude.{◌≤◌};
 
-use arguments::{Kind, Two};
-use build_answer::BuildAnswer;
+use arguments::Kind;
 use canvas::{Asked, Task};
-use read_list::ReadAnswer;
+use checks::Table;
+use desks::Sight;
+use read_list::Read;
+use shape::Description;
 use std::fs::File;
 use std::io::{IsTerminal, Stdout};
 use std::os::fd::AsRawFd;
 use std::rt::{Env, Files};
-use text::Parsed;
+use table::Setting;
+use words::Undone;
 
 const BYTES: usize = 65536;
 
@@ -46,7 +49,7 @@ const ROW_STARTS: usize = 16385;
 const WORDS: usize = 64;
 
 // The status of what is left to `gauge`.
-const LEFT: u8 = 4;
+const LEFT: u64 = 4;
 
 // A picture's task, and the file that it goes to.
 #[derive(Clone, Copy)]
@@ -55,43 +58,9 @@ struct Drawn<'a> {
     file: &'a File,
 }
 
-// The counts of a table and its picture, with a byte for each spline: nothing is hidden.
-fn show(
-    segments: &[f32],
-    owners: &[u64],
-    segment_count: u32,
-    entries: &[u32],
-    entry_count: u32,
-    row_starts: &[u32],
-    bits: &[u8],
-    estimate: u64,
-    faint: u32,
-    drawn: Drawn<'_>,
-) -> u8 {
-    let to = drawn.task.to;
-    let status = canvas::say_built(to, segment_count, faint, entry_count, estimate);
-    if status != 0 {
-        return status;
-    }
-    canvas::draw(
-        segments,
-        owners,
-        segment_count,
-        entries,
-        entry_count,
-        row_starts,
-        bits,
-        drawn.file,
-        drawn.task,
-    )
-}
-
-// The table of a description in lent rooms, which are arrays: the length of each is then known by its type, and no proof counts its cells. X gains nothing of Y and B all of it, as usual.
+// The table of a description in lent rooms, which are arrays: the length of each is then known by its type, and no proof counts its cells; its counts and its picture. X gains nothing of Y and B all of it, as usual; nothing is hidden.
 fn build_in(
-    counts: &[u32],
-    starts: &[f32],
-    deltas: &[i32],
-    coefficients: &[i32],
+    description: &Description<'_>,
     adjustment: i32,
     drawn: Drawn<'_>,
     path: &mut [f32; PATH],
@@ -100,57 +69,51 @@ fn build_in(
     owners: &mut [u64; OWNERS],
     row_starts: &mut [u32; ROW_STARTS],
     entries: &mut [u32; ENTRIES],
-) -> u8 {
-    let bits = [0u8; SPLINES];
-    let width = drawn.task.width;
-    let height = drawn.task.height;
-    let high = drawn.task.high;
-    if SPLINES < counts.len() {
-        return LEFT;
-    }
-    let BuildAnswer::Done(made, listed, estimate, faint) = table::build(
-        counts,
-        starts,
-        deltas,
-        coefficients,
+) -> Result<(), Undone> {
+    let shown = [0u8; SPLINES];
+    let task = drawn.task;
+    let splines = description.counts.len();
+    let bits = shown.get(..splines).ok_or(Undone::Left)?;
+    let setting = Setting {
         adjustment,
-        width,
-        height,
-        0.0,
-        1.0,
-        high,
-        false,
+        width: task.width,
+        height: task.height,
+        y_to_x: 0.0,
+        y_to_b: 1.0,
+        high_precision: task.high,
+        level10: false,
+    };
+    let built = table::build(
+        description,
+        setting,
         path,
         walk,
         segments,
         owners,
         row_starts,
         entries,
-    ) else {
-        return LEFT;
-    };
-    show(
-        segments,
-        owners,
-        made,
-        entries,
-        listed,
-        row_starts,
-        &bits[0..counts.len()],
-        estimate,
-        faint,
-        drawn,
     )
+    .map_err(|_| Undone::Left)?;
+    let table = Table {
+        segments,
+        segment_count: built.segments,
+        entries,
+        entry_count: built.entries,
+        row_starts,
+        height: task.height,
+    };
+    let sight = Sight {
+        owners,
+        splines: splines as u64,
+        bits,
+        desk: task.desk,
+    };
+    canvas::say_built(task.to, built)?;
+    canvas::draw(&table, &sight, drawn.file, task)?;
+    Ok(())
 }
 
-fn build(
-    counts: &[u32],
-    starts: &[f32],
-    deltas: &[i32],
-    coefficients: &[i32],
-    adjustment: i32,
-    drawn: Drawn<'_>,
-) -> u8 {
+fn build(description: &Description<'_>, adjustment: i32, drawn: Drawn<'_>) -> Result<(), Undone> {
     let mut path = [0.0f32; PATH];
     let mut walk = [0.0f32; WALK];
     let mut segments = [0.0f32; SEGMENTS];
@@ -158,10 +121,7 @@ fn build(
     let mut row_starts = [0u32; ROW_STARTS];
     let mut entries = [0u32; ENTRIES];
     build_in(
-        counts,
-        starts,
-        deltas,
-        coefficients,
+        description,
         adjustment,
         drawn,
         &mut path,
@@ -173,39 +133,10 @@ fn build(
     )
 }
 
-// The first cells of the buffers are the description of so many splines and points.
-fn build_first(
-    counts: &[u32],
-    starts: &[f32],
-    deltas: &[i32],
-    coefficients: &[i32],
-    splines: u32,
-    points: u32,
-    adjustment: i32,
-    drawn: Drawn<'_>,
-) -> u8 {
-    let s = splines as usize;
-    let n = points as usize;
-    if counts.len() < s {
-        return LEFT;
-    }
-    if starts.len() / 2 < s {
-        return LEFT;
-    }
-    if deltas.len() / 2 < n {
-        return LEFT;
-    }
-    if coefficients.len() / 128 < s {
-        return LEFT;
-    }
-    build(
-        &counts[0..s],
-        &starts[0..2 * s],
-        &deltas[0..2 * n],
-        &coefficients[0..128 * s],
-        adjustment,
-        drawn,
-    )
+// The first cells of the buffers are the description of what was read.
+fn build_first(buffers: &Description<'_>, read: Read, drawn: Drawn<'_>) -> Result<(), Undone> {
+    let description = canvas::first_of(buffers, read.splines, read.points).ok_or(Undone::Left)?;
+    build(&description, read.adjustment, drawn)
 }
 
 // A list that is read in lent rooms, under the usual configured limit.
@@ -216,34 +147,28 @@ fn read_in(
     starts: &mut [f32; STARTS],
     deltas: &mut [i32; DELTAS],
     coefficients: &mut [i32; COEFFICIENTS],
-) -> u8 {
+) -> Result<(), Undone> {
     let pixels = canvas::pixels_of(drawn.task);
-    match reader::read(list, 1048576, pixels, counts, starts, deltas, coefficients) {
-        ReadAnswer::Refused(_, _) => LEFT,
-        ReadAnswer::Done(splines, points, adjustment) => build_first(
-            counts,
-            starts,
-            deltas,
-            coefficients,
-            splines,
-            points,
-            adjustment,
-            drawn,
-        ),
-    }
+    let read = reader::read(list, 1048576, pixels, counts, starts, deltas, coefficients).map_err(
+        |_| Undone::Left,
+    )?;
+    let buffers = Description {
+        counts,
+        starts,
+        deltas,
+        coefficients,
+    };
+    build_first(&buffers, read, drawn)
 }
 
-// A list, the first n of the values.
-fn read_first(values: &[u32], n: usize, drawn: Drawn<'_>) -> u8 {
-    if values.len() < n {
-        return LEFT;
-    }
+// A list.
+fn draw_list(list: &[u32], drawn: Drawn<'_>) -> Result<(), Undone> {
     let mut counts = [0u32; SPLINES];
     let mut starts = [0.0f32; STARTS];
     let mut deltas = [0i32; DELTAS];
     let mut coefficients = [0i32; COEFFICIENTS];
     read_in(
-        &values[0..n],
+        list,
         drawn,
         &mut counts,
         &mut starts,
@@ -252,33 +177,26 @@ fn read_first(values: &[u32], n: usize, drawn: Drawn<'_>) -> u8 {
     )
 }
 
-// The values of a text, the first n of the bytes, go to a room.
-fn parse_first(bytes: &[u8], n: usize, drawn: Drawn<'_>, values: &mut [u32; VALUES]) -> u8 {
-    if bytes.len() < n {
-        return LEFT;
-    }
-    match text::values_of(&bytes[0..n], values) {
-        Parsed::Values(held) => read_first(values, held, drawn),
-        _ => LEFT,
-    }
-}
-
-// The text of an open file goes to a room; one that fills it may be longer.
-fn load_in(fd: i32, drawn: Drawn<'_>, bytes: &mut [u8; BYTES], values: &mut [u32; VALUES]) -> u8 {
+// The text of an open file goes to a room, and its values to another; a text that fills its room may be longer.
+fn load_in(
+    fd: i32,
+    drawn: Drawn<'_>,
+    bytes: &mut [u8; BYTES],
+    values: &mut [u32; VALUES],
+) -> Result<(), Undone> {
     let n = io::read_full(fd, bytes);
     if BYTES <= n {
-        return LEFT;
+        return Err(Undone::Left);
     }
-    parse_first(bytes, n, drawn, values)
+    let held = text::values_of(&bytes[..n], values).map_err(|_| Undone::Left)?;
+    draw_list(values.get(..held).ok_or(Undone::Left)?, drawn)
 }
 
 // The picture of the list in the file that argument i names.
-fn draw_list<R: Env + Files<File = File>>(rt: &R, i: u8, drawn: Drawn<'_>) -> u8 {
+fn draw_file<R: Env + Files<File = File>>(rt: &R, i: u8, drawn: Drawn<'_>) -> Result<(), Undone> {
     let mut held = io::buffer();
-    let n = arguments::fill(rt, i as usize, &mut held);
-    let Ok(file) = files::open(rt, &held[..n]) else {
-        return LEFT;
-    };
+    let n = arguments::fill(rt, usize::from(i), &mut held);
+    let file = files::open(rt, &held[..n]).map_err(|_| Undone::Left)?;
     let mut bytes = [0u8; BYTES];
     let mut values = [0u32; VALUES];
     load_in(file.as_raw_fd(), drawn, &mut bytes, &mut values)
@@ -295,34 +213,25 @@ fn draw_to<R: Env + Files<File = File>>(
     path: &[u8],
     floats: bool,
     high: bool,
-) -> u8 {
-    let Ok(file) = files::make(rt, path) else {
-        return LEFT;
-    };
+) -> Result<(), Undone> {
+    let file = files::make(rt, path).map_err(|_| Undone::Left)?;
     if file.as_raw_fd() < 2 {
-        return LEFT;
+        return Err(Undone::Left);
     }
     let task = Task {
-        width: width,
-        height: height,
+        width,
+        height,
         asked: Asked::Picture(&file),
-        to: to,
-        floats: floats,
+        to,
+        floats,
         progress: terminal,
-        high: high,
+        high,
         hide: &[],
         desk: 0,
-        profile: 0,
-        edition: 0,
+        profile: None,
+        edition: None,
     };
-    draw_list(
-        rt,
-        i,
-        Drawn {
-            task: task,
-            file: &file,
-        },
-    )
+    draw_file(rt, i, Drawn { task, file: &file })
 }
 
 // Into the file that argument i + 3 names, as its name asks for.
@@ -334,49 +243,63 @@ fn draw_named<R: Env + Files<File = File>>(
     width: u32,
     height: u32,
     high: bool,
-) -> u8
+) -> Result<(), Undone>
     requires { i ≤ 40 }
 {
     let mut held = io::buffer();
-    let n = arguments::fill(rt, i as usize + 3, &mut held);
+    let n = arguments::fill(rt, usize::from(i) + 3, &mut held);
     let path = &held[..n];
-    match arguments::kind_of(path) {
-        Kind::Tones => draw_to(rt, to, terminal, i, width, height, path, false, high),
-        Kind::Floats => draw_to(rt, to, terminal, i, width, height, path, true, high),
-        _ => LEFT,
-    }
+    let floats = match arguments::kind_of(path) {
+        Kind::Tones => false,
+        Kind::Floats => true,
+        _ => return Err(Undone::Left),
+    };
+    draw_to(rt, to, terminal, i, width, height, path, floats, high)
 }
 
 // `draw` at this argument, and four words.
-fn draw<R: Env + Files<File = File>>(rt: &R, to: Stdout, terminal: bool, at: u8, high: bool) -> u8
+fn draw<R: Env + Files<File = File>>(
+    rt: &R,
+    to: Stdout,
+    terminal: bool,
+    at: u8,
+    high: bool,
+) -> Result<(), Undone>
     requires { at ≤ 3 }
 {
-    if arguments::count(rt, WORDS) != at as usize + 5 {
-        return LEFT;
+    if arguments::count(rt, WORDS) != usize::from(at) + 5
+        || !arguments::is_argument(rt, usize::from(at), b"draw")
+    {
+        return Err(Undone::Left);
     }
-    if !arguments::is_argument(rt, at as usize, b"draw") {
-        return LEFT;
-    }
-    match arguments::size_at(rt, at + 2) {
-        Two::Not => LEFT,
-        Two::Are(width, height) => draw_named(rt, to, terminal, at + 1, width, height, high),
-    }
+    let (width, height) = arguments::size_at(rt, at + 2).ok_or(Undone::Left)?;
+    draw_named(rt, to, terminal, at + 1, width, height, high)
 }
 
 // The command, behind the precision where it is named.
-fn run_from<R: Env + Files<File = File>>(rt: &R, to: Stdout, terminal: bool, at: u8) -> u8
+fn run_from<R: Env + Files<File = File>>(
+    rt: &R,
+    to: Stdout,
+    terminal: bool,
+    at: u8,
+) -> Result<(), Undone>
     requires { at ≤ 2 }
 {
-    if arguments::is_argument(rt, at as usize, b"--high") {
-        return draw(rt, to, terminal, at + 1, true);
+    if arguments::is_argument(rt, usize::from(at), b"--high") {
+        draw(rt, to, terminal, at + 1, true)
+    } else {
+        draw(rt, to, terminal, at, false)
     }
-    draw(rt, to, terminal, at, false)
 }
 
-// A status, as one digit; none after an end that is to be quiet.
-fn tell(status: u8) {
-    if status != 3 {
-        io::print_decimal(3, status as u64);
+// The status, as one digit.
+fn tell(done: Result<(), Undone>) {
+    match done {
+        Ok(()) => words::tell_status(Ok(())),
+        Err(Undone::Failed(failure)) => words::tell_status(Err(failure)),
+        Err(Undone::Left) => {
+            io::print_decimal(3, LEFT);
+        }
     }
 }
 
@@ -386,6 +309,6 @@ fn main(rt: HostRuntime) {
     if arguments::is_argument(&rt, 1, b"--status") {
         tell(run_from(&rt, to, terminal, 2));
     } else {
-        run_from(&rt, to, terminal, 1);
+        let _ = run_from(&rt, to, terminal, 1);
     }
 }
