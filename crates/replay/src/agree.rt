@@ -6,10 +6,7 @@ use crate::{lists, number_leaves};
 
 // Whether cases of a kind are compared.
 pub fn compared(kind: u32) -> bool {
-    match kind {
-        1..=22 => true,
-        _ => false,
-    }
+    matches!(kind, 1..=22)
 }
 
 fn layer_agrees(kind: u32, input: &[u32], output: &[u32]) -> bool {
@@ -35,22 +32,14 @@ fn agrees(kind: u32, input: &[u32], output: &[u32]) -> bool {
     }
 }
 
-// Whether the case at a place is of a kind and the port agrees with it: 1 or 0.
-fn agrees_at(words: &[u32], at: usize, kind: u32) -> u32
+// Whether the case at a place is of a kind and the port agrees with it.
+fn agrees_at(words: &[u32], at: usize, kind: u32) -> bool
     requires { case_end words.now at ≤ length words.now }
-    ensures { result ≤ 1 }
 {
-    if words[at] != kind {
-        return 0;
-    }
     let first = at + 3;
     let middle = first + frame::count(words[at + 1]);
     let end = middle + frame::count(words[at + 2]);
-    if agrees(kind, &words[first..middle], &words[middle..end]) {
-        1
-    } else {
-        0
-    }
+    words[at] == kind && agrees(kind, &words[first..middle], &words[middle..end])
 }
 
 pub fn agreed(words: &[u32], kind: u32) -> u32
@@ -58,12 +47,12 @@ pub fn agreed(words: &[u32], kind: u32) -> u32
     ensures { result ≤ get_or words.now 2 0 }
 {
     let mut at = 3;
-    let mut left = words[2];
     let mut found = 0;
-    while left > 0 {
-        found += agrees_at(words, at, kind);
+    for _i in 0..words[2] {
+        if agrees_at(words, at, kind) {
+            found += 1;
+        }
         at += frame::size_of_case(words, at);
-        left -= 1;
     }
     found
 }

@@ -1,20 +1,31 @@
-// The names of the kinds of case, as vectors/README.md lists them, 17 letters each.
+// The names of the kinds of case, as vectors/README.md lists them.
 
 pub const KINDS: u32 = 23;
 
-fn print_part(names: &[u8], kind: u32) {
-    if kind < KINDS {
-        let from = 17 * (kind as usize);
-        let to = from + 17;
-        if to <= names.len() {
-            io::write_all(1, &names[from..to]);
-        }
+pub fn name_of(kind: u32) -> &'static str {
+    match kind {
+        1 => "floor",
+        2 => "ceil",
+        3 => "round",
+        4 => "f32 to i64",
+        5 => "f32 to u64",
+        6 => "u64 to f32",
+        7 => "f64 to f32",
+        8 => "root",
+        9 => "length",
+        10 => "fast_cos",
+        11 => "fast_erff",
+        12 => "ln",
+        13 => "greater magnitude",
+        14 => "read",
+        15 => "write",
+        16 => "dequantize",
+        17 => "curve",
+        18 => "walk",
+        19 => "transform",
+        20 => "segment",
+        21 => "build",
+        22 => "draw",
+        _ => "of no known kind",
     }
-}
-
-pub fn print_name(kind: u32) {
-    print_part(
-        b"of no known kind floor            ceil             round            f32 to i64       f32 to u64       u64 to f32       f64 to f32       root             length           fast_cos         fast_erff        ln               greater magnituderead             write            dequantize       curve            walk             transform        segment          build            draw             ",
-        kind,
-    );
 }

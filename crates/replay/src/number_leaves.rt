@@ -48,11 +48,9 @@ fn agrees_two(kind: u32, low: u32, high: u32, output: &[u32]) -> bool {
 }
 
 pub fn agrees(kind: u32, input: &[u32], output: &[u32]) -> bool {
-    if input.len() == 1 {
-        return agrees_one(kind, input[0], output);
+    match input {
+        [bits] => agrees_one(kind, *bits, output),
+        [low, high] => agrees_two(kind, *low, *high, output),
+        _ => false,
     }
-    if input.len() == 2 {
-        return agrees_two(kind, input[0], input[1], output);
-    }
-    false
 }
