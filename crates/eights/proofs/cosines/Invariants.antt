@@ -1,6 +1,6 @@
 -- `cosines`: the first j of the eight cells hold their cosines.
 use mathlib.Core.Path.{◌≡◌}
-use Prim.Native.Nat.{◌+◌, ◌-◌}
+use Prim.Native.Nat.{◌+◌}
 use lib.ListN.{length}
 use Rattle.numbers.specs.Arith.{f, ◌⊕◌}
 use Rattle.dequantize.specs.Coefficients.{table}

@@ -1,5 +1,4 @@
 -- `fed`: the sum has the products before from + j.
-use Prim.Native.Nat.{◌-◌}
 use Rattle.eights.proofs.Feeding.{Fed}
 use Rattle.eights.proofs.fed.Given as goal
 

@@ -1,5 +1,5 @@
-use mathlib.Core.Path.{◌≡◌, refl}
-use Prim.Native.Nat.{◌+◌, ◌≤◌}
+use mathlib.Core.Path.{refl}
+use Prim.Native.Nat.{◌+◌}
 use native.Mathlib.Omega.{arith}
 use Rattle.faint.specs.Faint.{faint_in}
 use Rattle.faint.proofs.Counts.{faint_most, faint_more}
