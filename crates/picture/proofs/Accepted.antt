@@ -9,17 +9,18 @@ use Rattle.numbers.specs.Arith.{0·0}
 use Rattle.buffers.specs.Padded.{padded}
 use Rattle.codes.specs.declared.Code.{Code}
 use Rattle.dequantize.specs.declared.Given.{Given}
-use Rattle.dequantize.specs.declared.judge.Judged.{Judged}
+use Rattle.dequantize.specs.Answers.{Judged}
+use Rattle.dequantize.specs.Answers as Judged
 use Rattle.dequantize.specs.Judge.{Description, judge_of}
 use Rattle.segments.specs.declared.Segment.{Segment}
 use Rattle.curve.specs.Curve.{path_room}
 use Rattle.walk.specs.Walk.{walk_room}
-use Rattle.points.specs.declared.Filled.{Filled}
-use Rattle.points.specs.declared.Filled.TheVariants.{Count, Room}
+use Rattle.points.specs.Filled.{Filled, Count, Room}
 use Rattle.points.specs.Points.{eights}
 use Rattle.points.proofs.Adding.{count_got}
 use Rattle.strand.specs.Strand.{Strand, NoRoom, Segments, strand_filled, segments_of}
-use Rattle.rows.specs.declared.Listed.{Listed}
+use Rattle.rows.specs.Listed.{Listed}
+use Rattle.rows.specs.Listed as Listed
 use Rattle.rows.specs.Rows.{in_row, RowsOutcome, outcome, listed_rows}
 use Rattle.owners.specs.Owners.{owned_room, owners_of}
 use Rattle.painting.specs.Painting.{strand_of_spline, Painted, All, NoRoomAt, after_strand, paint_from, paint_of}
@@ -28,7 +29,8 @@ use Rattle.table.specs.Table.{BuildRooms, Setting, BuildOutcome, given_of, refus
 use Rattle.verdict.specs.Verdict.{verdict_of}
 use Rattle.table.proofs.InRooms.{painted}
 use Rattle.verdict.proofs.Checks.{ready}
-use Rattle.build_answer.specs.declared.BuildAnswer.TheVariants.{Done}
+use Rattle.build_answer.specs.BuildAnswer.{Done}
+use Rattle.build_answer.proofs.Ends.{done_same}
 
 -- ---- the segments have room
 
@@ -80,11 +82,11 @@ module _ (r : BuildRooms) (t : BuildOutcome) (s e est faint : ℕ) (done : t.ans
   rows_listed estimate segs owners Listed.Room ss es q = absurd (refused_not Code.Room 0 q)
   rows_listed estimate segs owners (Listed.Entries n) ss es q =
       let a : Done (length segs) n estimate (faint_in (eights segs) (length segs)) ≡ Done s e est faint = sym (ap (λ (b : BuildOutcome). b.answer) q) ∙ done in
-      let m : n ≡ e = cc in
+      let made = done_same _ _ _ _ s e est faint a in
       record {
-        same = cc;
-        size = cc;
-        listed = ap Listed.Entries m;
+        same = made.estimate;
+        size = made.segments;
+        listed = ap Listed.Entries made.entries;
         path = ap (λ (b : BuildOutcome). b.path) q;
         walk = ap (λ (b : BuildOutcome). b.walk) q;
         segments = ap (λ (b : BuildOutcome). b.segments) q;

@@ -21,7 +21,7 @@ use Rattle.draw.specs.Draw.{pixel, updates}
 use Rattle.hull.specs.Reach.{judge_reach_of}
 use Rattle.checks.specs.Refusals.{SpanFits}
 use Rattle.checks.specs.Alike.{AlikeIn, AlikeFor, Kept}
-use Rattle.checks.specs.declared.Verdict.TheVariants.{Fine}
+use Rattle.checks.specs.Verdict.{Fine}
 use Rattle.checks.proofs.Checks.{counts_facts, RowFacts, row_facts, RowFactsFor}
 use Rattle.checks.proofs.Refusals.{counts_fit, span_fits}
 use Rattle.checks.proofs.Alike.{alike_row, kept_fits, kept_segment, kept_alike}

@@ -19,7 +19,7 @@ use Rattle.numbers.specs.Arith.{f, 1·0}
 use Rattle.roots.specs.Root.{sqrt_of}
 use Rattle.dequantize.specs.declared.Given.{Given}
 use Rattle.control_points.specs.declared.Pair.{Pair}
-use Rattle.control_points.specs.declared.Start.TheVariants.{At}
+use Rattle.control_points.specs.Answers.{At}
 use Rattle.control_points.specs.ControlPoints.{stand_at, later_points, control_points}
 use Rattle.dequantize.specs.Judge.{Description, deltas_of, total_of}
 use Rattle.dequantize.specs.Refusals.{AllPass}

@@ -19,7 +19,8 @@ use Rattle.segments.specs.Segment.{segment_at}
 use Rattle.segments.specs.Ranges.{has_row}
 use Rattle.points.specs.Points.{eights}
 use Rattle.points.proofs.Adding.{length_eights}
-use Rattle.rows.specs.declared.Listed.{Listed}
+use Rattle.rows.specs.Listed.{Listed}
+use Rattle.rows.specs.Listed as Listed
 use Rattle.rows.specs.Rows as rows
 use Rattle.rows.specs.Rows.{in_row, listed, up_to, start_of, RowsOutcome}
 use Rattle.rows.proofs.Counts.{listed_in, by_row}

@@ -3,7 +3,7 @@ use Rattle.std.specs.Prelude.{◌≡◌, true, cond, List, [], ◌∷◌, ℕ, z
 use Rattle.std.specs.Float.Ieee.{le}
 use Rattle.numbers.specs.Arith.{f}
 use Rattle.control_points.specs.declared.Pair.{Pair}
-use Rattle.control_points.specs.declared.Start.TheVariants.{At}
+use Rattle.control_points.specs.Answers.{At}
 use Rattle.control_points.specs.ControlPoints.{starting_point}
 use Rattle.dequantize.specs.Judge.{Description, start_x, start_y, deltas_of}
 use Rattle.segments.specs.declared.Segment.{Segment}

@@ -3,7 +3,7 @@ use Rattle.std.specs.Prelude.{◌≡◌, Bool, true, cond, ◌&&◌, ℕ, zero, 
 use mathlib.Core.List.{List, [], ◌∷◌, foldl}
 use Rattle.numbers.specs.Arith.{0·0}
 use Rattle.buffers.specs.Padded.{padded}
-use Rattle.dequantize.specs.declared.judge.Judged.TheVariants as Judged
+use Rattle.dequantize.specs.Answers as Judged
 use Rattle.dequantize.specs.Judge.{Description, judge_of}
 use Rattle.points.specs.Points.{eights}
 use Rattle.segments.specs.declared.Segment.{Segment}
@@ -12,7 +12,7 @@ use Rattle.shade.specs.Shade.{shaded}
 use Rattle.rows.specs.Rows.{listed, rows, start_of, up_to, in_row}
 use Rattle.table.specs.Table.{BuildRooms, Setting, given_of, zeros, build_of}
 use Rattle.table.specs.Table as build
-use Rattle.build_answer.specs.declared.BuildAnswer.{BuildAnswer}
+use Rattle.build_answer.specs.BuildAnswer as BuildAnswer
 use Rattle.draw.specs.Draw.{count, Table, table_of, row_of, Channels}
 use Rattle.shade.specs.Edit.{edit}
 
