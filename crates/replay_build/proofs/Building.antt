@@ -1,16 +1,16 @@
 -- What each comparison has found, in the terms of the definitions.
 use mathlib.Core.Path.{◌≡◌, sym, subst, ap, ◌∙◌}
 use mathlib.Core.List.{List}
-use Prim.Native.Nat.{ℕ, ◌+◌, ◌*◌, ◌<◌, ◌≤◌}
+use Prim.Native.Nat.{ℕ, ◌+◌, ◌*◌, ◌≤◌}
 use native.Mathlib.Omega.{arith}
 use lib.IntN.{ℤ}
 use lib.ListN.{length, get_or, take}
 use lib.Seq.{length-take-le}
 use lib.Ieee.{Float}
 use Rattle.dequantize.specs.Coefficients.{table}
-use Rattle.dequantize.specs.Judge.{Description, description_of}
+use Rattle.shape.specs.Description.{Description, description_of}
 use Rattle.dequantize.proofs.Tables.{length_table}
-use Rattle.build_answer.specs.declared.BuildAnswer.{BuildAnswer}
+use Rattle.build_answer.specs.BuildAnswer.{BuildAnswer}
 use Rattle.table.specs.Table.{BuildRooms, Setting, setting_of, BuildOutcome, build_of}
 use Rattle.stored.specs.Stored.{float_in, signed_in}
 use Rattle.replay_build.specs.Built.{part, AnswerAgrees, BuildAgrees, lent, image_in, floats_in, signeds_in, description_in}

@@ -1,11 +1,11 @@
 -- What it means that the definition of building agrees with a stored case: vectors/README.md has the words. Definitions only.
-use Rattle.std.specs.Prelude.{◌≡◌, List, ℕ, ◌+◌, ◌-◌, ◌*◌, ◌<◌, ◌≤◌, eqb, ℤ, length, get_or, take, drop, Float}
+use Rattle.std.specs.Prelude.{◌≡◌, List, ℕ, ◌+◌, ◌-◌, ◌*◌, eqb, ℤ, length, get_or, take, drop, Ok, Float}
 use Rattle.codes.specs.Codes.{number_of}
 use Rattle.codes.specs.declared.Code.{Code}
 use Rattle.dequantize.specs.Coefficients.{table}
-use Rattle.dequantize.specs.Judge.{Description, description_of}
-use Rattle.build_answer.specs.declared.BuildAnswer.{BuildAnswer}
-use Rattle.build_answer.specs.declared.BuildAnswer.TheVariants.{Done, Refused}
+use Rattle.shape.specs.Description.{Description, description_of}
+use Rattle.build_answer.specs.declared.Built.{Built}
+use Rattle.build_answer.specs.BuildAnswer.{BuildAnswer, Refused}
 use Rattle.table.specs.Table.{BuildRooms, Setting, setting_of, BuildOutcome}
 use Rattle.stored.specs.Stored.{float_in, signed_in, long_in, refusal_word, Begins, BeginsWith}
 
@@ -16,21 +16,21 @@ part a b words = take (b - a) (drop a words)
 -- ---- the output
 
 -- code and place of a success, then the counts and the estimate
-pub record Headed (count listed estimate : ℕ) (output : List ℕ) : Type 0 where
+pub record Headed (built : Built) (output : List ℕ) : Type 0 where
   pub code : get_or output 0 0 ≡ 0
   pub place : get_or output 1 0 ≡ 0
-  pub segments : get_or output 2 0 ≡ count
-  pub entries : get_or output 3 0 ≡ listed
-  pub area : estimate ≡ long_in output 4
+  pub segments : get_or output 2 0 ≡ built.segments
+  pub entries : get_or output 3 0 ≡ built.entries
+  pub area : built.estimate ≡ long_in output 4
 
 -- a success: behind the head the numbers of the segments, their owners, the row starts and the entries, and no word more
-pub record TableAgrees (count listed estimate height : ℕ) (segments : List Float) (owners starts entries output : List ℕ) : Type 0 where
-  pub head : Headed count listed estimate output
-  pub size : length output ≡ 6 + 8 * count + count + height + 1 + listed
-  pub numbers : Begins segments (part 6 (6 + 8 * count) output)
-  pub splines : BeginsWith owners (part (6 + 8 * count) (6 + 8 * count + count) output)
-  pub rows : BeginsWith starts (part (6 + 8 * count + count) (6 + 8 * count + count + height + 1) output)
-  pub lists : BeginsWith entries (part (6 + 8 * count + count + height + 1) (length output) output)
+pub record TableAgrees (built : Built) (height : ℕ) (segments : List Float) (owners starts entries output : List ℕ) : Type 0 where
+  pub head : Headed built output
+  pub size : length output ≡ 6 + 8 * built.segments + built.segments + height + 1 + built.entries
+  pub numbers : Begins segments (part 6 (6 + 8 * built.segments) output)
+  pub splines : BeginsWith owners (part (6 + 8 * built.segments) (6 + 8 * built.segments + built.segments) output)
+  pub rows : BeginsWith starts (part (6 + 8 * built.segments + built.segments) (6 + 8 * built.segments + built.segments + height + 1) output)
+  pub lists : BeginsWith entries (part (6 + 8 * built.segments + built.segments + height + 1) (length output) output)
 
 -- a refusal: its code and its place, and no word more
 pub record RefusalAgrees (code : Code) (place : ℕ) (output : List ℕ) : Type 0 where
@@ -40,7 +40,7 @@ pub record RefusalAgrees (code : Code) (place : ℕ) (output : List ℕ) : Type 
 
 abbrev pub AnswerAgrees : BuildAnswer → ℕ → List Float → List ℕ → List ℕ → List ℕ → List ℕ → Type 0
 AnswerAgrees (Refused code place) height segments owners starts entries output = RefusalAgrees code place output
-AnswerAgrees (Done count listed estimate faint) height segments owners starts entries output = TableAgrees count listed estimate height segments owners starts entries output
+AnswerAgrees (Ok built) height segments owners starts entries output = TableAgrees built height segments owners starts entries output
 
 -- what a build answers, and leaves in the segments, their owners, the row starts and the entries
 abbrev pub BuildAgrees : BuildOutcome → ℕ → List ℕ → Type 0

@@ -1,24 +1,15 @@
 use mathlib.Core.Path.{◌∙◌}
-use Prim.Native.Nat.{ℕ, ◌-◌}
 use native.Mathlib.Omega.{arith}
-use lib.ListN.{length, get_or}
-use borrow.Author.Rules.{rules}
-use Rattle.stored.proofs.Begun.{no_true, Begun, begun_none, begun_more, begun_long}
+use Rattle.stored.proofs.Begun.{begun_none, begun_more, begun_long}
 use Rattle.replay_build.proofs.begin_owners.Goals as goal
 
 pub loop-i-init : goal.loop-i-init
 loop-i-init c = begun_none _ _ _ _
 
-pub returns-then-owners-i : goal.returns-then-owners-i
-returns-then-owners-i c = λ e. absurd (no_true e)
-
-pub returns-then-owners-i-2 : goal.returns-then-owners-i-2
-returns-then-owners-i-2 c = λ e. absurd (no_true e)
-
 pub loop-i-preserved : goal.loop-i-preserved
 loop-i-preserved c =
     let l = c.loop-i in
-    begun_more _ _ _ _ l.i l.invariant (omega arith) (omega arith) (c.if-owners-i-2.false ∙ c.wide.ensures)
+    begun_more _ _ _ _ l.i l.invariant (omega arith) (omega arith) (c.if-owners-i-2.false ∙ c.from.ensures)
 
 pub returns : goal.returns
 returns c =

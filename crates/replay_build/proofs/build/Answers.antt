@@ -1,14 +1,6 @@
 -- The parts of the words are where the first of them say.
 use Rattle.replay_build.proofs.Building.{case_agrees}
-use borrow.Author.Rules.{rules}
-use Rattle.stored.proofs.Begun.{no_true}
 use Rattle.replay_build.proofs.build.Goals as goal
-
-pub returns-then-input-lt9 : goal.returns-then-input-lt9
-returns-then-input-lt9 c = λ e. absurd (no_true e)
-
-pub returns-then-input-deltas_end : goal.returns-then-input-deltas_end
-returns-then-input-deltas_end c = λ e. absurd (no_true e)
 
 pub returns : goal.returns
 returns c =

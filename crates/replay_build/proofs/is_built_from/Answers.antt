@@ -2,32 +2,22 @@
 use Rattle.stored.specs.Stored.{float_in, signed_in}
 use Rattle.replay_build.proofs.Building.{taken, words_agree}
 use borrow.Author.Rules.{rules}
-use Rattle.stored.proofs.Begun.{no_true}
 use Rattle.replay_build.proofs.is_built_from.Goals as goal
 
-pub returns-then-starts-gt16 : goal.returns-then-starts-gt16
-returns-then-starts-gt16 c = λ e. absurd (no_true e)
-
-pub returns-then-deltas-gt2048 : goal.returns-then-deltas-gt2048
-returns-then-deltas-gt2048 c = λ e. absurd (no_true e)
-
-pub returns-then-coefficients-gt1024 : goal.returns-then-coefficients-gt1024
-returns-then-coefficients-gt1024 c = λ e. absurd (no_true e)
-
-pub slice_bounds-is_built-end : goal.slice_bounds-is_built-end
-slice_bounds-is_built-end c =
+pub slice_bounds-description-end : goal.slice_bounds-description-end
+slice_bounds-description-end c =
     let A = c.args in
     let t = taken (float_in A.starts.now) 16 _ _ c.floats.ensures c.if-starts-gt16.false in
     search (rules, t)
 
-pub slice_bounds-is_built-end-2 : goal.slice_bounds-is_built-end-2
-slice_bounds-is_built-end-2 c =
+pub slice_bounds-description-end-2 : goal.slice_bounds-description-end-2
+slice_bounds-description-end-2 c =
     let A = c.args in
     let t = taken (signed_in A.deltas.now) 2048 _ _ c.signeds.ensures c.if-deltas-gt2048.false in
     search (rules, t)
 
-pub slice_bounds-is_built-end-3 : goal.slice_bounds-is_built-end-3
-slice_bounds-is_built-end-3 c =
+pub slice_bounds-description-end-3 : goal.slice_bounds-description-end-3
+slice_bounds-description-end-3 c =
     let A = c.args in
     let t = taken (signed_in A.coefficients.now) 1024 _ _ c.signeds-2.ensures c.if-coefficients-gt1024.false in
     search (rules, t)
