@@ -10,8 +10,10 @@ use Rattle.desks.specs.Agree.{Agree}
 use Rattle.desks.specs.Hide.{HideOutcome, hide_of}
 use Rattle.checks.specs.Tables.{Table}
 use Rattle.hull.specs.Reach.{ReachOutcome, reach_of}
-use Rattle.hull.specs.declared.ReachAnswer.{ReachAnswer}
-use Rattle.bands.specs.declared.BandsAnswer.{BandsAnswer}
+use Rattle.hull.specs.ReachAnswer.{ReachAnswer}
+use Rattle.hull.specs.ReachAnswer as ReachAnswer
+use Rattle.bands.specs.BandsAnswer.{BandsAnswer}
+use Rattle.bands.specs.BandsAnswer as BandsAnswer
 use Rattle.bands.specs.Bands.{bands_in}
 use Rattle.bands.specs.Calls.{BandsOutcome, bands_of, band_of}
 use Rattle.bands_laws.specs.Done.{BandsDone}

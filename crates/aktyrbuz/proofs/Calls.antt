@@ -40,19 +40,19 @@ read_equation l configured pixels rooms o (reads κs _ _ _ _ _ _ _ _ _ _ _ _ _ _
 
 pub write_equation : (ns : List ℕ) (ss : List Float) (ds cs : List ℤ) (a : ℤ) (configured pixels room : ℕ) (o : WriteOutcome) → WriteCall ns ss ds cs a configured pixels room o
     → o ≡ write_of ns ss ds cs a configured pixels room
-write_equation ns ss ds cs a configured pixels room o (writes κs _ _ _ _ _ _ _ _ _ _ _ _ _ _ _ _ _ f p) = p
+write_equation ns ss ds cs a configured pixels room o (writes κs _ _ _ _ _ _ _ _ _ _ _ f p) = p
 
 pub write_floats : (ns : List ℕ) (ss : List Float) (ds cs : List ℤ) (a : ℤ) (configured pixels room : ℕ) (o : WriteOutcome) → WriteCall ns ss ds cs a configured pixels room o → Floats ss
-write_floats ns ss ds cs a configured pixels room o (writes κs _ _ _ _ _ _ _ _ _ _ _ _ _ _ _ _ _ f p) = f
+write_floats ns ss ds cs a configured pixels room o (writes κs _ _ _ _ _ _ _ _ _ _ _ f p) = f
 
 pub build_equation : (d : Description) (i : Setting) (r : building.BuildRooms) (o : building.BuildOutcome) → BuildCall d i r o → o ≡ build_of d i r
-build_equation d i r o (builds κs _ _ _ _ _ _ _ _ _ _ _ _ _ _ _ _ _ _ _ _ _ _ _ _ _ _ _ _ _ _ _ _ _ _ _ p) = p
+build_equation d i r o (builds κs _ _ _ _ _ _ _ _ _ _ _ _ _ _ _ _ _ p) = p
 
 pub draw_equation : (t : Table) (s : Sight) (y x0 n : ℕ) (a : Channels) (o : DrawOutcome) → DrawCall t s y x0 n a o → o ≡ draw_of t s y x0 n a
-draw_equation t s y x0 n a o (draws κs _ _ _ _ _ _ _ _ _ _ _ _ _ _ _ _ _ _ _ _ _ _ _ _ _ _ _ _ _ _ _ _ _ p) = p
+draw_equation t s y x0 n a o (draws κs _ _ _ _ _ _ _ _ _ _ _ _ _ _ _ _ _ p) = p
 
 pub reach_equation : (t : Table) (s : Sight) (y W : ℕ) (o : ReachOutcome) → ReachCall t s y W o → o ≡ reach_of t s y W
-reach_equation t s y W o (reaches κs _ _ _ _ _ _ _ _ _ _ _ _ _ _ _ _ _ _ _ _ _ _ _ _ _ p) = p
+reach_equation t s y W o (reaches κs _ _ _ _ _ _ _ _ _ p) = p
 
 pub hide_equation : (a : List ℕ) (desk spline : ℕ) (hidden : Bool) (o : HideOutcome) → HideCall a desk spline hidden o → o ≡ hide_of a desk spline hidden
 hide_equation a desk spline hidden o (hides κs _ _ _ _ _ _ _ _ _ p) = p
@@ -63,13 +63,13 @@ ln_equation x r (logs κs _ _ _ p) = p
 -- what a build tells is told by its answer, and so is what a drawing or a reach tells
 pub build_told_by : (d : Description) (i : Setting) (r : building.BuildRooms) (o : building.BuildOutcome) → BuildCall d i r o
     → o ≡ building.leaves o.answer o.path o.walk o.segments o.owners o.starts o.entries
-build_told_by d i r o (builds κs _ _ _ _ _ _ _ _ _ _ _ _ _ _ _ _ _ _ _ _ _ _ _ _ _ _ _ _ _ _ _ _ _ _ _ p) = refl
+build_told_by d i r o (builds κs _ _ _ _ _ _ _ _ _ _ _ _ _ _ _ _ _ p) = refl
 
 pub told_by : (t : Table) (s : Sight) (y x0 n : ℕ) (a : Channels) (o : DrawOutcome) → DrawCall t s y x0 n a o → o ≡ drawing.leaves o.answer o.channels
-told_by t s y x0 n a o (draws κs _ _ _ _ _ _ _ _ _ _ _ _ _ _ _ _ _ _ _ _ _ _ _ _ _ _ _ _ _ _ _ _ _ p) = refl
+told_by t s y x0 n a o (draws κs _ _ _ _ _ _ _ _ _ _ _ _ _ _ _ _ _ p) = refl
 
 pub reach_told_by : (t : Table) (s : Sight) (y W : ℕ) (o : ReachOutcome) → ReachCall t s y W o → o ≡ reaching.tells o.answer
-reach_told_by t s y W o (reaches κs _ _ _ _ _ _ _ _ _ _ _ _ _ _ _ _ _ _ _ _ _ _ _ _ _ p) = refl
+reach_told_by t s y W o (reaches κs _ _ _ _ _ _ _ _ _ p) = refl
 
 pub hide_told_by : (a : List ℕ) (desk spline : ℕ) (hidden : Bool) (o : HideOutcome) → HideCall a desk spline hidden o → o ≡ hiding.leaves o.answer o.bits
 hide_told_by a desk spline hidden o (hides κs _ _ _ _ _ _ _ _ _ p) = refl

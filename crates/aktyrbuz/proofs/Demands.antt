@@ -22,10 +22,12 @@ use Rattle.shade.specs.Edit.{edit}
 use Rattle.draw.specs.Draw as drawing
 use Rattle.draw.specs.Image.{most_pairs}
 use Rattle.hull.specs.Reach as reaching
-use Rattle.draw.specs.declared.DrawAnswer.{DrawAnswer}
-use Rattle.hull.specs.declared.ReachAnswer.{ReachAnswer}
-use Rattle.checks.specs.declared.Verdict.{Verdict as Judged}
-use Rattle.checks.specs.declared.Verdict.TheVariants as judged
+use Rattle.draw.specs.DrawAnswer.{DrawAnswer}
+use Rattle.draw.specs.DrawAnswer as DrawAnswer
+use Rattle.hull.specs.ReachAnswer.{ReachAnswer}
+use Rattle.hull.specs.ReachAnswer as ReachAnswer
+use Rattle.checks.specs.Verdict.{Verdict as Judged}
+use Rattle.checks.specs.Verdict as judged
 use Rattle.table.specs.Table as building
 use Rattle.table.proofs.Users as building-laws
 use Rattle.draw.proofs.Refusals as refusals
@@ -44,7 +46,8 @@ use Rattle.ieee754.proofs.Ieee754.{ieee754}
 use Rattle.segments.proofs.Expressions.{as_spline_rs}
 use Rattle.dequantize.specs.Judge.{Description}
 use Rattle.table.proofs.Segments as making
-use Rattle.build_answer.specs.declared.BuildAnswer.{BuildAnswer}
+use Rattle.build_answer.specs.BuildAnswer.{BuildAnswer}
+use Rattle.build_answer.specs.BuildAnswer as BuildAnswer
 use Rattle.aktyrbuz.specs.Demands.{ReadsAsSplineRs, WritesTheList, WrittenIsRead, ReadIsWritten, BuildsAsSplineRs, BuildsTheTable, EnoughRoomIsDone, NumbersByIeee754, DrawsAsSplineRs, ReachesByTheRule, LogsByItsSteps, RefusedLeavesZero, RefusedDrawsNothing, BuildCodes, DrawCodes, ReachCodes, CodesExactly, BuiltIsDrawn, OnceAscending, OtherRowsDontMatter, RowInParts, ImageInParts, KeepsOtherCells, RowUpdates, ImageUpdates, UpdatesSum, NothingStale, OneOutcome}
 use Rattle.aktyrbuz.specs.Calls.{BuildDone}
 use Rattle.aktyrbuz.proofs.ListCodes.{read_codes, write_codes}

@@ -1,22 +1,23 @@
 -- The codes of reading and writing hold of every outcome: what the tables say of the definitions, carried over the contract's equation.
 use mathlib.Core.Path.{◌≡◌, refl, sym, ap, ◌∙◌}
 use Prim.Native.Nat.{ℕ}
+use Rattle.std.specs.Prelude.{Ok}
+use Rattle.codes.specs.Refusal.{refused}
 use Rattle.codes.specs.declared.Code.{Code}
 use Rattle.reader.specs.Read.{ReadOutcome}
-use Rattle.read_list.specs.declared.ReadAnswer.{ReadAnswer}
-use Rattle.read_list.specs.declared.ReadAnswer.TheVariants.{Done, Refused}
+use Rattle.read_list.specs.Answer.{ReadAnswer}
 use Rattle.reader.proofs.Promises as reading
 use Rattle.writer.specs.Write.{WriteOutcome}
 use Rattle.write_laws.proofs.Words as writing
 use Rattle.aktyrbuz.specs.ListCodes.{ReadDone, ReadCodes, WriteCodes, WrittenSize}
 use Rattle.aktyrbuz.proofs.Calls.{read_equation, write_equation}
 
-answered : (o : ReadOutcome) → ((c : Code) (p : ℕ) → o.answer ≡ Refused c p → ⊥) → ReadDone o
+answered : (o : ReadOutcome) → ((c : Code) (p : ℕ) → o.answer ≡ refused c p → ⊥) → ReadDone o
 answered o none = go o.answer refl
   where
     go : (r : ReadAnswer) → o.answer ≡ r → ReadDone o
-    go (Done s p a) e = record { splines = s; points = p; adjustment = a; is = e }
-    go (Refused c p) e = absurd (none c p e)
+    go (Ok r) e = record { splines = r.splines; points = r.points; adjustment = r.adjustment; is = e }
+    go (refused c p) e = absurd (none c p e)
 
 pub read_codes : ReadCodes
 read_codes = record {

@@ -6,6 +6,7 @@ use Prim.Native.Nat.{ℕ, ◌≤◌, ◌<◌, ◌+◌, suc, ◌-◌, ◌^◌, �
 use native.Mathlib.Nat.{zero-add, not-le_of_lt}
 use native.Mathlib.Omega.{arith}
 use lib.ListN.{length, get_or, take, get_or-append}
+use Rattle.codes.specs.Refusal.{refused}
 use Rattle.buffers.specs.Padded.{padded}
 use Rattle.dequantize.specs.Judge.{Description}
 use Rattle.segments.specs.declared.Segment.{Segment}
@@ -18,19 +19,22 @@ use Rattle.table.specs.Table.{Setting, BuildRooms, BuildOutcome, given_of, zeros
 use Rattle.desks.specs.Desks.{Sight, bit_of, hidden_in}
 use Rattle.desks.specs.Agree.{Agree}
 use Rattle.desks.specs.Hide.{HideOutcome, HideRefusal, hide_of}
-use Rattle.desks.specs.declared.HideAnswer.{HideAnswer}
+use Rattle.desks.specs.HideAnswer.{HideAnswer}
+use Rattle.desks.specs.HideAnswer as HideAnswer
 use Rattle.desks.proofs.Shown.{nothing_hidden}
 use Rattle.desks.proofs.Hiding.{Way, no_desk, no_byte, one_bit, way, hide_refused, hide_done, hide_place, hide_refused_exactly, hide_length, hide_sets, hide_keeps, hides_length, hides_keep}
 use Rattle.checks.specs.Tables.{Table, row_of, shown_of}
-use Rattle.checks.specs.declared.Verdict.{Verdict}
-use Rattle.checks.specs.declared.Verdict.TheVariants.{Fine, Fault}
+use Rattle.checks.specs.Verdict.{Verdict}
+use Rattle.checks.specs.Verdict as Verdict
+use Rattle.checks.specs.Verdict.{Fine, Fault}
 use Rattle.checks.proofs.Entries.{and_left, and_right}
 use Rattle.checks.proofs.Refusals.{counts_fit_for, row_fine_for}
 use Rattle.draw.specs.Draw.{Channels, DrawOutcome, updates, judge_draw, outcome, draw_of}
 use Rattle.draw.proofs.Alike.{whole_row}
 use Rattle.draw.specs.Keeps.{Updates}
 use Rattle.draw.specs.Parts.{Whole}
-use Rattle.draw.specs.declared.DrawAnswer.{DrawAnswer}
+use Rattle.draw.specs.DrawAnswer.{DrawAnswer}
+use Rattle.draw.specs.DrawAnswer as DrawAnswer
 use Rattle.draw.proofs.Keeps.{whole_keeps, updated_counts}
 use Rattle.hull.specs.Reach.{touched, ReachOutcome}
 use Rattle.hull.proofs.Alike.{whole_reach}
@@ -71,7 +75,8 @@ use lib.IntN.{ℤ}
 use lib.Signed.{mag}
 use Rattle.list.specs.List.{ListRooms, Got, got, Described, described}
 use Rattle.reader.specs.Read.{ReadOutcome}
-use Rattle.read_list.specs.declared.ReadAnswer.{ReadAnswer}
+use Rattle.read_list.specs.Answer.{ReadAnswer}
+use Rattle.read_list.specs.Answer as ReadAnswer
 use Rattle.writer.specs.Write.{WriteOutcome}
 use Rattle.writer.specs.WriteAnswer.{Done, Refused}
 use Rattle.write_laws.specs.Floats.{Floats}
@@ -87,9 +92,11 @@ use Rattle.codes.specs.declared.Code.{Code}
 use Rattle.aktyrbuz.specs.ListCodes.{ReadDone}
 use Rattle.aktyrbuz.specs.TraceCalls.{TraceReadCall, reads, TraceWriteCall, writes}
 use Rattle.profile.specs.Profile.{ProfileOutcome, tells, profile_of}
-use Rattle.profile.specs.declared.ProfileAnswer.{ProfileAnswer}
+use Rattle.profile.specs.Answers.{ProfileAnswer}
+use Rattle.profile.specs.Answers as ProfileAnswer
 use Rattle.profile_build.specs.Building.{ProfileBuildOutcome, stopped_with, as_built}
-use Rattle.profile_told.specs.declared.ProfileBuildAnswer.{ProfileBuildAnswer}
+use Rattle.profile_told.specs.Answers.{ProfileBuildAnswer}
+use Rattle.profile_told.specs.Answers as ProfileBuildAnswer
 use Rattle.profile_laws.proofs.Says.{meets_iff, broken_iff, refused_iff, edition_iff}
 use Rattle.profile_laws.proofs.Editions.{answer_1_in_2}
 use Rattle.profile_laws.proofs.Builds.{as_build, breaks_leaves, refusal_leaves, done_exactly, broken_exactly, build_refused_exactly, otherwise_is_build, edition_exactly, build_1_in_2}
@@ -102,7 +109,8 @@ use Rattle.trace2.specs.Write.{write_file_of}
 use Rattle.trace2.proofs.Versions.{other_as_before, write_as_before}
 use Rattle.trace2_laws.proofs.Trips.{older_header, written_older, written_then_read, read_then_written, read_so}
 use Rattle.aktyrbuz.specs.Trace2Calls.{FileReadCall, FileWriteCall}
-use Rattle.makers.specs.declared.CheckAnswer.{CheckAnswer}
+use Rattle.makers.specs.CheckAnswer.{CheckAnswer}
+use Rattle.makers.specs.CheckAnswer as CheckAnswer
 use Rattle.makers.specs.Check.{told_of}
 use Rattle.makers_laws.proofs.Refusals.{accepted_exactly, refused_row, refused_code}
 use Rattle.makers_laws.specs.Cut.{cut_to_counts}
@@ -119,8 +127,8 @@ use Rattle.makers_laws.proofs.Refusals as makers-when
 use Rattle.desks.specs.Hide as hide-table
 use Rattle.desks.proofs.Hiding as hiding
 use Rattle.draw.proofs.Parts as parts
-use Rattle.kinds.specs.declared.KindI64.TheVariants as I64
-use Rattle.kinds.specs.declared.KindU64.TheVariants as U64
+use Rattle.kinds.specs.declared.Kind.TheVariants as I64
+use Rattle.kinds.specs.declared.Kind.TheVariants as U64
 use Rattle.table.specs.Table as building
 use Rattle.table.proofs.Segments as making
 use Rattle.reader.specs.Read as reading
@@ -140,7 +148,7 @@ trace_read_bytes : (bytes : List ℕ) (rooms : ListRooms) (o : ReadOutcome) → 
 trace_read_bytes bytes rooms o (reads κs _ _ _ _ _ _ _ _ _ _ _ b p) = b
 
 trace_write_equation : (ns : List ℕ) (ss : List Float) (ds cs : List ℤ) (a : ℤ) (room : ℕ) (o : WriteOutcome) → TraceWriteCall ns ss ds cs a room o → o ≡ write_trace_of ns ss ds cs a room
-trace_write_equation ns ss ds cs a room o (writes κs _ _ _ _ _ _ _ _ _ _ _ _ _ n f c m p) = p
+trace_write_equation ns ss ds cs a room o (writes κs _ _ _ _ _ _ _ n f c m p) = p
 
 record Lent (ns : List ℕ) (ss : List Float) (cs : List ℤ) (a : ℤ) : Type 0 where
   pub counts : Numbers ns
@@ -149,7 +157,7 @@ record Lent (ns : List ℕ) (ss : List Float) (cs : List ℤ) (a : ℤ) : Type 0
   pub adjustment : mag a < 2 ^ 31
 
 trace_write_lent : (ns : List ℕ) (ss : List Float) (ds cs : List ℤ) (a : ℤ) (room : ℕ) (o : WriteOutcome) → TraceWriteCall ns ss ds cs a room o → Lent ns ss cs a
-trace_write_lent ns ss ds cs a room o (writes κs _ _ _ _ _ _ _ _ _ _ _ _ _ n f c m p) = record { counts = n; starts = f; coefficients = c; adjustment = m }
+trace_write_lent ns ss ds cs a room o (writes κs _ _ _ _ _ _ _ n f c m p) = record { counts = n; starts = f; coefficients = c; adjustment = m }
 
 pub file_read_back : FileReadBack
 file_read_back ns ss ds cs a room o n w e rooms h q r =
@@ -175,7 +183,7 @@ done_of rooms (described a zs ns ds cs) o e = record { splines = _; points = _; 
 pub trace_read_codes : TraceReadCodes
 unfolding read_trace_of
 trace_read_codes = record {
-  exactly = λ bytes rooms o r c p. along (λ (u : ReadOutcome). u.answer ≡ ReadAnswer.Refused c p) (trace_read_equation bytes rooms o r) (read_exactly rooms bytes c p);
+  exactly = λ bytes rooms o r c p. along (λ (u : ReadOutcome). u.answer ≡ refused c p) (trace_read_equation bytes rooms o r) (read_exactly rooms bytes c p);
   told = λ bytes rooms o r c p t. read_refused rooms bytes c p o (trace_read_equation bytes rooms o r) t;
   else_done = λ bytes rooms o r none.
       done_of rooms (described_in 8 (numbers_in bytes)) o (trace_read_equation bytes rooms o r ∙ ap (reading.outcome rooms) (judged_fine rooms bytes (read_else rooms bytes none)));
@@ -347,7 +355,7 @@ points_read_equation : (text : List ℕ) (start deltas : ℕ) (o : PointsOutcome
 points_read_equation text start deltas o (polylines.reads κs _ _ _ _ _ _ _ p) = p
 
 points_write_equation : (ns : List ℕ) (ss : List Float) (ds cs : List ℤ) (k room : ℕ) (o : WriteOutcome) → PointsWriteCall ns ss ds cs k room o → o ≡ write_points_of ns ss ds cs k room
-points_write_equation ns ss ds cs k room o (polylines.writes κs _ _ _ _ _ _ _ _ _ _ _ _ _ p) = p
+points_write_equation ns ss ds cs k room o (polylines.writes κs _ _ _ _ _ _ _ p) = p
 
 pub points_as_defined : PointsAsDefined
 points_as_defined = record { read = points_read_equation; write = points_write_equation }
@@ -720,10 +728,10 @@ file_read_bytes : (bytes : List ℕ) (rooms : ListRooms) (o : FileOutcome) → F
 file_read_bytes bytes rooms o (files.reads κs _ _ _ _ _ _ _ _ _ _ _ b p) = b
 
 file_write_equation : (ns : List ℕ) (ss : List Float) (ds cs : List ℤ) (a : ℤ) (v e room : ℕ) (o : WriteOutcome) → FileWriteCall ns ss ds cs a v e room o → o ≡ write_file_of ns ss ds cs a v e room
-file_write_equation ns ss ds cs a v e room o (files.writes κs _ _ _ _ _ _ _ _ _ _ _ _ _ _ _ _ _ n f c m p) = p
+file_write_equation ns ss ds cs a v e room o (files.writes κs _ _ _ _ _ _ _ _ _ _ _ n f c m p) = p
 
 file_write_lent : (ns : List ℕ) (ss : List Float) (ds cs : List ℤ) (a : ℤ) (v e room : ℕ) (o : WriteOutcome) → FileWriteCall ns ss ds cs a v e room o → Lent ns ss cs a
-file_write_lent ns ss ds cs a v e room o (files.writes κs _ _ _ _ _ _ _ _ _ _ _ _ _ _ _ _ _ n f c m p) = record { counts = n; starts = f; coefficients = c; adjustment = m }
+file_write_lent ns ss ds cs a v e room o (files.writes κs _ _ _ _ _ _ _ _ _ _ _ n f c m p) = record { counts = n; starts = f; coefficients = c; adjustment = m }
 
 refused_by : (rooms : ListRooms) (c : Code) (k : ℕ) (o : ReadOutcome) → o ≡ reading.outcome rooms (Got.stop c k) → ReadRefused rooms c k o
 refused_by rooms c k o e = record {
@@ -764,7 +772,7 @@ version_1_as_before = record {
 
 pub file_read_codes : FileReadCodes
 file_read_codes = record {
-  exactly = λ bytes rooms o r c p. along (λ (u : FileOutcome). u.read.answer ≡ ReadAnswer.Refused c p) (file_read_equation bytes rooms o r) (reads-when.read_exactly rooms bytes c p);
+  exactly = λ bytes rooms o r c p. along (λ (u : FileOutcome). u.read.answer ≡ refused c p) (file_read_equation bytes rooms o r) (reads-when.read_exactly rooms bytes c p);
   told = λ bytes rooms o r c p t. reads-when.read_refused rooms bytes c p o (file_read_equation bytes rooms o r) t;
   else_done = λ bytes rooms o r none.
       let e = file_read_equation bytes rooms o r ∙ read_so rooms bytes (reads-when.read_else rooms bytes none) in

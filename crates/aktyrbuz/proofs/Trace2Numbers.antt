@@ -4,16 +4,15 @@ use mathlib.Core.List.{List}
 use Prim.Native.Nat.{ℕ}
 use lib.IntN.{ℤ}
 use lib.Ieee.{Float}
-use Rattle.trace2.specs.Read.{FileOutcome, file_leaves}
-use Rattle.trace2.specs.declared.FileAnswer.{FileAnswer}
-use Rattle.told.specs.declared.Told.{Told}
+use Rattle.std.specs.Prelude.{Ok, Err}
+use Rattle.trace2.specs.Read.{FileAnswer, FileOutcome, file_leaves}
 use Rattle.told.specs.Told.{told_file, told_in}
 use Rattle.aktyrbuz.specs.Exported.{read_leaves}
 use Rattle.aktyrbuz.specs.Trace2Exported.{file_export}
 
-pub file_exported : {o : FileOutcome} (r : FileAnswer) (t : Told) (five : List ℤ) (ns : List ℕ) (zs : List Float) (ds cs : List ℤ)
-    → file_leaves r ns zs ds cs ≡ o → t ≡ told_file r → five ≡ told_in t → read_leaves t.number five ns zs ds cs ≡ file_export o
-file_exported (FileAnswer.Done i n a e) t five ns zs ds cs p q s = rw (← p, s, q)
-file_exported (FileAnswer.Refused c k) t five ns zs ds cs p q s = rw (← p, s, q)
+pub file_exported : {o : FileOutcome} (r : FileAnswer) (k : ℕ) (five : List ℤ) (ns : List ℕ) (zs : List Float) (ds cs : List ℤ)
+    → file_leaves r ns zs ds cs ≡ o → k ≡ (told_file r).number → five ≡ told_in (told_file r) → read_leaves k five ns zs ds cs ≡ file_export o
+file_exported (Ok r) k five ns zs ds cs p q s = rw (← p, s, q)
+file_exported (Err e) k five ns zs ds cs p q s = rw (← p, s, q)
 
 -- Assumes nothing.

@@ -11,17 +11,20 @@ use Rattle.reader.proofs.read.Reads as read
 use Rattle.writer.specs.Write as writing
 use Rattle.writer.proofs.write.Reads as write
 use Rattle.write_laws.specs.Floats.{Floats}
-use Rattle.dequantize.specs.Judge.{Description, description_of}
-use Rattle.table.specs.Table.{Setting, setting_of}
+use Rattle.shape.specs.declared.Description.{Description as Lent}
+use Rattle.shape.specs.Description.{Description, description_in}
+use Rattle.table.specs.Table.{Setting, setting_in}
 use Rattle.table.specs.Table as building
-use Rattle.build_answer.specs.declared.BuildAnswer.{BuildAnswer}
+use Rattle.build_answer.specs.BuildAnswer.{BuildAnswer}
+use Rattle.build_answer.specs.BuildAnswer as BuildAnswer
 use Rattle.table.proofs.build.Reads as build
-use Rattle.desks.specs.Desks.{Sight, sight_of}
+use Rattle.desks.specs.Desks.{Sight, sight_of, sight_in}
 use Rattle.desks.specs.Agree.{Agree}
 use Rattle.desks.specs.Hide.{HideOutcome}
 use Rattle.desks.specs.Hide as hiding
 use Rattle.desks.proofs.hide.Reads as hide
-use Rattle.draw.specs.Draw.{Table, table_of, Channels, three, DrawOutcome, leaves}
+use Rattle.checks.specs.Tables.{Table, table_in}
+use Rattle.draw.specs.Draw.{Channels, three, DrawOutcome, leaves}
 use Rattle.segments.specs.declared.Segment.{Segment}
 use Rattle.table.specs.Segments.{Makes}
 use Rattle.picture.specs.Picture.{built}
@@ -46,38 +49,37 @@ pub data ReadCall : List ℕ → ℕ → ℕ → ListRooms → reading.ReadOutco
 
 -- of a description, under two limits, with so many cells lent; the starts are f32, as every slice of f32 is that can be lent (the contract of `write_laws::lend`)
 pub data WriteCall : List ℕ → List Float → List ℤ → List ℤ → ℤ → ℕ → ℕ → ℕ → writing.WriteOutcome → Type 0 where
-  writes : (κs : Lfts 5) (counts : _) (starts : Bor (List Float)) (deltas : _) (coefficients : _) (adjustment : _) (configured : _) (pixels : _) (list : _) (r : _)
-      (counts' : _) (starts' : _) (deltas' : _) (coefficients' : _) (adjustment' : _) (configured' : _) (pixels' : _) (list' : _)
-      → Floats starts.now → write.Post κs (counts, (starts, (deltas, (coefficients, (adjustment, (configured, (pixels, (list, tt)))))))) r
-      (counts', (starts', (deltas', (coefficients', (adjustment', (configured', (pixels', (list', tt))))))))
-      → WriteCall counts.now starts.now deltas.now coefficients.now adjustment configured pixels (length list.now) (writing.leaves r list'.now)
+  writes : (κs : Lfts 3) (description : Bor Lent) (adjustment : _) (configured : _) (pixels : _) (list : _) (r : _)
+      (description' : _) (adjustment' : _) (configured' : _) (pixels' : _) (list' : _)
+      → Floats description.now.starts.now → write.Post κs (description, (adjustment, (configured, (pixels, (list, tt))))) r
+      (description', (adjustment', (configured', (pixels', (list', tt)))))
+      → WriteCall description.now.counts.now description.now.starts.now description.now.deltas.now description.now.coefficients.now adjustment configured pixels (length list.now) (writing.leaves r list'.now)
 
 -- of a description, for an image, with so many cells lent
 pub data BuildCall : Description → Setting → building.BuildRooms → building.BuildOutcome → Type 0 where
-  builds : (κs : Lfts 10) (counts : _) (starts : _) (deltas : _) (coefficients : _) (adjustment : _) (width : _) (height : _) (ytox : _) (ytob : _) (high : _) (level10 : _) (path : _) (walk : _) (segments : _) (owners : _) (row_starts : _) (entries : _) (r : _)
-      (counts' : _) (starts' : _) (deltas' : _) (coefficients' : _) (adjustment' : _) (width' : _) (height' : _) (ytox' : _) (ytob' : _) (high' : _) (level10' : _) (path' : _) (walk' : _) (segments' : _) (owners' : _) (rowStarts' : _) (entries' : _)
-      → build.Post κs (counts, (starts, (deltas, (coefficients, (adjustment, (width, (height, (ytox, (ytob, (high, (level10, (path, (walk, (segments, (owners, (row_starts, (entries, tt))))))))))))))))) r
-      (counts', (starts', (deltas', (coefficients', (adjustment', (width', (height', (ytox', (ytob', (high', (level10', (path', (walk', (segments', (owners', (rowStarts', (entries', tt)))))))))))))))))
-      → BuildCall (description_of counts.now starts.now deltas.now coefficients.now) (setting_of adjustment width height ytox ytob high level10)
+  builds : (κs : Lfts 8) (description : _) (setting : _) (path : _) (walk : _) (segments : _) (owners : _) (row_starts : _) (entries : _) (r : _)
+      (description' : _) (setting' : _) (path' : _) (walk' : _) (segments' : _) (owners' : _) (row_starts' : _) (entries' : _)
+      → build.Post κs (description, (setting, (path, (walk, (segments, (owners, (row_starts, (entries, tt)))))))) r
+      (description', (setting', (path', (walk', (segments', (owners', (row_starts', (entries', tt))))))))
+      → BuildCall (description_in description.now) (setting_in setting)
       (building.rooms_of path.now walk.now segments.now owners.now row_starts.now entries.now)
-      (building.leaves r path'.now walk'.now segments'.now owners'.now rowStarts'.now entries'.now)
+      (building.leaves r path'.now walk'.now segments'.now owners'.now row_starts'.now entries'.now)
 
 -- of row y of a table for a desk, n pixels from column x0 on, with channels lent that begin there
 pub data DrawCall : Table → Sight → ℕ → ℕ → ℕ → Channels → DrawOutcome → Type 0 where
-  draws : (κs : Lfts 8) (segments : _) (owners : _) (segment_count : _) (entries : _) (entry_count : _) (row_starts : _) (height : _) (splines : _) (bits : _) (desk : _) (y : _) (x0 : _) (n : _) (r0 : _) (r1 : _) (r2 : _) (r : _)
-      (segments' : _) (owners' : _) (segmentCount' : _) (entries' : _) (entryCount' : _) (rowStarts' : _) (height' : _) (splines' : _) (bits' : _) (desk' : _) (y' : _) (x0' : _) (n' : _) (r0' : _) (r1' : _) (r2' : _)
-      → draw.Post κs (segments, (owners, (segment_count, (entries, (entry_count, (row_starts, (height, (splines, (bits, (desk, (y, (x0, (n, (r0, (r1, (r2, tt)))))))))))))))) r
-      (segments', (owners', (segmentCount', (entries', (entryCount', (rowStarts', (height', (splines', (bits', (desk', (y', (x0', (n', (r0', (r1', (r2', tt))))))))))))))))
-      → DrawCall (table_of segments.now segment_count entries.now entry_count row_starts.now height) (sight_of owners.now splines bits.now desk)
-      y x0 n (three r0.now r1.now r2.now) (leaves r (three r0'.now r1'.now r2'.now))
+  draws : (κs : Lfts 7) (table : _) (sight : _) (y : _) (x0 : _) (n : _) (r0 : _) (r1 : _) (r2 : _) (r : _)
+      (table' : _) (sight' : _) (y' : _) (x0' : _) (n' : _) (r0' : _) (r1' : _) (r2' : _)
+      → draw.Post κs (table, (sight, (y, (x0, (n, (r0, (r1, (r2, tt)))))))) r
+      (table', (sight', (y', (x0', (n', (r0', (r1', (r2', tt))))))))
+      → DrawCall (table_in table.now) (sight_in sight.now) y x0 n (three r0.now r1.now r2.now) (leaves r (three r0'.now r1'.now r2'.now))
 
 -- of row y of a table for a desk, for a width
 pub data ReachCall : Table → Sight → ℕ → ℕ → ReachOutcome → Type 0 where
-  reaches : (κs : Lfts 5) (segments : _) (owners : _) (segment_count : _) (entries : _) (entry_count : _) (row_starts : _) (height : _) (splines : _) (bits : _) (desk : _) (y : _) (width : _) (r : _)
-      (segments' : _) (owners' : _) (segmentCount' : _) (entries' : _) (entryCount' : _) (rowStarts' : _) (height' : _) (splines' : _) (bits' : _) (desk' : _) (y' : _) (width' : _)
-      → reach.Post κs (segments, (owners, (segment_count, (entries, (entry_count, (row_starts, (height, (splines, (bits, (desk, (y, (width, tt)))))))))))) r
-      (segments', (owners', (segmentCount', (entries', (entryCount', (rowStarts', (height', (splines', (bits', (desk', (y', (width', tt))))))))))))
-      → ReachCall (table_of segments.now segment_count entries.now entry_count row_starts.now height) (sight_of owners.now splines bits.now desk) y width (tells r)
+  reaches : (κs : Lfts 4) (table : _) (sight : _) (y : _) (width : _) (r : _)
+      (table' : _) (sight' : _) (y' : _) (width' : _)
+      → reach.Post κs (table, (sight, (y, (width, tt)))) r
+      (table', (sight', (y', (width', tt))))
+      → ReachCall (table_in table.now) (sight_in sight.now) y width (tells r)
 
 -- of the shared bytes, for a desk, a spline, and whether it is to be hidden
 pub data HideCall : List ℕ → ℕ → ℕ → Bool → HideOutcome → Type 0 where

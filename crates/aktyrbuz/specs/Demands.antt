@@ -2,6 +2,7 @@
 -- of readings. Definitions only.
 -- Beside this file: the tables of codes of read and write, and how many values a list has (specs/ListCodes.antt: ReadCodes, WriteCodes, WrittenSize); how many points a path has (`curve`,
 -- Curve.antt: PathLength); that the exports tell what the calls answer, and have one outcome (`exports`, Exports.antt: ExportsTellTheCalls, OneOutcomeExported), since a crate cannot speak of its own contracts.
+use Rattle.codes.specs.Refusal.{refused}
 use Rattle.std.specs.Prelude.{◌≡◌, true, false, ◌&&◌, ◌↔◌, List, ◌++◌, ℕ, ◌-◌, ◌*◌, ◌^◌, ◌≤◌, ◌<◌, leb, length, take, replicate, ℤ, pos, negsuc, Float}
 use Rattle.std.specs.Float.{nan, fin, binary32}
 use Rattle.std.specs.Float.Ieee.{of_int}
@@ -17,7 +18,8 @@ use Rattle.list.specs.List.{ListRooms, unpack_signed}
 use Rattle.list.specs.Steps.{zero_f32}
 use Rattle.reader.specs.Read.{ReadOutcome, read_outcome}
 use Rattle.reader.specs.Read as reading
-use Rattle.read_list.specs.declared.ReadAnswer.{ReadAnswer}
+use Rattle.read_list.specs.Answer.{ReadAnswer}
+use Rattle.read_list.specs.Answer as ReadAnswer
 use Rattle.writer.specs.Write.{WriteOutcome, write_of}
 use Rattle.writer.specs.Write as writing
 use Rattle.writer.specs.WriteAnswer.{Done, Refused}
@@ -27,7 +29,7 @@ use Rattle.dequantize.specs.Coefficients.{inv_adjusted_quant}
 use Rattle.dequantize.specs.Judge.{Description}
 use Rattle.segments.specs.declared.Segment.{Segment}
 use Rattle.segments.specs.Segment.{segment_at}
-use Rattle.kinds.specs.declared.KindI64.TheVariants as I64
+use Rattle.kinds.specs.declared.Kind.TheVariants as I64
 use Rattle.segments.specs.Ranges.{row_end, has_row, has_column}
 use Rattle.segments.specs.Spot.{spot}
 use Rattle.segments.specs.Expressions.{AsSplineRs}
@@ -35,7 +37,8 @@ use Rattle.table.specs.Table.{Setting, build_of, zeros}
 use Rattle.table.specs.Table as building
 use Rattle.table.specs.Segments.{Makes, BuildMakes, NeedsMet, done_with, NoLess, SameTable}
 use Rattle.table.specs.Refusals.{BuildRefusal}
-use Rattle.build_answer.specs.declared.BuildAnswer.{BuildAnswer}
+use Rattle.build_answer.specs.BuildAnswer.{BuildAnswer}
+use Rattle.build_answer.specs.BuildAnswer as BuildAnswer
 use Rattle.picture.specs.Picture.{BuiltTable, Lists, row_pairs, image_pairs, RowPicture}
 use Rattle.picture.specs.Sights.{not_hidden, KeptSight}
 use Rattle.desks.specs.Desks.{Sight}
@@ -47,8 +50,10 @@ use Rattle.draw.specs.Refusals.{DrawRefusal}
 use Rattle.draw.specs.Keeps.{Updates, SameCell, SameLengths}
 use Rattle.draw.specs.Image.{most_pairs}
 use Rattle.draw.specs.Image as drawing
-use Rattle.draw.specs.declared.DrawAnswer.{DrawAnswer}
-use Rattle.hull.specs.declared.ReachAnswer.{ReachAnswer}
+use Rattle.draw.specs.DrawAnswer.{DrawAnswer}
+use Rattle.draw.specs.DrawAnswer as DrawAnswer
+use Rattle.hull.specs.ReachAnswer.{ReachAnswer}
+use Rattle.hull.specs.ReachAnswer as ReachAnswer
 use Rattle.hull.specs.Refusals.{ReachRefusal}
 use Rattle.hull.specs.Reach.{ReachOutcome, reach_of}
 use Rattle.aktyrbuz.specs.ListCodes.{ReadCodes, WriteCodes}
@@ -72,14 +77,14 @@ WrittenIsRead =
     (ns : List ℕ) (ss : List Float) (ds cs : List ℤ) (a : ℤ) (configured pixels room : ℕ) (o : WriteOutcome) (n : ℕ)
     → WriteCall ns ss ds cs a configured pixels room o → o.answer ≡ Done n
     → (rooms : ListRooms) → Enough rooms ns ss ds cs → (q : ReadOutcome) → ReadCall (take n o.list) configured pixels rooms q
-    → q ≡ reading.leaves (ReadAnswer.Done (length ns) (points_of ns) a) (padded rooms.counts 0 ns) (padded rooms.starts zero_f32 ss)
+    → q ≡ reading.leaves (ReadAnswer.done (length ns) (points_of ns) a) (padded rooms.counts 0 ns) (padded rooms.starts zero_f32 ss)
     (padded rooms.deltas (pos 0) ds) (padded rooms.coefficients (pos 0) cs)
 
 -- what `read` accepts, `write` writes back under the same limits: the list, every value
 abbrev pub ReadIsWritten : Type 0
 ReadIsWritten =
     (configured pixels : ℕ) (rooms : ListRooms) (l : List ℕ) (q : ReadOutcome) (s p : ℕ) (a : ℤ) → ReadCall l configured pixels rooms q
-    → q.answer ≡ ReadAnswer.Done s p a → (room : ℕ) → length l ≤ room → (o : WriteOutcome)
+    → q.answer ≡ ReadAnswer.done s p a → (room : ℕ) → length l ≤ room → (o : WriteOutcome)
     → WriteCall (take s q.counts) (take (2 * s) q.starts) (take (2 * p) q.deltas) (take (128 * s) q.coefficients) a configured pixels room o
     → o ≡ writing.leaves (Done (length l)) (l ++ replicate (room - length l) 0)
 
@@ -139,7 +144,7 @@ pub record BuildZeros (rooms : building.BuildRooms) (o : building.BuildOutcome) 
 -- a refusal of reading, writing or building leaves every lent cell zero
 pub record RefusedLeavesZero : Type 0 where
   pub read : (l : List ℕ) (configured pixels : ℕ) (rooms : ListRooms) (o : ReadOutcome) (c : Code) (p : ℕ) → ReadCall l configured pixels rooms o
-      → o.answer ≡ ReadAnswer.Refused c p → ReadZeros rooms o
+      → o.answer ≡ refused c p → ReadZeros rooms o
   pub write : (ns : List ℕ) (ss : List Float) (ds cs : List ℤ) (a : ℤ) (configured pixels room : ℕ) (o : WriteOutcome) (c : Code) (p : ℕ)
       → WriteCall ns ss ds cs a configured pixels room o → o.answer ≡ Refused c p → o.list ≡ replicate room 0
   pub build : (d : Description) (i : Setting) (r : building.BuildRooms) (o : building.BuildOutcome) (c : Code) (p : ℕ) → BuildCall d i r o

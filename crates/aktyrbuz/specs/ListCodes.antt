@@ -1,11 +1,13 @@
 -- The codes of reading and writing, each exactly when: statements on outcomes that the proved contracts allow. Definitions only.
+use Rattle.codes.specs.Refusal.{refused}
 use Rattle.std.specs.Prelude.{◌≡◌, List, ◌↔◌, ℕ, ℤ, Float, length}
 use Rattle.codes.specs.declared.Code.{Code}
 use Rattle.shape.specs.Shape.{points_of}
 use Rattle.list.specs.List.{ListRooms, limit_of}
 use Rattle.reader.specs.Read.{ReadOutcome}
 use Rattle.reader.specs.Refusals.{ReadRefusal, ReadRefused}
-use Rattle.read_list.specs.declared.ReadAnswer.{ReadAnswer}
+use Rattle.read_list.specs.Answer.{ReadAnswer}
+use Rattle.read_list.specs.Answer as ReadAnswer
 use Rattle.writer.specs.Write.{WriteOutcome}
 use Rattle.writer.specs.WriteAnswer.{Done, Refused}
 use Rattle.write_laws.specs.Refusals.{WriteRefusal, WriteRefused, WriteAccepted, list_size}
@@ -16,13 +18,13 @@ pub record ReadDone (o : ReadOutcome) : Type 0 where
   pub splines : ℕ
   pub points : ℕ
   pub adjustment : ℤ
-  pub is : o.answer ≡ ReadAnswer.Done splines points adjustment
+  pub is : o.answer ≡ ReadAnswer.done splines points adjustment
 
 -- reading refuses with a code at a place exactly when the table of reading gives it; the number, the place and the counts of 0 are then told, and every lent cell is zero
 -- where the table gives nothing, reading is done
 pub record ReadCodes : Type 0 where
   pub exactly : (l : List ℕ) (configured pixels : ℕ) (rooms : ListRooms) (o : ReadOutcome) → ReadCall l configured pixels rooms o
-      → (c : Code) (p : ℕ) → o.answer ≡ ReadAnswer.Refused c p ↔ ReadRefusal (limit_of configured pixels) rooms l c p
+      → (c : Code) (p : ℕ) → o.answer ≡ refused c p ↔ ReadRefusal (limit_of configured pixels) rooms l c p
   pub told : (l : List ℕ) (configured pixels : ℕ) (rooms : ListRooms) (o : ReadOutcome) → ReadCall l configured pixels rooms o
       → (c : Code) (p : ℕ) → ReadRefusal (limit_of configured pixels) rooms l c p → ReadRefused rooms c p o
   pub else_done : (l : List ℕ) (configured pixels : ℕ) (rooms : ListRooms) (o : ReadOutcome) → ReadCall l configured pixels rooms o

@@ -1,6 +1,6 @@
 -- What the export for another maker's table returns and leaves, as in Exported.antt. Definitions only.
 use Rattle.std.specs.Prelude.{List, ℕ, ℤ}
-use Rattle.makers.specs.declared.CheckAnswer.{CheckAnswer}
+use Rattle.makers.specs.CheckAnswer.{CheckAnswer}
 use Rattle.told.specs.Told.{told_check, told_in}
 
 pub record CheckExport : Type 0 where

@@ -15,8 +15,8 @@ pub data PointsReadCall : List ℕ → ℕ → ℕ → points.PointsOutcome → 
 
 -- of a description and the number of a spline, with so many bytes lent
 pub data PointsWriteCall : List ℕ → List Float → List ℤ → List ℤ → ℕ → ℕ → writing.WriteOutcome → Type 0 where
-  writes : (κs : Lfts 5) (counts : _) (starts : _) (deltas : _) (coefficients : _) (spline : _) (text : _) (r : _)
-      (counts' : _) (starts' : _) (deltas' : _) (coefficients' : _) (spline' : _) (text' : _)
-      → points-write.Post κs (counts, (starts, (deltas, (coefficients, (spline, (text, tt)))))) r
-      (counts', (starts', (deltas', (coefficients', (spline', (text', tt))))))
-      → PointsWriteCall counts.now starts.now deltas.now coefficients.now spline (length text.now) (writing.leaves r text'.now)
+  writes : (κs : Lfts 3) (description : _) (spline : _) (text : _) (r : _)
+      (description' : _) (spline' : _) (text' : _)
+      → points-write.Post κs (description, (spline, (text, tt))) r
+      (description', (spline', (text', tt)))
+      → PointsWriteCall description.now.counts.now description.now.starts.now description.now.deltas.now description.now.coefficients.now spline (length text.now) (writing.leaves r text'.now)

@@ -1,4 +1,5 @@
 -- The later requests, as named statements on outcomes that the proved contracts of the calls allow (specs/Calls.antt). proofs/Requests.antt proves each, but proofs/PointsTexts.antt most of (iv) and proofs/Bands.antt those on bands. Definitions only.
+use Rattle.codes.specs.Refusal.{refused}
 use Rattle.std.specs.Prelude.{◌≡◌, Bool, true, false, ◌↔◌, ◌⊎◌, List, [], ◌∷◌, ◌++◌, ℕ, suc, ◌≤◌, ◌<◌, ◌+◌, ◌^◌, ◌-◌, ◌*◌, pos, ℤ, negsuc, length, get_or, take, replicate, Float, ◌≤ℤ◌}
 use Rattle.std.specs.Float.{fin, nan}
 use Rattle.std.specs.Float.Ieee.{is_nan}
@@ -12,13 +13,16 @@ use Rattle.table.specs.Table.{Setting, BuildRooms, BuildOutcome, given_of}
 use Rattle.desks.specs.Desks.{Sight, sight_of, bit_of, hidden_in}
 use Rattle.desks.specs.Agree.{OwnBitsAlike, Agree, NothingHidden}
 use Rattle.desks.specs.Hide.{HideOutcome, HideRefusal}
-use Rattle.desks.specs.declared.HideAnswer.{HideAnswer}
+use Rattle.desks.specs.HideAnswer.{HideAnswer}
+use Rattle.desks.specs.HideAnswer as HideAnswer
 use Rattle.checks.specs.Tables.{Table, row_of, shown_of}
 use Rattle.draw.specs.Draw.{Channels, DrawOutcome, unhidden, judge_draw}
 use Rattle.draw.specs.Keeps.{Updates, SameCell}
-use Rattle.draw.specs.declared.DrawAnswer.{DrawAnswer}
+use Rattle.draw.specs.DrawAnswer.{DrawAnswer}
+use Rattle.draw.specs.DrawAnswer as DrawAnswer
 use Rattle.hull.specs.Reach.{ReachOutcome, reach_over, judge_reach_of, reach_answer, tells}
-use Rattle.hull.specs.declared.ReachAnswer.{ReachAnswer}
+use Rattle.hull.specs.ReachAnswer.{ReachAnswer}
+use Rattle.hull.specs.ReachAnswer as ReachAnswer
 use Rattle.aktyrbuz.specs.Calls.{DrawCall, ReachCall, HideCall, HideCalls, with_bits, KeptTable, RowRun, ImageRun, BuildDone, BuildCall}
 use Rattle.near.specs.Near.{Edge, apart, Tight, RowsBy, ColumnsBy, RowsNear, ColumnsNear, EveryFinite}
 use Rattle.picture.specs.Picture.{Found, RowPicture, row_pairs, image_pairs, built}
@@ -38,7 +42,8 @@ use Rattle.list.specs.List.{ListRooms}
 use Rattle.list.specs.Steps.{zero_f32}
 use Rattle.reader.specs.Read.{ReadOutcome}
 use Rattle.reader.specs.Refusals.{ReadRefused}
-use Rattle.read_list.specs.declared.ReadAnswer.{ReadAnswer}
+use Rattle.read_list.specs.Answer.{ReadAnswer}
+use Rattle.read_list.specs.Answer as ReadAnswer
 use Rattle.writer.specs.Write.{WriteOutcome, WriteTold}
 use Rattle.writer.specs.WriteAnswer.{Done, Refused}
 use Rattle.write_laws.specs.Refusals.{WriteRefused}
@@ -48,9 +53,11 @@ use Rattle.trace_laws.specs.Small.{small_file, small_rooms}
 use Rattle.aktyrbuz.specs.ListCodes.{ReadDone}
 use Rattle.aktyrbuz.specs.TraceCalls.{TraceReadCall, TraceWriteCall}
 use Rattle.profile.specs.Profile.{ProfileOutcome}
-use Rattle.profile.specs.declared.ProfileAnswer.{ProfileAnswer}
+use Rattle.profile.specs.Answers.{ProfileAnswer}
+use Rattle.profile.specs.Answers as ProfileAnswer
 use Rattle.profile_build.specs.Building.{ProfileBuildOutcome, stopped_with, as_built}
-use Rattle.profile_told.specs.declared.ProfileBuildAnswer.{ProfileBuildAnswer}
+use Rattle.profile_told.specs.Answers.{ProfileBuildAnswer}
+use Rattle.profile_told.specs.Answers as ProfileBuildAnswer
 use Rattle.profile_laws.specs.Rules.{Meeting, Breaking, NoEdition, ProfileRefusal}
 use Rattle.profile_laws.specs.Refusals.{Plain, DoneByBuild, BreaksRule, UnknownEdition, ProfileBuildRefusal}
 use Rattle.aktyrbuz.specs.ProfileCalls.{ProfileCall, ProfileBuildCall}
@@ -60,12 +67,14 @@ use Rattle.trace2.specs.Editions.{edition_in}
 use Rattle.trace2.specs.Read.{FileOutcome, with_edition}
 use Rattle.trace2_laws.specs.Refusals.{FileReadRefusal, FileWriteRefusal, FileAccepted}
 use Rattle.aktyrbuz.specs.Trace2Calls.{FileReadCall, FileWriteCall}
-use Rattle.makers.specs.declared.CheckAnswer.{CheckAnswer}
+use Rattle.makers.specs.CheckAnswer.{CheckAnswer}
+use Rattle.makers.specs.CheckAnswer as CheckAnswer
 use Rattle.makers.specs.Check.{told_of}
 use Rattle.makers.specs.Refusals.{Fits, FirstWrong, CheckAccepted, CheckRefusal}
 use Rattle.makers_laws.specs.Cut.{cut_to_counts}
 use Rattle.aktyrbuz.specs.MakersCalls.{CheckCall}
-use Rattle.bands.specs.declared.BandsAnswer.{BandsAnswer}
+use Rattle.bands.specs.BandsAnswer.{BandsAnswer}
+use Rattle.bands.specs.BandsAnswer as BandsAnswer
 use Rattle.bands.specs.Bands.{bands_in}
 use Rattle.bands.specs.Calls.{BandsOutcome}
 use Rattle.bands.specs.Refusals.{BandsRefusal, BandRefusal}
@@ -78,7 +87,7 @@ use Rattle.dequantize.specs.Judge.{description_of, start_x, start_y, deltas_of}
 use Rattle.dequantize.specs.Refusals.{SplinePasses, SplineRefusal}
 use Rattle.dequantize.specs.declared.Given.{Given}
 use Rattle.control_points.specs.declared.Pair.{Pair}
-use Rattle.control_points.specs.declared.Start.TheVariants as start_at_lem
+use Rattle.control_points.specs.Answers as start_at_lem
 use Rattle.polyline.specs.Form.{PointsForm}
 use Rattle.polyline.specs.Read.{PointsOutcome, read_points_of}
 use Rattle.polyline.specs.Read as drawn
@@ -88,8 +97,8 @@ use Rattle.polyline_laws.specs.Says.{FormSays, OneSaying}
 use Rattle.polyline_laws.specs.Refusals.{PointsReadRefusal, PointsAccepted, There, PointsWriteRefusal, PointsWritten}
 use Rattle.aktyrbuz.specs.PolylineCalls.{PointsReadCall, PointsWriteCall}
 use Rattle.draw.specs.Image as drawing
-use Rattle.kinds.specs.declared.KindI64.TheVariants as I64
-use Rattle.kinds.specs.declared.KindU64.TheVariants as U64
+use Rattle.kinds.specs.declared.Kind.TheVariants as I64
+use Rattle.kinds.specs.declared.Kind.TheVariants as U64
 use Rattle.table.specs.Table as building
 use Rattle.reader.specs.Read as reading
 use Rattle.writer.specs.Write as writing
@@ -101,13 +110,13 @@ abbrev pub FileReadBack : Type 0
 FileReadBack =
     (ns : List ℕ) (ss : List Float) (ds cs : List ℤ) (a : ℤ) (room : ℕ) (o : WriteOutcome) (n : ℕ) → TraceWriteCall ns ss ds cs a room o → o.answer ≡ Done n
     → (rooms : ListRooms) → Enough rooms ns ss ds cs → (q : ReadOutcome) → TraceReadCall (take n o.list) rooms q
-    → q ≡ reading.leaves (ReadAnswer.Done (length ns) (points_of ns) a) (padded rooms.counts 0 ns) (padded rooms.starts zero_f32 ss)
+    → q ≡ reading.leaves (ReadAnswer.done (length ns) (points_of ns) a) (padded rooms.counts 0 ns) (padded rooms.starts zero_f32 ss)
     (padded rooms.deltas (pos 0) ds) (padded rooms.coefficients (pos 0) cs)
 
 -- what is read is written as the same bytes, with zeros behind
 abbrev pub FileWrittenBack : Type 0
 FileWrittenBack =
-    (bytes : List ℕ) (rooms : ListRooms) (q : ReadOutcome) (s p : ℕ) (a : ℤ) → TraceReadCall bytes rooms q → q.answer ≡ ReadAnswer.Done s p a
+    (bytes : List ℕ) (rooms : ListRooms) (q : ReadOutcome) (s p : ℕ) (a : ℤ) → TraceReadCall bytes rooms q → q.answer ≡ ReadAnswer.done s p a
     → (room : ℕ) → length bytes ≤ room → (o : WriteOutcome)
     → TraceWriteCall (take s q.counts) (take (2 * s) q.starts) (take (2 * p) q.deltas) (take (128 * s) q.coefficients) a room o
     → o ≡ writing.leaves (Done (length bytes)) (bytes ++ replicate (room - length bytes) 0)
@@ -116,13 +125,13 @@ FileWrittenBack =
 abbrev pub OneFile : Type 0
 OneFile =
     (bytes bytes' : List ℕ) (rooms : ListRooms) (q : ReadOutcome) (s p : ℕ) (a : ℤ) → TraceReadCall bytes rooms q → TraceReadCall bytes' rooms q
-    → q.answer ≡ ReadAnswer.Done s p a → bytes ≡ bytes'
+    → q.answer ≡ ReadAnswer.done s p a → bytes ≡ bytes'
 
 -- reading refuses with a code at a place exactly when the table of reading gives it; the number, the place and the counts of 0 are then told, and every lent cell is zero
 -- where the table gives nothing, reading is done
 pub record TraceReadCodes : Type 0 where
   pub exactly : (bytes : List ℕ) (rooms : ListRooms) (o : ReadOutcome) → TraceReadCall bytes rooms o
-      → (c : Code) (p : ℕ) → o.answer ≡ ReadAnswer.Refused c p ↔ TraceReadRefusal rooms bytes c p
+      → (c : Code) (p : ℕ) → o.answer ≡ refused c p ↔ TraceReadRefusal rooms bytes c p
   pub told : (bytes : List ℕ) (rooms : ListRooms) (o : ReadOutcome) → TraceReadCall bytes rooms o
       → (c : Code) (p : ℕ) → TraceReadRefusal rooms bytes c p → ReadRefused rooms c p o
   pub else_done : (bytes : List ℕ) (rooms : ListRooms) (o : ReadOutcome) → TraceReadCall bytes rooms o
@@ -147,7 +156,7 @@ pub record TraceOneOutcome : Type 0 where
 abbrev pub NegativeFirstStart : Type 0
 NegativeFirstStart =
     (o : ReadOutcome) → TraceReadCall small_file small_rooms o
-    → o ≡ reading.leaves (ReadAnswer.Done 1 0 (negsuc 7)) (0 ∷ []) (fin true 3 (pos 0) ∷ fin true 1 (pos 23) ∷ []) [] (replicate 128 (pos 0))
+    → o ≡ reading.leaves (ReadAnswer.done 1 0 (negsuc 7)) (0 ∷ []) (fin true 3 (pos 0) ∷ fin true 1 (pos 23) ∷ []) [] (replicate 128 (pos 0))
 
 -- ---- (iii) the reach of a row
 
@@ -526,16 +535,16 @@ pub record OneFilePerVersion : Type 0 where
   pub read_back : (ns : List ℕ) (ss : List Float) (ds cs : List ℤ) (a : ℤ) (v e room : ℕ) (o : WriteOutcome) (n : ℕ) → FileWriteCall ns ss ds cs a v e room o → o.answer ≡ Done n
       → (rooms : ListRooms) → Enough rooms ns ss ds cs → (q : FileOutcome) → FileReadCall (take n o.list) rooms q
       → q ≡ record {
-        read = reading.leaves (ReadAnswer.Done (length ns) (points_of ns) a) (padded rooms.counts 0 ns) (padded rooms.starts zero_f32 ss)
+        read = reading.leaves (ReadAnswer.done (length ns) (points_of ns) a) (padded rooms.counts 0 ns) (padded rooms.starts zero_f32 ss)
             (padded rooms.deltas (pos 0) ds) (padded rooms.coefficients (pos 0) cs);
         edition = e;
       }
-  pub written_back : (bytes : List ℕ) (rooms : ListRooms) (q : FileOutcome) (s p : ℕ) (a : ℤ) → FileReadCall bytes rooms q → q.read.answer ≡ ReadAnswer.Done s p a
+  pub written_back : (bytes : List ℕ) (rooms : ListRooms) (q : FileOutcome) (s p : ℕ) (a : ℤ) → FileReadCall bytes rooms q → q.read.answer ≡ ReadAnswer.done s p a
       → (room : ℕ) → length bytes ≤ room → (v : ℕ) → number bytes 0 ≡ v → (o : WriteOutcome)
       → FileWriteCall (take s q.read.counts) (take (2 * s) q.read.starts) (take (2 * p) q.read.deltas) (take (128 * s) q.read.coefficients) a v q.edition room o
       → o ≡ writing.leaves (Done (length bytes)) (bytes ++ replicate (room - length bytes) 0)
   pub one : (bytes bytes' : List ℕ) (rooms : ListRooms) (q : FileOutcome) (s p : ℕ) (a : ℤ) → FileReadCall bytes rooms q → FileReadCall bytes' rooms q
-      → q.read.answer ≡ ReadAnswer.Done s p a → number bytes 0 ≡ number bytes' 0 → bytes ≡ bytes'
+      → q.read.answer ≡ ReadAnswer.done s p a → number bytes 0 ≡ number bytes' 0 → bytes ≡ bytes'
 
 -- version 1 is as before, every cell: a file of version 1 is read as `trace_read` reads it, with edition 1, and version 1 with edition 1 is written as `trace_write` writes it
 pub record VersionOneAsBefore : Type 0 where
@@ -546,7 +555,7 @@ pub record VersionOneAsBefore : Type 0 where
 -- where the table gives nothing, reading is done, and it tells the edition: 1 for version 1, else the ninth number
 pub record FileReadCodes : Type 0 where
   pub exactly : (bytes : List ℕ) (rooms : ListRooms) (o : FileOutcome) → FileReadCall bytes rooms o
-      → (c : Code) (p : ℕ) → o.read.answer ≡ ReadAnswer.Refused c p ↔ FileReadRefusal rooms bytes c p
+      → (c : Code) (p : ℕ) → o.read.answer ≡ refused c p ↔ FileReadRefusal rooms bytes c p
   pub told : (bytes : List ℕ) (rooms : ListRooms) (o : FileOutcome) → FileReadCall bytes rooms o
       → (c : Code) (p : ℕ) → FileReadRefusal rooms bytes c p → ReadRefused rooms c p o.read × (o.edition ≡ 0)
   pub else_done : (bytes : List ℕ) (rooms : ListRooms) (o : FileOutcome) → FileReadCall bytes rooms o

@@ -4,6 +4,7 @@ use Rattle.std.specs.Prelude.{List, ℕ, ◌^◌, ◌<◌, length, ℤ, Float}
 use Rattle.std.specs.Int.Signed.{mag}
 use contract.Lifetimes.{Lfts}
 use denote.Bor.{Bor}
+use Rattle.shape.specs.declared.Description.{Description as Lent}
 use Rattle.list.specs.List.{ListRooms}
 use Rattle.reader.specs.Read as reading
 use Rattle.writer.specs.Write as writing
@@ -25,9 +26,8 @@ pub data FileReadCall : List ℕ → ListRooms → FileOutcome → Type 0 where
 -- of a description, a version and an edition, with so many bytes lent; its numbers are of their types, as all are that can be lent
 -- (the contracts of `lend_numbers`, `lend_signed` and `take_signed` of `trace_laws`, and of `write_laws::lend`)
 pub data FileWriteCall : List ℕ → List Float → List ℤ → List ℤ → ℤ → ℕ → ℕ → ℕ → writing.WriteOutcome → Type 0 where
-  writes : (κs : Lfts 5) (counts : Bor (List ℕ)) (starts : Bor (List Float)) (deltas : _) (coefficients : Bor (List ℤ)) (adjustment : _) (version : _) (edition : _) (bytes : _) (r : _)
-      (counts' : _) (starts' : _) (deltas' : _) (coefficients' : _) (adjustment' : _) (version' : _) (edition' : _) (bytes' : _)
-      → Numbers counts.now → Floats starts.now → Signeds coefficients.now → mag adjustment < 2 ^ 31
-      → trace-write2.Post κs (counts, (starts, (deltas, (coefficients, (adjustment, (version, (edition, (bytes, tt)))))))) r
-      (counts', (starts', (deltas', (coefficients', (adjustment', (version', (edition', (bytes', tt))))))))
-      → FileWriteCall counts.now starts.now deltas.now coefficients.now adjustment version edition (length bytes.now) (writing.leaves r bytes'.now)
+  writes : (κs : Lfts 3) (description : Bor Lent) (adjustment : _) (version : _) (edition : _) (bytes : _) (r : _)
+      (description' : _) (adjustment' : _) (version' : _) (edition' : _) (bytes' : _)
+      → Numbers description.now.counts.now → Floats description.now.starts.now → Signeds description.now.coefficients.now → mag adjustment < 2 ^ 31 → trace-write2.Post κs (description, (adjustment, (version, (edition, (bytes, tt))))) r
+      (description', (adjustment', (version', (edition', (bytes', tt)))))
+      → FileWriteCall description.now.counts.now description.now.starts.now description.now.deltas.now description.now.coefficients.now adjustment version edition (length bytes.now) (writing.leaves r bytes'.now)

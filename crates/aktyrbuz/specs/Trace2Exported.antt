@@ -7,7 +7,7 @@ use Rattle.aktyrbuz.specs.Exported.{ReadExport, read_leaves}
 -- the five numbers: place, splines, points, adjustment, edition
 abbrev pub file_five : FileOutcome → List ℤ
 file_five o =
-    (told_read o.read.answer).place ∷ (told_read o.read.answer).first ∷ (told_read o.read.answer).second ∷ (told_read o.read.answer).third ∷ pos o.edition ∷ []
+    (told_read o.read.answer).place ∷ (told_read o.read.answer).counts.first ∷ (told_read o.read.answer).counts.second ∷ (told_read o.read.answer).counts.third ∷ pos o.edition ∷ []
 
 abbrev pub file_export : FileOutcome → ReadExport
 file_export o = read_leaves (told_read o.read.answer).number (file_five o) o.read.counts o.read.starts o.read.deltas o.read.coefficients

@@ -4,6 +4,7 @@ use Rattle.std.specs.Prelude.{List, ℕ, ◌^◌, ◌<◌, length, ℤ, Float}
 use Rattle.std.specs.Int.Signed.{mag}
 use contract.Lifetimes.{Lfts}
 use denote.Bor.{Bor}
+use Rattle.shape.specs.declared.Description.{Description as Lent}
 use Rattle.list.specs.List.{ListRooms}
 use Rattle.reader.specs.Read as reading
 use Rattle.writer.specs.Write as writing
@@ -23,9 +24,8 @@ pub data TraceReadCall : List ℕ → ListRooms → reading.ReadOutcome → Type
 
 -- of a description, with so many bytes lent; its numbers are of their types, as all are that can be lent (the contracts of `lend_numbers`, `lend_signed` and `take_signed` of `trace_laws`, and of `write_laws::lend`)
 pub data TraceWriteCall : List ℕ → List Float → List ℤ → List ℤ → ℤ → ℕ → writing.WriteOutcome → Type 0 where
-  writes : (κs : Lfts 5) (counts : Bor (List ℕ)) (starts : Bor (List Float)) (deltas : _) (coefficients : Bor (List ℤ)) (adjustment : _) (bytes : _) (r : _)
-      (counts' : _) (starts' : _) (deltas' : _) (coefficients' : _) (adjustment' : _) (bytes' : _)
-      → Numbers counts.now → Floats starts.now → Signeds coefficients.now → mag adjustment < 2 ^ 31
-      → trace-write.Post κs (counts, (starts, (deltas, (coefficients, (adjustment, (bytes, tt)))))) r
-      (counts', (starts', (deltas', (coefficients', (adjustment', (bytes', tt))))))
-      → TraceWriteCall counts.now starts.now deltas.now coefficients.now adjustment (length bytes.now) (writing.leaves r bytes'.now)
+  writes : (κs : Lfts 3) (description : Bor Lent) (adjustment : _) (bytes : _) (r : _)
+      (description' : _) (adjustment' : _) (bytes' : _)
+      → Numbers description.now.counts.now → Floats description.now.starts.now → Signeds description.now.coefficients.now → mag adjustment < 2 ^ 31 → trace-write.Post κs (description, (adjustment, (bytes, tt))) r
+      (description', (adjustment', (bytes', tt)))
+      → TraceWriteCall description.now.counts.now description.now.starts.now description.now.deltas.now description.now.coefficients.now adjustment (length bytes.now) (writing.leaves r bytes'.now)

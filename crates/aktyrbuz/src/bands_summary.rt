@@ -5,7 +5,9 @@ ghost use Rattle.checks.specs.Tables.{table_of};
 ghost use Rattle.bands.specs.Calls.{bands_of, band_of};
 ghost use Rattle.aktyrbuz.specs.BandsExported.{bands_leaves, bands_export};
 
-use told::{tell, told_bands};
+use checks::Table;
+use desks::Sight;
+use told::tell;
 
 pub fn aktyrbuz_bands(
     segments: &[f32],
@@ -25,22 +27,21 @@ pub fn aktyrbuz_bands(
     ensures { bands_leaves result answer.new bands.new
         ≡ bands_export (bands_of (table_of segments.now segment_count entries.now entry_count row_starts.now height) (sight_of owners.now splines bits.now desk) width (length bands.old)) }
 {
-    let told = told_bands(bands::make(
+    let table = Table {
         segments,
-        owners,
         segment_count,
         entries,
         entry_count,
         row_starts,
         height,
+    };
+    let sight = Sight {
+        owners,
         splines,
         bits,
         desk,
-        width,
-        bands,
-    ));
-    tell(answer, told);
-    told.number
+    };
+    tell(answer, bands::make(&table, &sight, width, bands))
 }
 
 pub fn aktyrbuz_band(
@@ -62,21 +63,19 @@ pub fn aktyrbuz_band(
     ensures { bands_leaves result answer.new bands.new
         ≡ bands_export (band_of (table_of segments.now segment_count entries.now entry_count row_starts.now height) (sight_of owners.now splines bits.now desk) width band bands.old) }
 {
-    let told = told_bands(bands::refresh(
+    let table = Table {
         segments,
-        owners,
         segment_count,
         entries,
         entry_count,
         row_starts,
         height,
+    };
+    let sight = Sight {
+        owners,
         splines,
         bits,
         desk,
-        width,
-        bands,
-        band,
-    ));
-    tell(answer, told);
-    told.number
+    };
+    tell(answer, bands::refresh(&table, &sight, width, bands, band))
 }

@@ -3,7 +3,7 @@ ghost use Rattle.std.specs.Prelude.{◌≡◌};
 ghost use Rattle.desks.specs.Hide.{hide_of};
 ghost use Rattle.aktyrbuz.specs.Exported.{hide_leaves, hide_export};
 
-use told::{tell, told_hide};
+use told::tell;
 
 pub fn aktyrbuz_hide(
     bits: &mut [u8],
@@ -14,7 +14,5 @@ pub fn aktyrbuz_hide(
 ) -> u32
     ensures { hide_leaves result answer.new bits.new ≡ hide_export (hide_of bits.old desk spline hidden) }
 {
-    let told = told_hide(desks::hide(bits, desk, spline, hidden));
-    tell(answer, told);
-    told.number
+    tell(answer, desks::hide(bits, desk, spline, hidden))
 }

@@ -22,9 +22,11 @@ pub mod profiles;
 pub mod trace_files;
 pub mod trace_files2;
 
+use checks::Table;
+use desks::Sight;
+use shape::Description;
+use table::Setting;
 use told::tell;
-use told_lists::{told_read, told_write};
-use told_tables::{told_build, told_draw, told_reach};
 
 // The natural logarithm of an f32.
 pub fn aktyrbuz_ln(x: f32) -> f32
@@ -46,17 +48,7 @@ pub fn aktyrbuz_read(
     ensures { read_leaves result answer.new counts.new starts.new deltas.new coefficients.new
         ≡ read_export (read_outcome configured pixels (rooms_of counts.old starts.old deltas.old coefficients.old) list.now) }
 {
-    let told = told_read(reader::read(
-        list,
-        configured,
-        pixels,
-        counts,
-        starts,
-        deltas,
-        coefficients,
-    ));
-    tell(answer, told);
-    told.number
+    tell(answer, reader::read(list, configured, pixels, counts, starts, deltas, coefficients))
 }
 
 pub fn aktyrbuz_write(
@@ -73,18 +65,13 @@ pub fn aktyrbuz_write(
     ensures { write_leaves result answer.new list.new
         ≡ write_export (write_of counts.now starts.now deltas.now coefficients.now adjustment configured pixels (length list.old)) }
 {
-    let told = told_write(writer::write(
+    let description = Description {
         counts,
         starts,
         deltas,
         coefficients,
-        adjustment,
-        configured,
-        pixels,
-        list,
-    ));
-    tell(answer, told);
-    told.number
+    };
+    tell(answer, writer::write(&description, adjustment, configured, pixels, list))
 }
 
 pub fn aktyrbuz_build(
@@ -110,11 +97,13 @@ pub fn aktyrbuz_build(
     ensures { build_leaves result answer.new path.new walk.new segments.new owners.new row_starts.new entries.new
         ≡ build_export (build_of (description_of counts.now starts.now deltas.now coefficients.now) (setting_of adjustment width height y_to_x y_to_b high_precision level10) (build.rooms_of path.old walk.old segments.old owners.old row_starts.old entries.old)) }
 {
-    let told = told_build(table::build(
+    let description = Description {
         counts,
         starts,
         deltas,
         coefficients,
+    };
+    let setting = Setting {
         adjustment,
         width,
         height,
@@ -122,15 +111,8 @@ pub fn aktyrbuz_build(
         y_to_b,
         high_precision,
         level10,
-        path,
-        walk,
-        segments,
-        owners,
-        row_starts,
-        entries,
-    ));
-    tell(answer, told);
-    told.number
+    };
+    tell(answer, table::build(&description, setting, path, walk, segments, owners, row_starts, entries))
 }
 
 pub fn aktyrbuz_draw(
@@ -155,26 +137,21 @@ pub fn aktyrbuz_draw(
     ensures { draw_leaves result answer.new (three r0.new r1.new r2.new)
         ≡ draw_export (draw_of (table_of segments.now segment_count entries.now entry_count row_starts.now height) (sight_of owners.now splines bits.now desk) y x0 n (three r0.old r1.old r2.old)) }
 {
-    let told = told_draw(draw::draw(
+    let table = Table {
         segments,
-        owners,
         segment_count,
         entries,
         entry_count,
         row_starts,
         height,
+    };
+    let sight = Sight {
+        owners,
         splines,
         bits,
         desk,
-        y,
-        x0,
-        n,
-        r0,
-        r1,
-        r2,
-    ));
-    tell(answer, told);
-    told.number
+    };
+    tell(answer, draw::draw(&table, &sight, y, x0, n, r0, r1, r2))
 }
 
 pub fn aktyrbuz_reach(
@@ -195,20 +172,19 @@ pub fn aktyrbuz_reach(
     ensures { reach_leaves result answer.new
         ≡ reach_export (reach_of (table_of segments.now segment_count entries.now entry_count row_starts.now height) (sight_of owners.now splines bits.now desk) y width) }
 {
-    let told = told_reach(hull::reach(
+    let table = Table {
         segments,
-        owners,
         segment_count,
         entries,
         entry_count,
         row_starts,
         height,
+    };
+    let sight = Sight {
+        owners,
         splines,
         bits,
         desk,
-        y,
-        width,
-    ));
-    tell(answer, told);
-    told.number
+    };
+    tell(answer, hull::reach(&table, &sight, y, width))
 }

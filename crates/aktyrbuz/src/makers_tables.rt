@@ -3,8 +3,8 @@ ghost use Rattle.std.specs.Prelude.{◌≡◌};
 ghost use Rattle.makers.specs.Check.{check_of};
 ghost use Rattle.aktyrbuz.specs.MakersExported.{check_leaves, check_export};
 
+use checks::Table;
 use told::tell;
-use told_tables::told_check;
 
 pub fn aktyrbuz_check(
     segments: &[f32],
@@ -18,14 +18,13 @@ pub fn aktyrbuz_check(
     ensures { check_leaves result answer.new
         ≡ check_export (check_of segments.now segment_count height row_starts.now entries.now entry_count) }
 {
-    let told = told_check(makers_search::check(
+    let table = Table {
         segments,
         segment_count,
-        height,
-        row_starts,
         entries,
         entry_count,
-    ));
-    tell(answer, told);
-    told.number
+        row_starts,
+        height,
+    };
+    tell(answer, makers_search::check(&table))
 }

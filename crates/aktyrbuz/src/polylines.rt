@@ -5,8 +5,8 @@ ghost use Rattle.polyline.specs.Write.{write_points_of};
 ghost use Rattle.aktyrbuz.specs.Exported.{write_leaves, write_export};
 ghost use Rattle.aktyrbuz.specs.Polylines.{points_leaves, points_export};
 
+use shape::Description;
 use told::tell;
-use told_lists::told_write;
 
 pub fn aktyrbuz_points_read(
     text: &[u8],
@@ -17,9 +17,7 @@ pub fn aktyrbuz_points_read(
     ensures { points_leaves result answer.new start.new deltas.new
         ≡ points_export (read_points_of (length start.old) (length deltas.old) text.now) }
 {
-    let told = told_write(polyline_read::points_read(text, start, deltas));
-    tell(answer, told);
-    told.number
+    tell(answer, polyline_read::points_read(text, start, deltas))
 }
 
 pub fn aktyrbuz_points_write(
@@ -34,14 +32,11 @@ pub fn aktyrbuz_points_write(
     ensures { write_leaves result answer.new text.new
         ≡ write_export (write_points_of counts.now starts.now deltas.now coefficients.now spline (length text.old)) }
 {
-    let told = told_write(polyline_write::points_write(
+    let description = Description {
         counts,
         starts,
         deltas,
         coefficients,
-        spline as usize,
-        text,
-    ));
-    tell(answer, told);
-    told.number
+    };
+    tell(answer, polyline_write::points_write(&description, spline as usize, text))
 }

@@ -7,7 +7,9 @@ ghost use Rattle.profile_build.specs.Building.{build_profile_of};
 ghost use Rattle.aktyrbuz.specs.Exported.{build_leaves};
 ghost use Rattle.aktyrbuz.specs.ProfileExported.{profile_leaves, profile_export, profile_build_export};
 
-use told::{tell, told_profile, told_profile_build};
+use shape::Description;
+use table::Setting;
+use told::tell;
 
 pub fn aktyrbuz_profile(
     counts: &[u32],
@@ -21,16 +23,13 @@ pub fn aktyrbuz_profile(
     ensures { profile_leaves result answer.new
         ≡ profile_export (profile_of (description_of counts.now starts.now deltas.now coefficients.now) adjustment edition) }
 {
-    let told = told_profile(profile::profile(
+    let description = Description {
         counts,
         starts,
         deltas,
         coefficients,
-        adjustment,
-        edition,
-    ));
-    tell(answer, told);
-    told.number
+    };
+    tell(answer, profile::profile(&description, adjustment, edition))
 }
 
 pub fn aktyrbuz_build_profile(
@@ -57,11 +56,13 @@ pub fn aktyrbuz_build_profile(
     ensures { build_leaves result answer.new path.new walk.new segments.new owners.new row_starts.new entries.new
         ≡ profile_build_export (build_profile_of (description_of counts.now starts.now deltas.now coefficients.now) (setting_of adjustment width height y_to_x y_to_b high_precision level10) edition (rooms_of path.old walk.old segments.old owners.old row_starts.old entries.old)) }
 {
-    let told = told_profile_build(profile_build::build_profile(
+    let description = Description {
         counts,
         starts,
         deltas,
         coefficients,
+    };
+    let setting = Setting {
         adjustment,
         width,
         height,
@@ -69,14 +70,6 @@ pub fn aktyrbuz_build_profile(
         y_to_b,
         high_precision,
         level10,
-        edition,
-        path,
-        walk,
-        segments,
-        owners,
-        row_starts,
-        entries,
-    ));
-    tell(answer, told);
-    told.number
+    };
+    tell(answer, profile_build::build_profile(&description, setting, edition, path, walk, segments, owners, row_starts, entries))
 }

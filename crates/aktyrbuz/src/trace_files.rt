@@ -5,8 +5,8 @@ ghost use Rattle.trace.specs.Read.{read_trace_of};
 ghost use Rattle.trace.specs.Write.{write_trace_of};
 ghost use Rattle.aktyrbuz.specs.Exported.{read_leaves, read_export, write_leaves, write_export};
 
+use shape::Description;
 use told::tell;
-use told_lists::{told_read, told_write};
 
 pub fn aktyrbuz_trace_read(
     bytes: &[u8],
@@ -19,9 +19,7 @@ pub fn aktyrbuz_trace_read(
     ensures { read_leaves result answer.new counts.new starts.new deltas.new coefficients.new
         ≡ read_export (read_trace_of (rooms_of counts.old starts.old deltas.old coefficients.old) bytes.now) }
 {
-    let told = told_read(trace_read::trace_read(bytes, counts, starts, deltas, coefficients));
-    tell(answer, told);
-    told.number
+    tell(answer, trace_read::trace_read(bytes, counts, starts, deltas, coefficients))
 }
 
 pub fn aktyrbuz_trace_write(
@@ -36,14 +34,11 @@ pub fn aktyrbuz_trace_write(
     ensures { write_leaves result answer.new bytes.new
         ≡ write_export (write_trace_of counts.now starts.now deltas.now coefficients.now adjustment (length bytes.old)) }
 {
-    let told = told_write(trace_write::trace_write(
+    let description = Description {
         counts,
         starts,
         deltas,
         coefficients,
-        adjustment,
-        bytes,
-    ));
-    tell(answer, told);
-    told.number
+    };
+    tell(answer, trace_write::trace_write(&description, adjustment, bytes))
 }

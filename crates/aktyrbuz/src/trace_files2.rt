@@ -6,8 +6,8 @@ ghost use Rattle.trace2.specs.Write.{write_file_of};
 ghost use Rattle.aktyrbuz.specs.Exported.{read_leaves, write_leaves, write_export};
 ghost use Rattle.aktyrbuz.specs.Trace2Exported.{file_export};
 
+use shape::Description;
 use told::tell;
-use told_lists::{told_file, told_write};
 
 pub fn aktyrbuz_trace_read2(
     bytes: &[u8],
@@ -20,9 +20,7 @@ pub fn aktyrbuz_trace_read2(
     ensures { read_leaves result answer.new counts.new starts.new deltas.new coefficients.new
         ≡ file_export (read_file_of (rooms_of counts.old starts.old deltas.old coefficients.old) bytes.now) }
 {
-    let told = told_file(trace2_read::trace_read2(bytes, counts, starts, deltas, coefficients));
-    tell(answer, told);
-    told.number
+    tell(answer, trace2_read::trace_read2(bytes, counts, starts, deltas, coefficients))
 }
 
 pub fn aktyrbuz_trace_write2(
@@ -39,16 +37,11 @@ pub fn aktyrbuz_trace_write2(
     ensures { write_leaves result answer.new bytes.new
         ≡ write_export (write_file_of counts.now starts.now deltas.now coefficients.now adjustment version edition (length bytes.old)) }
 {
-    let told = told_write(trace2_write::trace_write2(
+    let description = Description {
         counts,
         starts,
         deltas,
         coefficients,
-        adjustment,
-        version,
-        edition,
-        bytes,
-    ));
-    tell(answer, told);
-    told.number
+    };
+    tell(answer, trace2_write::trace_write2(&description, adjustment, version, edition, bytes))
 }

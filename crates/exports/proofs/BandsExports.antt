@@ -5,8 +5,9 @@ use Prim.Native.Nat.{ℕ}
 use lib.ListN.{length, replicate}
 use Rattle.desks.specs.Desks.{Sight}
 use Rattle.checks.specs.Tables.{Table}
-use Rattle.checks.specs.declared.Verdict.{Verdict}
-use Rattle.checks.specs.declared.Verdict.TheVariants.{Fine, Fault}
+use Rattle.checks.specs.Verdict.{Verdict}
+use Rattle.checks.specs.Verdict as Verdict
+use Rattle.checks.specs.Verdict.{Fine, Fault}
 use Rattle.bands.specs.Bands.{bands_in, band_numbers, put_band}
 use Rattle.bands.specs.Calls.{BandsOutcome, leaves, by_verdict, judge_bands, judge_band, fresh_cells, bands_of, band_of}
 use Rattle.aktyrbuz.specs.BandsExported.{BandsExport, bands_export}

@@ -8,7 +8,7 @@ use lib.ListN.{length, get_or, set}
 use Rattle.codes.specs.declared.Code.TheVariants as Code
 use Rattle.desks.specs.Hide.{HideOutcome, with_bit, hide_of}
 use Rattle.desks.specs.Hide as hiding
-use Rattle.desks.specs.declared.HideAnswer.TheVariants as Hiding
+use Rattle.desks.specs.HideAnswer as Hiding
 use Rattle.aktyrbuz.specs.Exported.{HideExport, hide_export}
 use Rattle.aktyrbuz.specs.Calls as calls
 use Rattle.exports.specs.DeskExports.{HideExportCall, hides, HideExportTellsTheCall, HideOneOutcomeExported}

@@ -15,13 +15,15 @@ use Rattle.writer.specs.Write.{WriteOutcome, check, first_fault, content_checks,
 use Rattle.writer.specs.Write as writing
 use Rattle.write_judge.specs.Verdict.{Verdict}
 use Rattle.write_judge.specs.Verdict.{Fine, Fault}
-use Rattle.dequantize.specs.declared.judge.Judged.{Judged}
-use Rattle.dequantize.specs.declared.judge.Judged.TheVariants as judged
+use Rattle.dequantize.specs.Answers.{Judged}
+use Rattle.dequantize.specs.Answers as Judged
+use Rattle.dequantize.specs.Answers as judged
 use Rattle.dequantize.specs.Judge.{Description}
 use Rattle.points.specs.Points.{eights}
 use Rattle.painting.specs.Painting.{Painted, All, NoRoomAt}
-use Rattle.rows.specs.declared.Listed.{Listed}
-use Rattle.rows.specs.declared.Listed.TheVariants as listed
+use Rattle.rows.specs.Listed.{Listed}
+use Rattle.rows.specs.Listed as Listed
+use Rattle.rows.specs.Listed as listed
 use Rattle.rows.specs.Rows as rows
 use Rattle.table.specs.Table.{Setting, setting_of, BuildRooms, BuildOutcome, given_of, refused_with, after_rows, after_paint, after_judge, build_of}
 use Rattle.verdict.specs.Verdict.{verdict_of}
@@ -30,8 +32,8 @@ use Rattle.table.specs.Table as building
 use Rattle.desks.specs.Desks.{Sight}
 use Rattle.draw.specs.Draw.{Table, table_of, Channels, three, DrawOutcome, draw_of, judge_draw}
 use Rattle.draw.specs.Draw as drawing
-use Rattle.checks.specs.declared.Verdict.{Verdict as DrawVerdict}
-use Rattle.checks.specs.declared.Verdict.TheVariants as drawn
+use Rattle.checks.specs.Verdict.{Verdict as DrawVerdict}
+use Rattle.checks.specs.Verdict as drawn
 use Rattle.hull.specs.Reach.{ReachOutcome, reach_of}
 use Rattle.hull.specs.Reach as reaching
 use Rattle.aktyrbuz.specs.Exported.{ReadExport, read_export, WriteExport, write_export, BuildExport, build_export, DrawExport, draw_export, ReachExport, reach_export}

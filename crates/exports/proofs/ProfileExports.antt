@@ -4,7 +4,8 @@ use Prim.Native.Nat.{ℕ}
 use lib.IntN.{ℤ}
 use Rattle.dequantize.specs.Judge.{Description}
 use Rattle.table.specs.Table.{Setting, BuildRooms, BuildOutcome, build_of}
-use Rattle.profile.specs.declared.ProfileAnswer.{ProfileAnswer}
+use Rattle.profile.specs.Answers.{ProfileAnswer}
+use Rattle.profile.specs.Answers as ProfileAnswer
 use Rattle.profile.specs.Profile.{profile_of}
 use Rattle.profile.specs.Profile as profiling
 use Rattle.profile_build.specs.Building.{ProfileBuildOutcome, stopped_with, check_profile_of, after_check, build_profile_of}

@@ -6,6 +6,7 @@ use lib.Dec.{ltb}
 use lib.ListN.{length}
 use lib.IntN.{ℤ}
 use lib.Ieee.{Float}
+use Rattle.std.specs.Prelude.{Ok, Err}
 use Rattle.codes.specs.declared.Code.TheVariants.{Room}
 use Rattle.shape.specs.Shape.{points_of}
 use Rattle.list.specs.List.{ListRooms, Got, got, stop, described}
@@ -14,11 +15,11 @@ use Rattle.writer.specs.Write.{check, first_fault, whole_of, WriteOutcome}
 use Rattle.writer.specs.Write as writing
 use Rattle.little.specs.Little.{numbers_in}
 use Rattle.trace.specs.Trace.{numbers_of, file_of}
-use Rattle.read_list.specs.declared.ReadAnswer.{ReadAnswer}
+use Rattle.read_list.specs.Answer.{ReadAnswer}
 use Rattle.trace2.specs.Editions.{layout_of, more_of, header_long, edition_in}
-use Rattle.trace2.specs.Read.{read_file, FileOutcome, file_leaves, with_edition, read_file_of}
+use Rattle.trace2.specs.declared.FileRead.{FileRead}
+use Rattle.trace2.specs.Read.{FileAnswer, read_file, FileOutcome, file_leaves, with_edition, read_file_of}
 use Rattle.trace2.specs.Write.{write_checks2, write_file_of}
-use Rattle.trace2.specs.declared.FileAnswer.{FileAnswer}
 use Rattle.aktyrbuz.specs.Exported.{ReadExport, WriteExport, write_export}
 use Rattle.aktyrbuz.specs.Trace2Exported.{file_export}
 use Rattle.aktyrbuz.specs.Trace2Calls as calls
@@ -28,8 +29,8 @@ use Rattle.exports.proofs.Exports.{WriteWhole, verdict_whole}
 
 -- the answer that an outcome was told from
 answered : ReadAnswer → ℕ → FileAnswer
-answered (ReadAnswer.Done s p a) e = FileAnswer.Done s p a e
-answered (ReadAnswer.Refused c q) e = FileAnswer.Refused c q
+answered (Ok r) e = Ok (record { read = r; edition = e })
+answered (Err r) e = Err r
 
 abbrev FileWhole : FileOutcome → Type 0
 FileWhole o = file_leaves (answered o.read.answer o.edition) o.read.counts o.read.starts o.read.deltas o.read.coefficients ≡ o

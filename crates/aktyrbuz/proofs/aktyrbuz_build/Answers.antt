@@ -8,4 +8,4 @@ use Rattle.aktyrbuz.proofs.aktyrbuz_build.Goals as goal
 pub returns : goal.returns
 returns c =
     let e = to_z-of_z {w = w32} {z = c.args.adjustment} (record { sfits = omega (arith, c.well_formed.1.1.1.1.0) }) in
-    build_exported _ _ _ _ _ _ _ _ _ (rw e at c.build.ensures) c.told_build-told.ensures c.tell.ensures
+    build_exported _ _ _ _ _ _ _ _ _ (rw e at c.build.ensures) c.tell.ensures.number c.tell.ensures.five

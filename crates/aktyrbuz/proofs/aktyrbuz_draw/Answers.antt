@@ -5,4 +5,4 @@ use Rattle.aktyrbuz.proofs.aktyrbuz_draw.Goals as goal
 pub returns : goal.returns
 returns c =
     let d = c.draw in
-    draw_exported _ _ _ _ d.ensures c.told_draw-told.ensures c.tell.ensures
+    draw_exported _ _ _ _ d.ensures c.tell.ensures.number c.tell.ensures.five

@@ -4,4 +4,4 @@ use Rattle.aktyrbuz.proofs.aktyrbuz_reach.Goals as goal
 
 pub returns : goal.returns
 returns c =
-    reach_exported _ _ _ c.reach.ensures c.told_reach-told.ensures c.tell.ensures
+    reach_exported _ _ _ c.reach.ensures c.tell.ensures.number c.tell.ensures.five

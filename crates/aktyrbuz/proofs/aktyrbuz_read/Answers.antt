@@ -5,4 +5,4 @@ use Rattle.aktyrbuz.proofs.aktyrbuz_read.Goals as goal
 pub returns : goal.returns
 returns c =
     let r = c.read in
-    read_exported _ _ _ _ _ _ _ r.ensures c.told_read-told.ensures c.tell.ensures
+    read_exported _ _ _ _ _ _ _ r.ensures c.tell.ensures.number c.tell.ensures.five

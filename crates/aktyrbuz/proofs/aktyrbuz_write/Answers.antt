@@ -9,4 +9,4 @@ pub returns : goal.returns
 returns c =
     let a = c.args in
     let e = to_z-of_z {w = w32} {z = a.adjustment} (record { sfits = omega (arith, c.well_formed.1.1.1.1.0) }) in
-    write_exported _ _ _ _ (rw e at c.write.ensures) c.told_write-told.ensures c.tell.ensures
+    write_exported _ _ _ _ (rw e at c.write.ensures) c.tell.ensures.number c.tell.ensures.five

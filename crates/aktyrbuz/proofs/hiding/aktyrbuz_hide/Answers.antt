@@ -3,4 +3,4 @@ use Rattle.aktyrbuz.proofs.Numbers.{hide_exported}
 use Rattle.aktyrbuz.proofs.hiding.aktyrbuz_hide.Goals as goal
 
 pub returns : goal.returns
-returns c = hide_exported _ _ _ _ c.hide.ensures c.told_hide-told.ensures c.tell.ensures
+returns c = hide_exported _ _ _ _ c.hide.ensures c.tell.ensures.number c.tell.ensures.five

@@ -3,4 +3,4 @@ use Rattle.aktyrbuz.proofs.MakersNumbers.{check_exported}
 use Rattle.aktyrbuz.proofs.makers_tables.aktyrbuz_check.Goals as goal
 
 pub returns : goal.returns
-returns c = check_exported _ _ _ c.check.ensures c.told_check-told.ensures c.tell.ensures
+returns c = check_exported _ _ _ c.check.ensures c.tell.ensures.number c.tell.ensures.five

@@ -3,4 +3,4 @@ use Rattle.aktyrbuz.proofs.Numbers.{write_exported}
 use Rattle.aktyrbuz.proofs.polylines.aktyrbuz_points_write.Goals as goal
 
 pub returns : goal.returns
-returns c = write_exported _ _ _ _ c.points_write.ensures c.told_write-told.ensures c.tell.ensures
+returns c = write_exported _ _ _ _ c.points_write.ensures c.tell.ensures.number c.tell.ensures.five

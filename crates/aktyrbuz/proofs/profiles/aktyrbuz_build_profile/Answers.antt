@@ -7,4 +7,4 @@ use Rattle.aktyrbuz.proofs.profiles.aktyrbuz_build_profile.Goals as goal
 pub returns : goal.returns
 returns c =
     let e = to_z-of_z {w = w32} {z = c.args.adjustment} c.ranges.adjustment in
-    profile_build_exported _ _ _ _ _ _ _ _ _ (rw e at c.build_profile.ensures) c.told_profile_build-told.ensures c.tell.ensures
+    profile_build_exported _ _ _ _ _ _ _ _ _ (rw e at c.build_profile.ensures) c.tell.ensures.number c.tell.ensures.five

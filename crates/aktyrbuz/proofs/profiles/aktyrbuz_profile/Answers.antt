@@ -7,4 +7,4 @@ use Rattle.aktyrbuz.proofs.profiles.aktyrbuz_profile.Goals as goal
 pub returns : goal.returns
 returns c =
     let e = to_z-of_z {w = w32} {z = c.args.adjustment} c.ranges.adjustment in
-    profile_exported _ _ _ (rw e at c.profile.ensures) c.told_profile-told.ensures c.tell.ensures
+    profile_exported _ _ _ (rw e at c.profile.ensures) c.tell.ensures.number c.tell.ensures.five

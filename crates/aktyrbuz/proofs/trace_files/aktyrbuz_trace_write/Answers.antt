@@ -8,4 +8,4 @@ pub returns : goal.returns
 returns c =
     let a = c.args in
     let e = to_z-of_z {w = w32} {z = a.adjustment} c.ranges.adjustment in
-    write_exported _ _ _ _ (rw e at c.trace_write.ensures) c.told_write-told.ensures c.tell.ensures
+    write_exported _ _ _ _ (rw e at c.trace_write.ensures) c.tell.ensures.number c.tell.ensures.five
