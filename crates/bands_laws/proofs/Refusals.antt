@@ -8,6 +8,7 @@ use native.Mathlib.Omega.{arith}
 use lib.ListN.{length, replicate}
 use borrow.Author.Tests.{lt-ltb, le-ltb, le-leb, lt-leb}
 use Rattle.codes.specs.declared.Code.{Code}
+use Rattle.codes.proofs.Refusals.{same_refusal}
 use Rattle.shade.proofs.Edits.{lt_or_ge}
 use Rattle.desks.specs.Desks.{Sight}
 use Rattle.checks.specs.Tables.{Table}
@@ -34,9 +35,8 @@ module _ {Refusal : Code → ℕ → Type 0} (answer : BandsAnswer) (told : (c :
   given_is : (c : Code) (p : ℕ) → Refusing Refusal → answer ≡ Refused c p → Refusal c p
   given_is c p g e =
       let q : Refused g.code g.place ≡ Refused c p = sym (told g.code g.place g.refusal) ∙ e in
-      let u : g.code ≡ c = cc in
-      let v : g.place ≡ p = cc in
-      subst (λ (b : ℕ). Refusal c b) v (subst (λ (a : Code). Refusal a g.place) u g.refusal)
+      let same = same_refusal q in
+      subst (λ (b : ℕ). Refusal c b) same.1 (subst (λ (a : Code). Refusal a g.place) same.0 g.refusal)
 
 done_refused : {n p : ℕ} {c : Code} → Done n ≡ Refused c p → ⊥
 done_refused e = subst is_done e tt

@@ -16,7 +16,7 @@ use Rattle.checks.proofs.Checks.{counts_facts, row_facts}
 use Rattle.checks.proofs.Alike.{kept_fits}
 use Rattle.picture.specs.Picture.{Built, built}
 use Rattle.picture.proofs.Tables.{facts, counts_good_lem, row_good_lem, built_table}
-use Rattle.makers.specs.CheckAnswer.{CheckAnswer}
+use Rattle.makers.specs.CheckAnswer as CheckAnswer
 use Rattle.makers.specs.Check.{RowRight, check_of}
 use Rattle.makers.specs.Refusals.{Fits}
 use Rattle.makers_laws.specs.Cut.{cut_to_counts}
