@@ -127,8 +127,7 @@ use Rattle.makers_laws.proofs.Refusals as makers-when
 use Rattle.desks.specs.Hide as hide-table
 use Rattle.desks.proofs.Hiding as hiding
 use Rattle.draw.proofs.Parts as parts
-use Rattle.kinds.specs.declared.Kind.TheVariants as I64
-use Rattle.kinds.specs.declared.Kind.TheVariants as U64
+use Rattle.kinds.specs.declared.Kind.TheVariants as Kind
 use Rattle.table.specs.Table as building
 use Rattle.table.proofs.Segments as making
 use Rattle.reader.specs.Read as reading
@@ -625,7 +624,7 @@ faint_counted d i r o s e estimate b =
     ∙ ap (faint_in o.segments) m.count
 
 -- with a NaN every sum and difference is NaN, and R keeps it
-ends_of : (x d : Float) → is_nan d ≡ true → (row_end (x ⊖ d) ≡ I64.NotNumber) × (row_end (x ⊕ d) ≡ I64.NotNumber) × (column_end (x ⊖ d) ≡ U64.NotNumber) × (column_end (x ⊕ d) ≡ U64.NotNumber)
+ends_of : (x d : Float) → is_nan d ≡ true → (row_end (x ⊖ d) ≡ Kind.NotNumber) × (row_end (x ⊕ d) ≡ Kind.NotNumber) × (column_end (x ⊖ d) ≡ Kind.NotNumber) × (column_end (x ⊕ d) ≡ Kind.NotNumber)
 unfolding is_nan kind_by whole_by add sub
 ends_of nan nan h = (refl, refl, refl, refl)
 ends_of (inf s) nan h = (refl, refl, refl, refl)

@@ -29,7 +29,7 @@ use Rattle.dequantize.specs.Coefficients.{inv_adjusted_quant}
 use Rattle.dequantize.specs.Judge.{Description}
 use Rattle.segments.specs.declared.Segment.{Segment}
 use Rattle.segments.specs.Segment.{segment_at}
-use Rattle.kinds.specs.declared.Kind.TheVariants as I64
+use Rattle.kinds.specs.declared.Kind.TheVariants as Kind
 use Rattle.segments.specs.Ranges.{row_end, has_row, has_column}
 use Rattle.segments.specs.Spot.{spot}
 use Rattle.segments.specs.Expressions.{AsSplineRs}
@@ -287,8 +287,8 @@ pub record Readings : Type 0 where
   pub level5_area_130023424 : spline_area_limit false 130023424 ≡ 1073741824
   pub adjustment_8 : inv_adjusted_quant (pos 8) ≡ fin false 1 (negsuc 0)
   pub adjustment_minus_8 : inv_adjusted_quant (negsuc 7) ≡ fin false 1 (pos 1)
-  pub round-2½ : row_end (fin false 5 (negsuc 0)) ≡ I64.Exact (pos 3)
-  pub round-minus-½ : row_end (fin true 1 (negsuc 0)) ≡ I64.Exact (negsuc 0)
+  pub round-2½ : row_end (fin false 5 (negsuc 0)) ≡ Kind.Exact (pos 3)
+  pub round-minus-½ : row_end (fin true 1 (negsuc 0)) ≡ Kind.Exact (negsuc 0)
   pub round-2½-f32 : round_of binary32 (fin false 5 (negsuc 0)) ≡ fin false 3 (pos 0)
   pub round-minus-½-f32 : round_of binary32 (fin true 1 (negsuc 0)) ≡ fin true 1 (pos 0)
   pub f32_16777217 : of_int binary32 (pos 16777217) ≡ fin false 1 (pos 24)

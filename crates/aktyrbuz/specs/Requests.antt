@@ -97,8 +97,7 @@ use Rattle.polyline_laws.specs.Says.{FormSays, OneSaying}
 use Rattle.polyline_laws.specs.Refusals.{PointsReadRefusal, PointsAccepted, There, PointsWriteRefusal, PointsWritten}
 use Rattle.aktyrbuz.specs.PolylineCalls.{PointsReadCall, PointsWriteCall}
 use Rattle.draw.specs.Image as drawing
-use Rattle.kinds.specs.declared.Kind.TheVariants as I64
-use Rattle.kinds.specs.declared.Kind.TheVariants as U64
+use Rattle.kinds.specs.declared.Kind.TheVariants as Kind
 use Rattle.table.specs.Table as building
 use Rattle.reader.specs.Read as reading
 use Rattle.writer.specs.Write as writing
@@ -450,10 +449,10 @@ FaintCounted =
 
 -- the four ends of such a segment are no numbers
 pub record FaintEnds (s : Segment) : Type 0 where
-  pub first_row : row_end (s.center_y ⊖ s.maximum_distance) ≡ I64.NotNumber
-  pub last_row : row_end (s.center_y ⊕ s.maximum_distance) ≡ I64.NotNumber
-  pub first_column : column_end (s.center_x ⊖ s.maximum_distance) ≡ U64.NotNumber
-  pub last_column : column_end (s.center_x ⊕ s.maximum_distance) ≡ U64.NotNumber
+  pub first_row : row_end (s.center_y ⊖ s.maximum_distance) ≡ Kind.NotNumber
+  pub last_row : row_end (s.center_y ⊕ s.maximum_distance) ≡ Kind.NotNumber
+  pub first_column : column_end (s.center_x ⊖ s.maximum_distance) ≡ Kind.NotNumber
+  pub last_column : column_end (s.center_x ⊕ s.maximum_distance) ≡ Kind.NotNumber
 
 abbrev pub FaintByKind : Type 0
 FaintByKind = (s : Segment) → is_nan s.maximum_distance ≡ true → FaintEnds s

@@ -48,7 +48,18 @@ pub fn aktyrbuz_read(
     ensures { read_leaves result answer.new counts.new starts.new deltas.new coefficients.new
         ≡ read_export (read_outcome configured pixels (rooms_of counts.old starts.old deltas.old coefficients.old) list.now) }
 {
-    tell(answer, reader::read(list, configured, pixels, counts, starts, deltas, coefficients))
+    tell(
+        answer,
+        reader::read(
+            list,
+            configured,
+            pixels,
+            counts,
+            starts,
+            deltas,
+            coefficients,
+        ),
+    )
 }
 
 pub fn aktyrbuz_write(
@@ -71,7 +82,10 @@ pub fn aktyrbuz_write(
         deltas,
         coefficients,
     };
-    tell(answer, writer::write(&description, adjustment, configured, pixels, list))
+    tell(
+        answer,
+        writer::write(&description, adjustment, configured, pixels, list),
+    )
 }
 
 pub fn aktyrbuz_build(
@@ -112,7 +126,19 @@ pub fn aktyrbuz_build(
         high_precision,
         level10,
     };
-    tell(answer, table::build(&description, setting, path, walk, segments, owners, row_starts, entries))
+    tell(
+        answer,
+        table::build(
+            &description,
+            setting,
+            path,
+            walk,
+            segments,
+            owners,
+            row_starts,
+            entries,
+        ),
+    )
 }
 
 pub fn aktyrbuz_draw(

@@ -38,5 +38,8 @@ pub fn aktyrbuz_points_write(
         deltas,
         coefficients,
     };
-    tell(answer, polyline_write::points_write(&description, spline as usize, text))
+    tell(
+        answer,
+        polyline_write::points_write(&description, spline as usize, text),
+    )
 }

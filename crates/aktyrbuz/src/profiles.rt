@@ -71,5 +71,18 @@ pub fn aktyrbuz_build_profile(
         high_precision,
         level10,
     };
-    tell(answer, profile_build::build_profile(&description, setting, edition, path, walk, segments, owners, row_starts, entries))
+    tell(
+        answer,
+        profile_build::build_profile(
+            &description,
+            setting,
+            edition,
+            path,
+            walk,
+            segments,
+            owners,
+            row_starts,
+            entries,
+        ),
+    )
 }

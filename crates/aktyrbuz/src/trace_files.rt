@@ -19,7 +19,10 @@ pub fn aktyrbuz_trace_read(
     ensures { read_leaves result answer.new counts.new starts.new deltas.new coefficients.new
         ≡ read_export (read_trace_of (rooms_of counts.old starts.old deltas.old coefficients.old) bytes.now) }
 {
-    tell(answer, trace_read::trace_read(bytes, counts, starts, deltas, coefficients))
+    tell(
+        answer,
+        trace_read::trace_read(bytes, counts, starts, deltas, coefficients),
+    )
 }
 
 pub fn aktyrbuz_trace_write(
@@ -40,5 +43,8 @@ pub fn aktyrbuz_trace_write(
         deltas,
         coefficients,
     };
-    tell(answer, trace_write::trace_write(&description, adjustment, bytes))
+    tell(
+        answer,
+        trace_write::trace_write(&description, adjustment, bytes),
+    )
 }

@@ -20,7 +20,10 @@ pub fn aktyrbuz_trace_read2(
     ensures { read_leaves result answer.new counts.new starts.new deltas.new coefficients.new
         ≡ file_export (read_file_of (rooms_of counts.old starts.old deltas.old coefficients.old) bytes.now) }
 {
-    tell(answer, trace2_read::trace_read2(bytes, counts, starts, deltas, coefficients))
+    tell(
+        answer,
+        trace2_read::trace_read2(bytes, counts, starts, deltas, coefficients),
+    )
 }
 
 pub fn aktyrbuz_trace_write2(
@@ -43,5 +46,8 @@ pub fn aktyrbuz_trace_write2(
         deltas,
         coefficients,
     };
-    tell(answer, trace2_write::trace_write2(&description, adjustment, version, edition, bytes))
+    tell(
+        answer,
+        trace2_write::trace_write2(&description, adjustment, version, edition, bytes),
+    )
 }
