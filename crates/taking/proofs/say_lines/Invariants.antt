@@ -1,7 +1,6 @@
 -- `taking::say_lines` ends: each polyline begins behind the one before it.
 use Prim.Native.Nat.{◌-◌, ◌≤◌}
 use lib.ListN.{length}
-use borrow.Author.Rules.{rules}
 use Rattle.taking.proofs.say_lines.Given as goal
 
 abbrev pub invariant-loop-at : goal.invariant-loop-at
