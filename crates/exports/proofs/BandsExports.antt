@@ -14,6 +14,7 @@ use Rattle.aktyrbuz.specs.BandsExported.{BandsExport, bands_export}
 use Rattle.aktyrbuz.specs.BandsCalls as calls
 use Rattle.exports.specs.Exports.{Tells}
 use Rattle.exports.specs.BandsExports.{BandsExportCall, makes, BandExportCall, refreshes, BandsExportsTellTheCalls, BandsOneOutcomeExported}
+use Rattle.exports.proofs.Lending.{lent_sight, lent_table}
 
 abbrev Whole : BandsOutcome → Type 0
 Whole o = leaves o.answer o.cells ≡ o
@@ -37,8 +38,8 @@ made t s W room x (makes κs segments owners segment_count entries entry_count r
     let same : leaves o.answer cells'.now ≡ o = rw (ap (λ (u : BandsExport). u.cells) p) (bands_whole t s W room) in
     record {
       outcome = leaves o.answer cells'.now;
-      called = calls.makes κs.1 segments owners segment_count entries entry_count row_starts height splines bits desk width cells o.answer
-          segments' owners' segmentCount' entries' entryCount' rowStarts' height' splines' bits' desk' width' cells' same;
+      called = calls.makes κs.1.1 (lent_table segments segment_count entries entry_count row_starts height) (lent_sight owners splines bits desk) width cells o.answer
+          (lent_table segments' segmentCount' entries' entryCount' rowStarts' height') (lent_sight owners' splines' bits' desk') width' cells' same;
       is = p ∙ ap bands_export (sym same);
     }
 
@@ -49,8 +50,8 @@ refreshed t s W b lent x (refreshes κs segments owners segment_count entries en
     let same : leaves o.answer cells'.now ≡ o = rw (ap (λ (u : BandsExport). u.cells) p) (band_whole t s W b lent) in
     record {
       outcome = leaves o.answer cells'.now;
-      called = calls.refreshes κs.1 segments owners segment_count entries entry_count row_starts height splines bits desk width cells band o.answer
-          segments' owners' segmentCount' entries' entryCount' rowStarts' height' splines' bits' desk' width' cells' band' same;
+      called = calls.refreshes κs.1.1 (lent_table segments segment_count entries entry_count row_starts height) (lent_sight owners splines bits desk) width cells band o.answer
+          (lent_table segments' segmentCount' entries' entryCount' rowStarts' height') (lent_sight owners' splines' bits' desk') width' cells' band' same;
       is = p ∙ ap bands_export (sym same);
     }
 

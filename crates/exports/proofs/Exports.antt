@@ -16,13 +16,11 @@ use Rattle.writer.specs.Write as writing
 use Rattle.write_judge.specs.Verdict.{Verdict}
 use Rattle.write_judge.specs.Verdict.{Fine, Fault}
 use Rattle.dequantize.specs.Answers.{Judged}
-use Rattle.dequantize.specs.Answers as Judged
 use Rattle.dequantize.specs.Answers as judged
 use Rattle.dequantize.specs.Judge.{Description}
 use Rattle.points.specs.Points.{eights}
 use Rattle.painting.specs.Painting.{Painted, All, NoRoomAt}
 use Rattle.rows.specs.Listed.{Listed}
-use Rattle.rows.specs.Listed as Listed
 use Rattle.rows.specs.Listed as listed
 use Rattle.rows.specs.Rows as rows
 use Rattle.table.specs.Table.{Setting, setting_of, BuildRooms, BuildOutcome, given_of, refused_with, after_rows, after_paint, after_judge, build_of}
@@ -39,6 +37,7 @@ use Rattle.hull.specs.Reach as reaching
 use Rattle.aktyrbuz.specs.Exported.{ReadExport, read_export, WriteExport, write_export, BuildExport, build_export, DrawExport, draw_export, ReachExport, reach_export}
 use Rattle.aktyrbuz.specs.Calls as calls
 use Rattle.exports.specs.Exports.{ReadExportCall, reads, WriteExportCall, writes, BuildExportCall, builds, DrawExportCall, draws, ReachExportCall, reaches, LnExportCall, logs, Tells, ExportsTellTheCalls, OneOutcomeExported}
+use Rattle.exports.proofs.Lending.{lent_description, lent_sight, lent_table, setting}
 
 -- ---- an outcome is its answer, what that tells, and its cells
 
@@ -126,7 +125,7 @@ tells_write ns ss ds cs a configured pixels room x
     = rw (ap (λ (u : WriteExport). u.list) p) (write_whole ns ss ds cs a configured pixels room) in
     record {
       outcome = writing.leaves o.answer list'.now;
-      called = calls.writes κs.1 counts starts deltas coefficients a configured pixels list o.answer counts' starts' deltas' coefficients' adjustment' configured' pixels' list' f same;
+      called = calls.writes κs.1.1.1 (lent_description counts starts deltas coefficients) a configured pixels list o.answer (lent_description counts' starts' deltas' coefficients') adjustment' configured' pixels' list' f same;
       is = p ∙ ap write_export (sym same);
     }
 
@@ -139,8 +138,8 @@ tells_draw t s y x0 n a x
     = ap (λ (c : Channels). drawing.leaves o.answer c) (ap (λ (u : DrawExport). u.channels) p) ∙ draw_whole t s y x0 n a in
     record {
       outcome = drawing.leaves o.answer (three r0'.now r1'.now r2'.now);
-      called = calls.draws κs.1 segments owners segment_count entries entry_count row_starts height splines bits desk y x0 n r0 r1 r2 o.answer
-          segments' owners' segmentCount' entries' entryCount' rowStarts' height' splines' bits' desk' y' x0' n' r0' r1' r2' same;
+      called = calls.draws κs.1.1 (lent_table segments segment_count entries entry_count row_starts height) (lent_sight owners splines bits desk) y x0 n r0 r1 r2 o.answer
+          (lent_table segments' segmentCount' entries' entryCount' rowStarts' height') (lent_sight owners' splines' bits' desk') y' x0' n' r0' r1' r2' same;
       is = p ∙ ap draw_export (sym same);
     }
 
@@ -151,8 +150,8 @@ tells_reach t s y W x
     let same = reach_whole t s y W in
     record {
       outcome = reaching.tells (reach_of t s y W).answer;
-      called = calls.reaches κs.1 segments owners segment_count entries entry_count row_starts height splines bits desk y W (reach_of t s y W).answer
-          segments' owners' segmentCount' entries' entryCount' rowStarts' height' splines' bits' desk' y' width' same;
+      called = calls.reaches κs.1.1 (lent_table segments segment_count entries entry_count row_starts height) (lent_sight owners splines bits desk) y W (reach_of t s y W).answer
+          (lent_table segments' segmentCount' entries' entryCount' rowStarts' height') (lent_sight owners' splines' bits' desk') y' width' same;
       is = p ∙ ap reach_export (sym same);
     }
 
@@ -166,8 +165,8 @@ tells_build d i rooms x
     (build_whole d i rooms) in
     record {
       outcome = building.leaves o.answer path'.now walk'.now segments'.now owners'.now rowStarts'.now entries'.now;
-      called = calls.builds κs.1 counts starts deltas coefficients adjustment width height ytox ytob high level10 path walk segments owners row_starts entries o.answer
-          counts' starts' deltas' coefficients' adjustment' width' height' ytox' ytob' high' level10' path' walk' segments' owners' rowStarts' entries' same;
+      called = calls.builds κs.1.1.1 (lent_description counts starts deltas coefficients) (setting adjustment width height ytox ytob high level10) path walk segments owners row_starts entries o.answer
+          (lent_description counts' starts' deltas' coefficients') (setting adjustment' width' height' ytox' ytob' high' level10') path' walk' segments' owners' rowStarts' entries' same;
       is = p ∙ ap build_export (sym same);
     }
 

@@ -1,4 +1,5 @@
 -- The laws of the crate `exports`.
+pub mod Lending
 pub mod Exports
 pub mod TraceExports
 pub mod DeskExports

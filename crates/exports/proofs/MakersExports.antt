@@ -5,11 +5,12 @@ use Rattle.makers.specs.Check.{check_of}
 use Rattle.aktyrbuz.specs.MakersExported.{CheckExport, check_export}
 use Rattle.aktyrbuz.specs.MakersCalls as calls
 use Rattle.exports.specs.MakersExports.{CheckExportCall, checks, CheckExportTellsTheCall, CheckOneOutcomeExported}
+use Rattle.exports.proofs.Lending.{lent_table}
 
 pub check_export_tells_the_call : CheckExportTellsTheCall
 check_export_tells_the_call t x (checks κs segments segment_count height row_starts entries entry_count answer r segments' segmentCount' height' rowStarts' entries' entryCount' answer' p) = record {
   outcome = check_of t.segments t.segment_count t.height t.row_starts t.entries t.entry_count;
-  called = calls.checks κs.1 segments segment_count height row_starts entries entry_count _ segments' segmentCount' height' rowStarts' entries' entryCount' refl;
+  called = calls.checks κs.1.1 (lent_table segments segment_count entries entry_count row_starts height) _ (lent_table segments' segmentCount' entries' entryCount' rowStarts' height') refl;
   is = p;
 }
 

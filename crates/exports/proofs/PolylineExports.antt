@@ -19,6 +19,7 @@ use Rattle.aktyrbuz.specs.PolylineCalls as calls
 use Rattle.exports.specs.Exports.{Tells}
 use Rattle.exports.specs.PolylineExports.{PointsReadExportCall, reads, PointsWriteExportCall, writes, PolylineExportsTellTheCalls, PolylineOneOutcomeExported}
 use Rattle.exports.proofs.Exports.{WriteWhole, verdict_whole}
+use Rattle.exports.proofs.Lending.{lent_description}
 
 abbrev PointsWhole : PointsOutcome → Type 0
 PointsWhole o = points.leaves o.answer o.start o.deltas ≡ o
@@ -54,7 +55,7 @@ tells_write ns ss ds cs k room x
     let same : writing.leaves o.answer text'.now ≡ o = rw (ap (λ (u : WriteExport). u.list) p) (points_write_whole ns ss ds cs k room) in
     record {
       outcome = writing.leaves o.answer text'.now;
-      called = calls.writes κs.1 counts starts deltas coefficients spline text o.answer counts' starts' deltas' coefficients' spline' text' same;
+      called = calls.writes κs.1.1.1 (lent_description counts starts deltas coefficients) spline text o.answer (lent_description counts' starts' deltas' coefficients') spline' text' same;
       is = p ∙ ap write_export (sym same);
     }
 

@@ -15,6 +15,7 @@ use Rattle.aktyrbuz.specs.ProfileExported.{ProfileExport, profile_export, profil
 use Rattle.aktyrbuz.specs.ProfileCalls as calls
 use Rattle.exports.specs.Exports.{Tells}
 use Rattle.exports.specs.ProfileExports.{ProfileExportCall, checks, ProfileBuildExportCall, builds, ProfileExportsTellTheCalls, ProfileOneOutcomeExported}
+use Rattle.exports.proofs.Lending.{lent_description, setting}
 
 check_whole : (d : Description) (a : ℤ) (e : ℕ) → profiling.tells (profile_of d a e).answer ≡ profile_of d a e
 unfolding profile_of
@@ -38,7 +39,7 @@ tells_check d a e x (checks κs counts starts deltas coefficients _ _ answer r c
     let same = check_whole d a e in
     record {
       outcome = profiling.tells (profile_of d a e).answer;
-      called = calls.checks κs.1 counts starts deltas coefficients a e (profile_of d a e).answer counts' starts' deltas' coefficients' adjustment' edition' same;
+      called = calls.checks κs.1.1.1 (lent_description counts starts deltas coefficients) a e (profile_of d a e).answer (lent_description counts' starts' deltas' coefficients') adjustment' edition' same;
       is = p ∙ ap profile_export (sym same);
     }
 
@@ -52,8 +53,8 @@ tells_build d i e rooms x
     (build_whole d i e rooms) in
     record {
       outcome = building.leaves o.answer path'.now walk'.now segments'.now owners'.now rowStarts'.now entries'.now;
-      called = calls.builds κs.1 counts starts deltas coefficients adjustment width height ytox ytob high level10 e path walk segments owners row_starts entries o.answer
-          counts' starts' deltas' coefficients' adjustment' width' height' ytox' ytob' high' level10' edition' path' walk' segments' owners' rowStarts' entries' same;
+      called = calls.builds κs.1.1.1 (lent_description counts starts deltas coefficients) (setting adjustment width height ytox ytob high level10) e path walk segments owners row_starts entries o.answer
+          (lent_description counts' starts' deltas' coefficients') (setting adjustment' width' height' ytox' ytob' high' level10') edition' path' walk' segments' owners' rowStarts' entries' same;
       is = p ∙ ap profile_build_export (sym same);
     }
 

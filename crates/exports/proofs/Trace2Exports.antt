@@ -26,6 +26,7 @@ use Rattle.aktyrbuz.specs.Trace2Calls as calls
 use Rattle.exports.specs.Exports.{Tells}
 use Rattle.exports.specs.Trace2Exports.{FileReadExportCall, reads, FileWriteExportCall, writes, FileExportsTellTheCalls, FileOneOutcomeExported}
 use Rattle.exports.proofs.Exports.{WriteWhole, verdict_whole}
+use Rattle.exports.proofs.Lending.{lent_description}
 
 -- the answer that an outcome was told from
 answered : ReadAnswer → ℕ → FileAnswer
@@ -71,7 +72,7 @@ tells_write ns ss ds cs a v e room x
     let same : writing.leaves o.answer bytes'.now ≡ o = rw (ap (λ (u : WriteExport). u.list) p) (write_file_whole ns ss ds cs a v e room) in
     record {
       outcome = writing.leaves o.answer bytes'.now;
-      called = calls.writes κs.1 counts starts deltas coefficients adjustment version edition bytes o.answer counts' starts' deltas' coefficients' adjustment' version' edition' bytes' n f s m same;
+      called = calls.writes κs.1.1.1 (lent_description counts starts deltas coefficients) adjustment version edition bytes o.answer (lent_description counts' starts' deltas' coefficients') adjustment' version' edition' bytes' n f s m same;
       is = p ∙ ap write_export (sym same);
     }
 

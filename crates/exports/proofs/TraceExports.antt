@@ -21,6 +21,7 @@ use Rattle.aktyrbuz.specs.TraceCalls as calls
 use Rattle.exports.specs.Exports.{Tells}
 use Rattle.exports.specs.TraceExports.{TraceReadExportCall, reads, TraceWriteExportCall, writes, TraceExportsTellTheCalls, TraceOneOutcomeExported}
 use Rattle.exports.proofs.Exports.{ReadWhole, WriteWhole, read_whole, verdict_whole}
+use Rattle.exports.proofs.Lending.{lent_description}
 
 trace_read_whole : (rooms : ListRooms) (bytes : List ℕ) → ReadWhole (read_trace_of rooms bytes)
 unfolding read_trace_of
@@ -52,7 +53,7 @@ tells_write ns ss ds cs a room x
     let same : writing.leaves o.answer bytes'.now ≡ o = rw (ap (λ (u : WriteExport). u.list) p) (trace_write_whole ns ss ds cs a room) in
     record {
       outcome = writing.leaves o.answer bytes'.now;
-      called = calls.writes κs.1 counts starts deltas coefficients adjustment bytes o.answer counts' starts' deltas' coefficients' adjustment' bytes' n f s m same;
+      called = calls.writes κs.1.1.1 (lent_description counts starts deltas coefficients) adjustment bytes o.answer (lent_description counts' starts' deltas' coefficients') adjustment' bytes' n f s m same;
       is = p ∙ ap write_export (sym same);
     }
 
