@@ -54,9 +54,9 @@ pub fn cut_to_i64(x: f32) -> Kind<i64>
 fn within_i32(z: i64) -> Kind<i32>
     ensures { result ≡ within_i32 z }
 {
-    if z > i32::MAX as i64 {
+    if z > i64::from(i32::MAX) {
         Kind::Above
-    } else if z < i32::MIN as i64 {
+    } else if z < i64::from(i32::MIN) {
         Kind::Below
     } else {
         Kind::Exact(z as i32)
@@ -116,6 +116,7 @@ pub fn rounded_to_u64(x: f32) -> Kind<u64>
 }
 
 // ---- saturating
+// A line for each type, as std has them: a trait over the types would want the cut, the ends and the proof of each beside it, and be longer.
 
 // Rust's `x as i64`.
 pub fn saturating_f32_to_i64(x: f32) -> i64

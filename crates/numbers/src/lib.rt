@@ -64,7 +64,7 @@ pub fn min(a: f32, b: f32) -> f32
     }
 }
 
-// Rust's `a.max(b)`, in the same way.
+// Rust's `a.max(b)`, in the same way: of two zeros it is the first, which std's `max` leaves open.
 #[tactic(auto, unfolding(crate::specs::Magnitude::max_of))]
 pub fn max(a: f32, b: f32) -> f32
     ensures { result ≡ max_of a b }
@@ -102,7 +102,7 @@ fn floor_log2(n: u64) -> u64
     requires { 0 < n }
     ensures { result ≡ floor_log2 n }
 {
-    (64 - n.leading_zeros() - 1) as u64
+    u64::from(64 - n.leading_zeros() - 1)
 }
 
 pub fn ceil_log2(n: u64) -> u64

@@ -33,7 +33,7 @@ pub fn half_of(a: f32) -> u64
 {
     let near = nearest_to(a);
     let up = unless(a < near + 0.5);
-    (near as u32 + up) as u64
+    u64::from(near as u32 + up)
 }
 
 // The largest whole number that is at most x.

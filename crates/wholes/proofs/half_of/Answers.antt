@@ -7,17 +7,13 @@ use Rattle.wholes.proofs.half_of.Goals as goal
 pub nearest_to-near-requires : goal.nearest_to-near-requires
 nearest_to-near-requires c = c.requires
 
-pub float_to_int-result : goal.float_to_int-result
-float_to_int-result c = (near_cast c.args.a c.requires c.nearest_to-near.ensures).0
+pub float_to_int-near : goal.float_to_int-near
+float_to_int-near c = (near_cast c.args.a c.requires c.nearest_to-near.ensures).0
 
-pub overflow_add-result : goal.overflow_add-result
+pub overflow_add-near : goal.overflow_add-near
 unfolding of_bits
-overflow_add-result c = omega (arith, (rounded_by c.args.a c.requires c.nearest_to-near.ensures c.unless-up.ensures).most)
-
-pub overflow_cast-result : goal.overflow_cast-result
-unfolding of_bits
-overflow_cast-result c = omega (arith, (rounded_by c.args.a c.requires c.nearest_to-near.ensures c.unless-up.ensures).most)
+overflow_add-near c = omega (arith, (rounded_by c.args.a c.requires c.nearest_to-near.ensures c.unless-up.ensures).most)
 
 pub returns : goal.returns
 unfolding of_bits
-returns c = rounded_by c.args.a c.requires c.nearest_to-near.ensures c.unless-up.ensures
+returns c = rw c.from.ensures (rounded_by c.args.a c.requires c.nearest_to-near.ensures c.unless-up.ensures)
