@@ -1,5 +1,5 @@
 -- The numbers that `root_above` works out from the digits m and the place e. The digits are moved to 47 or 48 of them, so that their place is even.
-use mathlib.Core.Path.{◌≡◌, sym, ap, ◌∙◌}
+use mathlib.Core.Path.{◌≡◌, sym, ap, ◌∙◌, subst}
 use mathlib.Core.Bool.{Bool, false}
 use Prim.Native.Nat.{ℕ, suc, ◌+◌, ◌-◌, ◌*◌, ◌/◌, ◌%◌, ◌^◌, ◌≤◌, ◌<◌}
 use native.Mathlib.Nat.{le_trans, le_of_eq, lt_of_lt_of_le, lt_of_le_of_lt, mul_assoc, mul_right_comm, mul-le-mul_right, eq_of_mul-eq-mul_right}
@@ -71,7 +71,7 @@ module _ (x : Float) (m e : ℕ) (S : Split binary32 x m e) where
       go : (z j h : ℕ) → z + suc j ≡ 64 → 40 ≤ z → suc j + (z - 17 + h % 2) ≤ 48
       go z j h a b = omega arith
 
-  pub exact : m * 2 ^ t_of e (count_leading_zeros 64 m) % 2 ^ 64 ≡ m * 2 ^ t_of e (count_leading_zeros 64 m)
+  exact : m * 2 ^ t_of e (count_leading_zeros 64 m) % 2 ^ 64 ≡ m * 2 ^ t_of e (count_leading_zeros 64 m)
   exact = shl_exact (suc top.0) t 64 top.3 (go (suc top.0 + t) over)
     where
       go : (a : ℕ) → a ≤ 48 → a ≤ 64
@@ -80,11 +80,18 @@ module _ (x : Float) (m e : ℕ) (S : Split binary32 x m e) where
   n_lo : 2 ^ 46 ≤ m * 2 ^ t
   n_lo = le_trans (pow_mono reach) (le_trans (le_of_eq (pow-add 2 top.0 t)) (mul-le-mul_right (2 ^ t) top.2))
 
-  pub n_hi : m * 2 ^ t_of e (count_leading_zeros 64 m) < 2 ^ 48
+  n_hi : m * 2 ^ t < 2 ^ 48
   n_hi = lt_of_lt_of_le (shl_lt (suc top.0) t top.3) (pow_mono over)
 
-  pub small_enough : nearest_root (m * 2 ^ t_of e (count_leading_zeros 64 m)) ≤ 2 ^ 24
-  small_enough = q_le binary32 (m * 2 ^ t) n_lo n_hi
+  -- the code's number is what 64 bits keep of it, which is all
+  pub moved_lt : m * 2 ^ t_of e (count_leading_zeros 64 m) % 2 ^ 64 < 2 ^ 48
+  moved_lt = subst (λ (n : ℕ). n < 2 ^ 48) (sym exact) n_hi
+
+  nearest_is : (q : ℕ) → q ≡ nearest_root (m * 2 ^ t % 2 ^ 64) → q ≡ nearest_root (m * 2 ^ t)
+  nearest_is q h = h ∙ ap nearest_root exact
+
+  pub root_le : (q : ℕ) → q ≡ nearest_root (m * 2 ^ t_of e (count_leading_zeros 64 m) % 2 ^ 64) → q ≤ 2 ^ 24
+  root_le q h = subst (λ (r : ℕ). r ≤ 2 ^ 24) (sym (nearest_is q h)) (q_le binary32 (m * 2 ^ t) n_lo n_hi)
 
   sum : t + 2 * w ≡ e + 149
   sum = go (count_leading_zeros 64 m) e z_lo z_hi
@@ -117,7 +124,15 @@ module _ (x : Float) (m e : ℕ) (S : Split binary32 x m e) where
   valued : HasValue x false (m * 2 ^ t * 2 ^ (2 * w)) (2 ^ 298)
   valued = revalue x false (m * 2 ^ e) (2 ^ 149) (m * 2 ^ t * 2 ^ (2 * w)) (2 ^ 298) (pow_pos 149) S.value same
 
-  pub rooted : (s : Float) → T (positive x) → Power (h_of e (count_leading_zeros 64 m) / 2) s → mul binary32 (of_int binary32 (pos (nearest_root (m * 2 ^ t_of e (count_leading_zeros 64 m))))) s ≡ sqrt_of binary32 x
-  rooted s p v = made binary32 (m * 2 ^ t) n_lo n_hi w s v.value ∙ sym (sqrt_at binary32 x (m * 2 ^ t * 2 ^ (2 * w)) p valued)
+  pub rooted :
+      (q : ℕ) (s : Float)
+      → q ≡ nearest_root (m * 2 ^ t_of e (count_leading_zeros 64 m) % 2 ^ 64)
+      → T (positive x)
+      → Power (h_of e (count_leading_zeros 64 m) / 2) s
+      → mul binary32 (of_int binary32 (pos q)) s ≡ sqrt_of binary32 x
+  rooted q s h p v =
+      ap (λ (r : ℕ). mul binary32 (of_int binary32 (pos r)) s) (nearest_is q h)
+      ∙ made binary32 (m * 2 ^ t) n_lo n_hi w s v.value
+      ∙ sym (sqrt_at binary32 x (m * 2 ^ t * 2 ^ (2 * w)) p valued)
 
 -- Assumes nothing.

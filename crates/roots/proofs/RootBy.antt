@@ -3,7 +3,7 @@ use mathlib.Core.Path.{◌≡◌, refl, sym, ap, ◌∙◌, subst}
 use mathlib.Core.Logic.{◌⊎◌, inl, inr}
 use mathlib.Core.Bool.{Bool, true, false, not}
 use Prim.Native.Nat.{ℕ, zero, suc, ◌+◌, ◌-◌, ◌*◌, ◌/◌, ◌%◌, ◌^◌, ◌≤◌, ◌<◌}
-use native.Mathlib.Nat.{le_trans, le_of_eq, lt_of_lt_of_le, mul_assoc, mul-le-mul, mul-lt-mul_of_pos_right, not-le_of_lt}
+use native.Mathlib.Nat.{le_trans, le_of_eq, lt_irrefl, lt_of_lt_of_le, mul_assoc, mul-le-mul, mul-lt-mul_of_pos_right, not-le_of_lt}
 use native.Mathlib.Omega.{arith}
 use lib.Dec.{T, leb, leb→le, nleb→lt}
 use lib.Pow.{pow-add, pow_pos, pow_mono, shl_lt}
@@ -54,7 +54,7 @@ module _ (n : ℕ) where
       step : (r : ℕ) → r ≡ q + 1 → n < r * r → r * r < n + r → r ≡ nearest_root n
       step r e l b = e ∙ under q (subst (λ (z : ℕ). n < z * z) e l) (subst (λ (z : ℕ). z * z < n + z) e b)
 
-  pub tested : (r : ℕ) → n ≤ r * r + r → r * r < n + r → r ≡ nearest_root n
+  tested : (r : ℕ) → n ≤ r * r + r → r * r < n + r → r ≡ nearest_root n
   tested r = sides r (leb (r * r) n) (leb→le (r * r) n) (nleb→lt (r * r) n)
 
 -- ---- the numbers of a pattern
@@ -95,7 +95,7 @@ module _ (b : ℕ) where
   pub rooted_bits : b < 2139095040 → of_bits binary32 (root_bits b) ≡ root_of binary32 (whole_bits b * 2 ^ (2 * place_bits b))
   rooted_bits h = pattern_is r (place_bits b) r_lo r_hi (place_lt h) ∙ sym (root_at binary32 (whole_bits b) whole_lo whole_hi (place_bits b))
 
-  pub rooted_no_nan : b < 2139095040 → T (not (nan_bits binary32 (root_bits b)))
+  rooted_no_nan : b < 2139095040 → T (not (nan_bits binary32 (root_bits b)))
   rooted_no_nan h = pattern_no_nan r (place_bits b) r_lo r_hi (place_lt h)
 
 -- ---- what the code works out: the digits m, doubled where the field is even, and the sum of place and digits
@@ -115,11 +115,26 @@ whole_is b m (inr h) = go b m h.0 h.1 ∙ ap (λ (z : ℕ). (b % 2 ^ 23 + 2 ^ 23
     go : (b m : ℕ) → 8388608 ≤ b % 16777216 → m ≡ b % 16777216 → m * 8388608 ≡ (b % 8388608 + 8388608) * 8388608
     go b m h e = omega arith
 
-pub sum_is : (b r : ℕ) → (b + 1065353216) / 16777216 * 8388608 + r - 8388608 ≡ place_bits b * 2 ^ 23 + r
+sum_is : (b r : ℕ) → (b + 1065353216) / 16777216 * 8388608 + r - 8388608 ≡ place_bits b * 2 ^ 23 + r
 sum_is b r = go b r
   where
     go : (b r : ℕ) → (b + 1065353216) / 16777216 * 8388608 + r - 8388608 ≡ (b / 8388608 + 125) / 2 * 8388608 + r
     go b r = omega arith
+
+-- r passes the two tests, with what the code makes of it: q, its square, and s and t, which are r as wider numbers
+pub passed :
+    (b n q r s t : ℕ)
+    → n ≡ whole_bits b
+    → q ≡ r * r
+    → s ≡ r
+    → t ≡ r
+    → n ≤ q + s
+    → q < n + t
+    → (b + 1065353216) / 16777216 * 8388608 + r - 8388608 ≡ root_bits b
+passed b n q r s t whole square left right low high =
+    let at_most : n ≤ r * r + r = omega arith in
+    let at_least : r * r < n + r = omega arith in
+    sum_is b r ∙ ap (λ (z : ℕ). place_bits b * 2 ^ 23 + z) (tested n r at_most at_least ∙ ap nearest_root whole)
 
 -- ---- from the smallest normal value to the largest value
 abbrev pub least : Float
@@ -169,7 +184,20 @@ module _ (x : Float) (F : T (fits binary32 x)) (a : T (le least x)) (z : T (le x
   valued : HasValue x false (whole_bits b * 2 ^ (2 * place_bits b)) (2 ^ 298)
   valued = revalue x false ((b % 2 ^ 23 + 2 ^ 23) * 2 ^ (b / 2 ^ 23 - 1)) (2 ^ 149) (whole_bits b * 2 ^ (2 * place_bits b)) (2 ^ 298) (pow_pos 149) (high_split binary32 x F above normal).value same
 
-  pub root_by_bits : to_bits binary32 x < 2139095040 → of_bits binary32 (root_bits (to_bits binary32 x)) ≡ sqrt_of binary32 x
+  root_by_bits : b < 2139095040 → of_bits binary32 (root_bits b) ≡ sqrt_of binary32 x
   root_by_bits h = rooted_bits b h ∙ sym (sqrt_at binary32 x (whole_bits b * 2 ^ (2 * place_bits b)) above valued)
+
+-- ---- a pattern that is 0 or the root's own, and is not 0
+abbrev pub Found : ℕ → ℕ → Type 0
+Found b p = (p ≡ 0) ⊎ ((b < 2139095040) × (p ≡ root_bits b))
+
+pub found_no_nan : (b p : ℕ) → Found b p → 0 < p → T (not (nan_bits binary32 p))
+found_no_nan b p (inl e) h = absurd (lt_irrefl 0 (subst (λ (z : ℕ). 0 < z) e h))
+found_no_nan b p (inr s) h = subst (λ (z : ℕ). T (not (nan_bits binary32 z))) (sym s.1) (rooted_no_nan b s.0)
+
+module _ (x : Float) (F : T (fits binary32 x)) (a : T (le least x)) (z : T (le x most)) where
+  pub found_root : (p : ℕ) → Found (to_bits binary32 x) p → 0 < p → of_bits binary32 p ≡ sqrt_of binary32 x
+  found_root p (inl e) h = absurd (lt_irrefl 0 (subst (λ (z : ℕ). 0 < z) e h))
+  found_root p (inr s) h = ap (of_bits binary32) s.1 ∙ root_by_bits x F a z s.0
 
 -- Assumes nothing.

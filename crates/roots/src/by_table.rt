@@ -146,7 +146,7 @@ pub const ROOTS: [u64; 128] = [
 fn mul(a: u32, b: u32) -> u64
     ensures { result ≡ a * b }
 {
-    (a as u64) * (b as u64)
+    u64::from(a) * u64::from(b)
 }
 
 // The root's 24 digits or one less, if w is the table's number for the piece and f the 17 digits within it. Nothing rests on it: each remainder
@@ -166,7 +166,11 @@ fn nearer(g: u32, n: u64) -> u32
     requires { g < 33554432 }
     ensures { result ≤ 33554432 }
 {
-    if n > mul(g, g) + (g as u64) { g + 1 } else { g }
+    if n > mul(g, g) + u64::from(g) {
+        g + 1
+    } else {
+        g
+    }
 }
 
 // The pattern of the root of the normal number with the pattern `bits`; 0 if the guess was no good, and for an infinity, a NaN or a sign.
@@ -178,12 +182,12 @@ fn pattern(bits: u32, w: u64) -> u32
         // the 24 digits, doubled where the field is even: n has 47 or 48, and its root 24
         let t: u32 = bits % 16777216;
         let m: u32 = if t < 8388608 { t + t + 16777216 } else { t };
-        let n: u64 = (m as u64) * 8388608;
+        let n: u64 = u64::from(m) * 8388608;
         let r: u32 = nearer(g, n);
         // n from r² - r + 1 up to r² + r: r is the number nearest to its root
         let q: u64 = mul(r, r);
-        if n <= q + (r as u64) {
-            if q < n + (r as u64) {
+        if n <= q + u64::from(r) {
+            if q < n + u64::from(r) {
                 // half the field, and the digits: 2^24 of them carry into the field
                 let e: u32 = (bits + 1065353216) / 16777216;
                 return e * 8388608 + r - 8388608;

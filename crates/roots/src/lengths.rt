@@ -11,7 +11,7 @@ use super::{nearest_root, whole_root};
 fn square(v: i32) -> u64
     ensures { (result ≡ nat_abs v * nat_abs v) × (result ≤ 4611686018427387904) }
 {
-    let a = to_f32::magnitude(v as i64);
+    let a = u64::from(v.unsigned_abs());
     a * a
 }
 

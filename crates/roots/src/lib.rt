@@ -20,6 +20,7 @@ fn guess_root(n: u64) -> u64
     requires { n < 281474976710656 }
     ensures { result < 16777216 }
 {
+    // a number with a sign becomes a float in one instruction
     // the root of u = n / 2^46, from 1 up to 4: by a cubic to a part in 940, then by one step of Halley's to one in 3 * 10^9
     let u = (n as i64) as f64 * 0.000000000000014210854715202004;
     let y = ((0.008980291113908431 * u - 0.10323619306053179) * u + 0.6612826583625814) * u
@@ -99,10 +100,13 @@ fn split_f32(x: f32) -> Parts
     let f = b >> 23;
     let d = b & 8388607;
     if f == 0 {
-        Parts { m: d as u64, e: 0 }
+        Parts {
+            m: u64::from(d),
+            e: 0,
+        }
     } else {
         Parts {
-            m: (d as u64) + 8388608,
+            m: u64::from(d) + 8388608,
             e: f - 1,
         }
     }
