@@ -27,8 +27,10 @@ narrow_at (inf s) a c p C v = absurd p
 narrow_at (fin true m e) a c p C v = absurd p
 narrow_at (fin false m e) a c p C v = round_same binary32 false (m * up e) (down e) a c (down_pos e) C v.1
 
-pub kept_le : (m k : ℕ) → m < 9007199254740992 → 29 ≤ k → closest m (2 ^ k) ≤ 2 ^ 24
-kept_le m k h K = le_trans (nearest-le (m / 2 ^ k) (compare (m % 2 ^ k * 2) (2 ^ k))) (shr_lt 24 k (lt_of_lt_of_le h (pow_mono (go k K))))
+pub kept_le : (m k q : ℕ) → m < 9007199254740992 → 29 ≤ k → q ≡ closest m (2 ^ k) → q ≤ 2 ^ 24
+kept_le m k q h K is =
+    let kept = nearest-le (m / 2 ^ k) (compare (m % 2 ^ k * 2) (2 ^ k)) in
+    subst (λ (z : ℕ). z ≤ 2 ^ 24) (sym is) (le_trans kept (shr_lt 24 k (lt_of_lt_of_le h (pow_mono (go k K)))))
   where
     go : (k : ℕ) → 29 ≤ k → 53 ≤ 24 + k
     go k h = omega arith

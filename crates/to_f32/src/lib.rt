@@ -1,10 +1,10 @@
 // The f32 nearest to a number, a tie to the even one, for all input.
 //   whole numbers   nearest_u32_to_f32, _i32, _u64, _i64      Rust's `as` (lib.Ieee: of_int)
 //   f64             nearest_f64_to_f32                        specs/Narrow
-// specs/Digits has a float as digits and their place. scale and magnitude are for `roots` too.
+// specs/Digits has a float as digits and their place. scale is for `roots` too.
 #![tactic(auto)]
 
-ghost use Rattle.std.specs.Prelude.{◌≡◌, false, ◌≤◌, ◌<◌, ◌^◌, T, pos, nat_abs};
+ghost use Rattle.std.specs.Prelude.{◌≡◌, false, ◌≤◌, ◌<◌, ◌^◌, T, pos};
 ghost use Rattle.std.specs.Float.Ieee as Ieee;
 ghost use Rattle.std.specs.Float.{binary32, binary64};
 ghost use Rattle.std.specs.Float.Ieee.{units};
@@ -63,31 +63,20 @@ pub fn nearest_u64_to_f32(n: u64) -> f32
 pub fn nearest_u32_to_f32(n: u32) -> f32
     ensures { result ≡ Ieee.of_int binary32 (pos n) }
 {
-    nearest_u64_to_f32(n as u64)
-}
-
-// The magnitude of z. That of the least i64 is no i64, so one comes off before the cast.
-pub fn magnitude(z: i64) -> u64
-    ensures { result ≡ nat_abs z }
-{
-    if z < 0 {
-        ((-1 - z) as u64) + 1
-    } else {
-        z as u64
-    }
+    nearest_u64_to_f32(u64::from(n))
 }
 
 pub fn nearest_i64_to_f32(z: i64) -> f32
     ensures { result ≡ Ieee.of_int binary32 z }
 {
-    let a = nearest_u64_to_f32(magnitude(z));
+    let a = nearest_u64_to_f32(z.unsigned_abs());
     if z < 0 { -a } else { a }
 }
 
 pub fn nearest_i32_to_f32(z: i32) -> f32
     ensures { result ≡ Ieee.of_int binary32 z }
 {
-    nearest_i64_to_f32(z as i64)
+    nearest_i64_to_f32(i64::from(z))
 }
 
 // ---- f64

@@ -77,8 +77,7 @@ narrow_above-requires-then-a c = turned c.args.x (yes c.if-x-3.true) (yes c.if-a
 
 pub float_to_float-result : goal.float_to_float-result
 unfolding of_bits
-float_to_float-result c =
-    zero-fits c.args.x ((let h_held : T (fits binary64 c.args.x) = yes c.well_formed.0.1 in h_held)) (yes c.if-x-4.true)
+float_to_float-result c = zero-fits c.args.x (yes c.well_formed.0.1) (yes c.if-x-4.true)
 
 pub returns-else-x-2 : goal.returns-else-x-2
 unfolding of_bits div
@@ -96,8 +95,7 @@ returns-else-a c = endless-minus c.args.x (yes c.if-x-3.true) (no c.if-a.false)
 
 pub returns-then-x-4 : goal.returns-then-x-4
 unfolding of_bits
-returns-then-x-4 c =
-    zero-narrow c.args.x ((let h_held : T (fits binary64 c.args.x) = yes c.well_formed.0.1 in h_held)) (yes c.if-x-4.true)
+returns-then-x-4 c = zero-narrow c.args.x (yes c.well_formed.0.1) (yes c.if-x-4.true)
 
 pub returns-else-x-4 : goal.returns-else-x-4
 unfolding of_bits div

@@ -1,12 +1,9 @@
 -- The pattern's field is 0 or not: the digits without or with the leading one.
 use mathlib.Core.Path.{sym, subst}
-use Prim.Native.Nat.{ℕ, ◌+◌, ◌/◌, ◌-◌, ◌<◌}
+use Prim.Native.Nat.{ℕ, ◌+◌, ◌/◌, ◌-◌}
 use native.Mathlib.Omega.{arith}
-use lib.Dec.{T}
-use lib.Bits.{bit_and, and_mask, mask_lt}
-use lib.Ieee.{binary64, fits, to_bits}
-use mir.Syntax.{w64}
-use mir.Val.{Fits}
+use lib.Bits.{and_mask, mask_lt}
+use lib.Ieee.{binary64, to_bits}
 use Rattle.numbers.proofs.Zero.{yes, positive_is}
 use Rattle.to_f32.specs.Digits.{Split}
 use Rattle.to_f32.proofs.Pattern.{low_split, high_split}
@@ -16,17 +13,16 @@ pub float_to_bits-b : goal.float_to_bits-b
 float_to_bits-b c = positive_is c.args.x c.requires
 
 pub overflow_add-result : goal.overflow_add-result
-overflow_add-result c = go (bit_and (to_bits binary64 c.args.x) 4503599627370495) (mask_lt (to_bits binary64 c.args.x) 52)
-  where
-    go : (d : ℕ) → d < 4503599627370496 → Fits w64 (d + 4503599627370496)
-    go d h = omega arith
+overflow_add-result c = omega (arith, mask_lt (to_bits binary64 c.args.x) 52)
 
 pub returns-then-f-eq0 : goal.returns-then-f-eq0
 returns-then-f-eq0 c =
     let x = c.args.x in
-    subst (λ (d : ℕ). Split binary64 x d 0) (sym (and_mask (to_bits binary64 x) 52)) (low_split binary64 x ((let h_held : T (fits binary64 c.args.x) = yes c.well_formed.0.1 in h_held)) c.requires c.if-f-eq0.true)
+    subst (λ (d : ℕ). Split binary64 x d 0) (sym (and_mask (to_bits binary64 x) 52)) (low_split binary64 x (yes c.well_formed.0.1) c.requires c.if-f-eq0.true)
 
 pub returns-else-f-eq0 : goal.returns-else-f-eq0
 returns-else-f-eq0 c =
     let x = c.args.x in
-    subst (λ (d : ℕ). Split binary64 x (d + 4503599627370496) (to_bits binary64 x / 4503599627370496 - 1)) (sym (and_mask (to_bits binary64 x) 52)) (high_split binary64 x ((let h_held : T (fits binary64 c.args.x) = yes c.well_formed.0.1 in h_held)) c.requires c.if-f-eq0.false)
+    let b = to_bits binary64 x in
+    subst (λ (d : ℕ). Split binary64 x (d + 4503599627370496) (b / 4503599627370496 - 1)) (sym (and_mask b 52))
+    (high_split binary64 x (yes c.well_formed.0.1) c.requires c.if-f-eq0.false)
