@@ -88,7 +88,7 @@ fn ln_above(x: f32) -> f32
     requires { T (positive x) }
     ensures { result ≡ ln_of x }
 {
-    let b = f64::to_bits(x as f64);
+    let b = f64::to_bits(f64::from(x));
     let z = f64::from_bits((b & 4503599627370495) + 4607182418800017408);
     let k = ((b >> 52) as f64) - 1023.0;
     if z > 1.4142135623730951 {
