@@ -10,7 +10,7 @@ pub use telling::say;
 // The usual configured limit.
 pub const CONFIGURED: u32 = 1048576;
 
-// What a description was read from: a list of so many values, or a trace file of so many bytes and its edition.
+// What a description was read from: a list of so many values, or a trace file of so many bytes and its edition. Neither is the lack or the failure of the other, so this is no `Option` and no `Result`.
 #[derive(Clone, Copy, Debug, PartialEq, Eq)]
 pub enum Source {
     List(usize),

@@ -32,7 +32,7 @@ fn say_first(
     )
 }
 
-// A list that is read in lent rooms. It has no image.
+// A list that is read in lent rooms. It has no image. Each room is a parameter of its own: over a struct of `&mut` slices the proof did not close (`draw`).
 fn list_in(
     to: Stdout,
     list: &[u32],
@@ -67,7 +67,7 @@ pub fn tell_list(to: Stdout, list: &[u32]) -> Result<(), Undone>
     )
 }
 
-// A trace file that is read in lent rooms.
+// A trace file that is read in lent rooms, which are as many parameters as those of `list_in`.
 fn trace_in(
     to: Stdout,
     bytes: &[u8],

@@ -74,7 +74,7 @@ pub extern "C" fn layers_trace(
     }
 }
 
-// One spline: its code's number, four rows of coefficients, the estimate, and whether two adjacent control points are the same.
+// C has a parameter for each number and each row that it is told. One spline: its code's number, four rows of coefficients, the estimate, and whether two adjacent control points are the same.
 #[unsafe(no_mangle)]
 pub extern "C" fn layers_dequantize(
     start_x: f32,
@@ -137,7 +137,7 @@ fn judged_of(description: &Description<'_>, given: Given) -> Result<u64, Refusal
     dequantize::judge::judge(description, given)
 }
 
-// All splines of a description: the code's number, the place and the summed estimate.
+// All splines of a description, whose slices C lends one by one: the code's number, the place and the summed estimate.
 #[unsafe(no_mangle)]
 pub extern "C" fn layers_judge(
     counts: &[u32],

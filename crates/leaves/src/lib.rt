@@ -59,7 +59,7 @@ pub extern "C" fn leaves_saturating_f32_to_u64(x: f32) -> u64
     kinds::saturating_f32_to_u64(x)
 }
 
-// A kind by its number.
+// A kind by its number, which is what C takes.
 fn number<T: Copy>(kind: Kind<T>) -> u32
     ensures { result ≡ number_of kind }
 {

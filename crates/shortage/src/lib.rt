@@ -11,7 +11,8 @@ use shape::Description;
 use table::Setting;
 use words::{Failure, wrong};
 
-// A description drawn in this precision, and its rows left out: how many segments it has, or the spline that has no room.
+// A description drawn in this precision, and its rows left out: how many segments it has, or the spline that has no room. Here and below each room
+// is a parameter of its own: over a struct of `&mut` slices the proof did not close (`draw`).
 fn draw_all(
     description: &Description<'_>,
     adjustment: i32,

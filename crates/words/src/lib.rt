@@ -20,7 +20,7 @@ pub enum Failure {
     Quiet = 3,
 }
 
-// Why something is not done: it is left to others, as to longer rooms; or how it fails.
+// The error of what may be left to others: why it is not done. It is left, as to longer rooms, or it fails.
 #[derive(Clone, Copy, Debug, PartialEq, Eq)]
 pub enum Undone {
     Left,
