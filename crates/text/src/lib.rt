@@ -4,7 +4,7 @@
 ghost use Rattle.std.specs.Prelude.{◌≡◌, ◌-◌, ◌≤◌, length, get_or};
 ghost use Rattle.text.specs.Text.{is_space, space_of, digit_of, step_of, ended, text_of, TurnLeaves, ReadAs, line_of};
 
-// What the next byte makes of the number that the text stands in, if it stands in one: the text goes on, a number ends, the byte is no part of a number, or the number is 2^32 or more.
+// What the next byte makes of the number that the text stands in, if it stands in one: the text goes on, a number ends, the byte is no part of a number, or the number is 2^32 or more. `step_of` and `follow` speak of these four cases.
 #[derive(Clone, Copy, Debug, PartialEq, Eq)]
 pub enum Step {
     On(Option<u32>),
@@ -13,7 +13,7 @@ pub enum Step {
     Great,
 }
 
-// Why a reading stops, and at which byte: it is no part of a number, the number grows to 2^32, or the number that it ends finds no cell.
+// The error of a reading: why it stops, and at which byte: it is no part of a number, the number grows to 2^32, or the number that it ends finds no cell.
 #[derive(Clone, Copy, Debug, PartialEq, Eq)]
 pub enum ParseError {
     Stranger(usize),
@@ -44,11 +44,11 @@ fn after_digit(inside: Option<u32>, d: u8) -> Step
     }
 }
 
-// A space, or one of tab, line feed, vertical tab, form feed and carriage return.
+// A space, or one of tab, line feed, vertical tab, form feed and carriage return. std's `is_ascii_whitespace` has no vertical tab.
 pub fn is_space(b: u8) -> bool
     ensures { result ≡ is_space b }
 {
-    b == b' ' || (9 <= b && b <= 13)
+    matches!(b, b' ' | 9..=13)
 }
 
 #[tactic(auto, unfolding(crate::specs::Text::step_of))]
