@@ -1,12 +1,12 @@
 // Pixels as bytes of a picture: tones for a preview, or the floats as they are.
 #![tactic(auto)]
 
-ghost use Rattle.std.specs.Prelude.{◌≡◌, [], ◌∷◌, ◌+◌, ◌*◌, ◌≤◌, length};
+ghost use Rattle.std.specs.Prelude.{◌≡◌, ◌+◌, ◌*◌, ◌≤◌, length};
 ghost use Rattle.std.proofs.lemmas.List.Edits.{sets};
-ghost use Rattle.std.specs.Float.{binary32};
-ghost use Rattle.std.specs.Float.Ieee.{to_bits};
 ghost use Rattle.buffers.specs.Onto.{onto};
-ghost use Rattle.pixels.specs.Pixels.{tone_of, tones_of, bytes_of, float_of, floats_of, pixels_of};
+ghost use Rattle.pixels.specs.Pixels.{tone_of, tones_of, float_of, floats_of, pixels_of};
+
+use std::num::f32_to_bits_with_nan;
 
 // 0 to 1 becomes 0 to 255, what lies outside is cut, NaN is black.
 #[tactic(auto, unfolding(crate::specs::Pixels::tone_of))]
@@ -17,31 +17,12 @@ fn tone(v: f32) -> u8
     t.min(255) as u8
 }
 
-// The pattern of a float, 7fc00000 for every NaN.
-fn pattern(v: f32) -> u32
-    ensures { result ≡ to_bits binary32 v }
+// Bytes, stored from cell `at` on.
+fn put<const N: usize>(out: &mut [u8], at: usize, bytes: &[u8; N])
+    requires { at + N ≤ length out.old }
+    ensures { out.new ≡ sets out.old at bytes.now }
 {
-    if v != v { 2143289344 } else { f32::to_bits(v) }
-}
-
-fn put3(out: &mut [u8], at: usize, red: u8, green: u8, blue: u8)
-    requires { at + 3 ≤ length out.old }
-    ensures { out.new ≡ sets out.old at (red ∷ green ∷ blue ∷ []) }
-{
-    out[at] = red;
-    out[at + 1] = green;
-    out[at + 2] = blue;
-}
-
-// Four bytes, the lowest first.
-fn put4(out: &mut [u8], at: usize, w: u32)
-    requires { at + 4 ≤ length out.old }
-    ensures { out.new ≡ sets out.old at (bytes_of w) }
-{
-    out[at] = (w % 256) as u8;
-    out[at + 1] = (w / 256 % 256) as u8;
-    out[at + 2] = (w / 65536 % 256) as u8;
-    out[at + 3] = (w / 16777216 % 256) as u8;
+    out[at..at + N].copy_from_slice(bytes);
 }
 
 // A pixel's red, green and blue.
@@ -52,16 +33,15 @@ fn put_tones(out: &mut [u8], at: usize, x: f32, y: f32, b: f32)
     let red = tone(y + x);
     let green = tone(y - x);
     let blue = tone(b);
-    put3(out, at, red, green, blue);
+    put(out, at, &[red, green, blue]);
 }
 
-// A float's four bytes.
+// A float's four bytes, the lowest first. Every NaN has the pattern 7fc00000.
 fn put_float(out: &mut [u8], at: usize, v: f32)
     requires { at + 4 ≤ length out.old }
     ensures { out.new ≡ sets out.old at (float_of v) }
 {
-    let w = pattern(v);
-    put4(out, at, w);
+    put(out, at, &f32_to_bits_with_nan(v).to_le_bytes());
 }
 
 // A pixel's X, Y and B.
@@ -84,7 +64,7 @@ pub fn tones(n: usize, x: &[f32], y: &[f32], b: &[f32], out: &mut [u8])
     }
 }
 
-// Twelve bytes a pixel.
+// Twelve bytes a pixel. Over a closure for the pixel, one function for `tones` and this one would need a contract of the closure, and be longer than both.
 pub fn floats(n: usize, x: &[f32], y: &[f32], b: &[f32], out: &mut [u8])
     requires { (n ≤ length x.now) × (n ≤ length y.now) × (n ≤ length b.now) × (12 * n ≤ length out.old) }
     ensures { out.new ≡ onto (pixels_of floats_of x.now y.now b.now n) out.old }

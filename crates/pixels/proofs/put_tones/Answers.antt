@@ -4,4 +4,4 @@ use Rattle.pixels.proofs.put_tones.Goals as goal
 
 pub returns : goal.returns
 unfolding tones_of
-returns c = rw (c.tone-red.ensures, c.tone-green.ensures, c.tone-blue.ensures) at c.put3.ensures
+returns c = rw (c.tone-red.ensures, c.tone-green.ensures, c.tone-blue.ensures) at c.put.ensures
