@@ -1,16 +1,17 @@
 -- Laws of checks number by number, and of a part of the numbers.
-use mathlib.Core.Path.{◌≡◌, refl, ◌∙◌}
+use mathlib.Core.Path.{◌≡◌, refl, ap, ◌∙◌}
 use mathlib.Core.Bool.{Bool, true, false}
 use mathlib.Core.List.{List, [], ◌∷◌}
 use Prim.Native.Nat.{ℕ, zero, suc, ◌+◌, ◌*◌, ◌≤◌, ◌<◌}
 use native.Mathlib.Nat.{not-suc-le-zero, le_of_suc-le-suc}
 use native.Mathlib.Omega.{arith}
-use lib.ListN.{length, drop, get_or, length-drop, drop_of_length-le}
+use lib.ListN.{length, take, drop, get_or, length-drop, drop_of_length-le}
 use lib.Seq.{drop-cons, length-take-le, get_or-take, get_or-drop}
 use Rattle.codes.specs.declared.Code.{Code}
 use Rattle.writer.specs.Write.{check, first_fault}
 use Rattle.write_judge.specs.Verdict.{Fine, Fault}
 use Rattle.write_judge.proofs.Checks.{fails, passes, passed}
+use Rattle.little.specs.Little.{numbers_in}
 use Rattle.trace.specs.Trace.{part, number_checks}
 
 module _ {A : Type 0} (test : A → Bool) (c : Code) where
@@ -53,5 +54,34 @@ part_length from n ns h = length-take-le n (drop from ns) (omega (arith, length-
 
 pub part_at : (from n : ℕ) (ns : List ℕ) (i : ℕ) → i < n → get_or (part from n ns) i 0 ≡ get_or ns (from + i) 0
 part_at from n ns i h = get_or-take n (drop from ns) i 0 h ∙ get_or-drop from ns i 0
+
+-- the numbers in a slice of the bytes, from a number's first byte on
+
+numbers_drop : (k : ℕ) (l : List ℕ) → numbers_in (drop (4 * k) l) ≡ drop k (numbers_in l)
+unfolding numbers_in
+numbers_drop zero l = refl
+numbers_drop (suc k) l = let p : 4 * suc k ≡ suc (suc (suc (suc (4 * k)))) = omega arith in rw p (go (numbers_drop k) l)
+  where
+    go : ((l : List ℕ) → numbers_in (drop (4 * k) l) ≡ drop k (numbers_in l)) → (l : List ℕ) → numbers_in (drop (suc (suc (suc (suc (4 * k))))) l) ≡ drop (suc k) (numbers_in l)
+    go f [] = refl
+    go f (a ∷ []) = refl
+    go f (a ∷ b ∷ []) = refl
+    go f (a ∷ b ∷ c ∷ []) = refl
+    go f (a ∷ b ∷ c ∷ d ∷ l) = f l
+
+numbers_take : (k : ℕ) (l : List ℕ) → numbers_in (take (4 * k) l) ≡ take k (numbers_in l)
+unfolding numbers_in
+numbers_take zero l = refl
+numbers_take (suc k) l = let p : 4 * suc k ≡ suc (suc (suc (suc (4 * k)))) = omega arith in rw p (go (numbers_take k) l)
+  where
+    go : ((l : List ℕ) → numbers_in (take (4 * k) l) ≡ take k (numbers_in l)) → (l : List ℕ) → numbers_in (take (suc (suc (suc (suc (4 * k))))) l) ≡ take (suc k) (numbers_in l)
+    go f [] = refl
+    go f (a ∷ []) = refl
+    go f (a ∷ b ∷ []) = refl
+    go f (a ∷ b ∷ c ∷ []) = refl
+    go f (a ∷ b ∷ c ∷ d ∷ l) = ap (λ (t : List ℕ). (a + 256 * b + 65536 * (c + 256 * d)) ∷ t) (f l)
+
+pub numbers_part : (from n k : ℕ) (l : List ℕ) → k ≡ 4 * n → numbers_in (take k (drop (4 * from) l)) ≡ part from n (numbers_in l)
+numbers_part from n k l e = rw e (numbers_take n (drop (4 * from) l) ∙ ap (take n) (numbers_drop from l))
 
 -- Assumes nothing.

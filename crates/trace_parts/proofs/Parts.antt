@@ -2,7 +2,7 @@
 use mathlib.Core.Path.{◌≡◌, refl, sym, ap, ◌∙◌}
 use mathlib.Core.Bool.{Bool, true, false, cond}
 use mathlib.Core.List.{List}
-use Prim.Native.Nat.{ℕ, suc, ◌+◌, ◌-◌, ◌*◌, ◌^◌, ◌≤◌, ◌<◌}
+use Prim.Native.Nat.{ℕ, suc, ◌+◌, ◌-◌, ◌*◌, ◌/◌, ◌^◌, ◌≤◌, ◌<◌}
 use native.Mathlib.Omega.{arith}
 use lib.Dec.{eqb, ltb, leb}
 use lib.ListN.{length, drop, get_or}
@@ -20,7 +20,7 @@ use Rattle.little.specs.Little.{numbers_in}
 use Rattle.little.proofs.Little.{numbers_length}
 use Rattle.trace.specs.Trace.{starts_from, deltas_from, part, number_checks}
 use Rattle.trace.specs.Read.{misplaced, too_wild, part_checks}
-use Rattle.trace.proofs.Checks.{turn_fault, turn_pass, turn_end, part_length, part_at}
+use Rattle.trace.proofs.Checks.{turn_fault, turn_pass, turn_end, part_length}
 
 -- ---- single numbers
 
@@ -64,26 +64,21 @@ delta_high u h g = go (ltb u (2 ^ 31)) refl
 pub held_length : (bytes : List ℕ) (from n : ℕ) → 4 * (from + n) ≤ length bytes → length (part from n (numbers_in bytes)) ≡ n
 held_length bytes from n h = part_length from n (numbers_in bytes) (omega (arith, numbers_length bytes))
 
-module _ (test : ℕ → Bool) (code : Code) (bytes : List ℕ) (from n i : ℕ) (held : 4 * (from + n) ≤ length bytes) where
-  abbrev Part : List ℕ
-  Part = part from n (numbers_in bytes)
+module _ (test : ℕ → Bool) (code : Code) (bytes : List ℕ) (from i : ℕ) where
+  -- number i of a part is refused, or the next is looked at
+  pub number_fault : (u : ℕ) (b : Bool) → i < length bytes / 4 → u ≡ get_or (numbers_in bytes) i 0 → b ≡ test u → b ≡ true
+      → first_fault (number_checks test code (from + i) (drop i (numbers_in bytes))) ≡ Fault code (4 * (from + i))
+  number_fault u b h e t y = turn_fault test code (numbers_in bytes) 0 (from + i) i (omega (arith, numbers_length bytes)) (ap test (sym e) ∙ sym t ∙ y)
 
-  -- number i of the part is refused, or the next is looked at
-  pub number_fault : (u : ℕ) (b : Bool) → i < n → u ≡ get_or (numbers_in bytes) (from + i) 0 → b ≡ test u → b ≡ true
-      → first_fault (number_checks test code (from + i) (drop i Part)) ≡ Fault code (4 * (from + i))
-  number_fault u b h e t y =
-      turn_fault test code Part 0 (from + i) i (omega (arith, held_length bytes from n held)) (ap test (part_at from n (numbers_in bytes) i h ∙ sym e) ∙ sym t ∙ y)
-
-  pub number_pass : (u : ℕ) (b : Bool) → i < n → u ≡ get_or (numbers_in bytes) (from + i) 0 → b ≡ test u → b ≡ false
-      → first_fault (number_checks test code (from + i) (drop i Part)) ≡ first_fault (number_checks test code (from + (i + 1)) (drop (i + 1) Part))
+  pub number_pass : (u : ℕ) (b : Bool) → i < length bytes / 4 → u ≡ get_or (numbers_in bytes) i 0 → b ≡ test u → b ≡ false
+      → first_fault (number_checks test code (from + i) (drop i (numbers_in bytes))) ≡ first_fault (number_checks test code (from + (i + 1)) (drop (i + 1) (numbers_in bytes)))
   number_pass u b h e t y =
       let k : suc (from + i) ≡ from + (i + 1) = omega arith in
       let j : suc i ≡ i + 1 = omega arith in
-      rw (k, j) at
-      (turn_pass test code Part 0 (from + i) i (omega (arith, held_length bytes from n held)) (ap test (part_at from n (numbers_in bytes) i h ∙ sym e) ∙ sym t ∙ y))
+      rw (k, j) at (turn_pass test code (numbers_in bytes) 0 (from + i) i (omega (arith, numbers_length bytes)) (ap test (sym e) ∙ sym t ∙ y))
 
-  pub number_end : n ≤ i → first_fault (number_checks test code (from + i) (drop i Part)) ≡ Fine
-  number_end h = turn_end test code Part (from + i) i (omega (arith, held_length bytes from n held))
+  pub number_end : length bytes / 4 ≤ i → first_fault (number_checks test code (from + i) (drop i (numbers_in bytes))) ≡ Fine
+  number_end h = turn_end test code (numbers_in bytes) (from + i) i (omega (arith, numbers_length bytes))
 
 -- ---- the checks one after the other
 

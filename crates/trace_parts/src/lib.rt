@@ -2,13 +2,12 @@
 // s and p are the splines and the points of the header, h is how many numbers it has.
 #![tactic(auto)]
 
-ghost use Rattle.std.specs.Prelude.{◌≡◌, ◌+◌, ◌*◌, ◌≤◌, eqb, length};
+ghost use Rattle.std.specs.Prelude.{◌≡◌, ℕ, Bool, ◌+◌, ◌*◌, ◌^◌, ◌<◌, eqb, length};
 ghost use Rattle.shape.specs.Shape.{points_of};
 ghost use Rattle.writer.specs.Write.{first_fault};
 ghost use Rattle.little.specs.Little.{numbers_in};
-ghost use Rattle.trace.specs.Trace.{numbers_of, part, number_checks};
+ghost use Rattle.trace.specs.Trace.{numbers_of, number_checks};
 ghost use Rattle.trace.specs.Read.{part_checks, misplaced, too_wild};
-ghost use Rattle.trace_parts.specs.Kinds.{code_of, refused_by};
 
 use codes::{Code, Refusal};
 use little::number_at;
@@ -29,43 +28,16 @@ fn no_delta(number: u32) -> bool
     1073741824 <= number && number <= 3221225472
 }
 
-// The numbers that are judged one by one.
-#[derive(Clone, Copy, Debug, PartialEq, Eq)]
-pub enum Kind {
-    Start,
-    Delta,
-}
-
-// The code that refuses one.
-fn code(kind: Kind) -> Code
-    ensures { result ≡ code_of kind }
-{
-    match kind {
-        Kind::Start => Code::Coord,
-        Kind::Delta => Code::Delta,
-    }
-}
-
-// Whether a number is none of the kind.
-fn is_refused(kind: Kind, number: u32) -> bool
-    ensures { result ≡ refused_by kind number }
-{
-    match kind {
-        Kind::Start => no_start(number),
-        Kind::Delta => no_delta(number),
-    }
-}
-
 // ---- the checks
 
-// Whether n counts, from an index on, sum to just so many points: the sum itself may be too large to hold, so points are taken away instead.
-fn sum_is(bytes: &[u8], from: usize, n: usize, points: usize) -> bool
-    requires { 4 * (from + n) ≤ length bytes.now }
-    ensures { result ≡ eqb (points_of (part from n (numbers_in bytes.now))) points }
+// Whether the counts of a part sum to just so many points: the sum itself may be too large to hold, so points are taken away instead.
+// `shape` has this loop over a slice of numbers, which the bytes of a file are not: one over both would take an iterator, and be no shorter.
+fn sum_is(part: &[u8], points: usize) -> bool
+    ensures { result ≡ eqb (points_of (numbers_in part.now)) points }
 {
     let mut left = points;
-    for i in 0..n {
-        let count = number_at(bytes, from + i) as usize;
+    for i in 0..part.len() / 4 {
+        let count = number_at(part, i) as usize;
         if left < count {
             return false;
         }
@@ -74,14 +46,20 @@ fn sum_is(bytes: &[u8], from: usize, n: usize, points: usize) -> bool
     left == 0
 }
 
-// The first of n numbers, from an index on, that is none of the kind.
-fn judge_numbers(bytes: &[u8], from: usize, n: usize, kind: Kind) -> Result<(), Refusal>
-    requires { 4 * (from + n) ≤ length bytes.now }
-    ensures { result ≡ first_fault (number_checks (refused_by kind) (code_of kind) from (part from n (numbers_in bytes.now))) }
+// The first number of a part that a test refuses, with the code of such numbers; the first of the part is number `from` of the file.
+fn judge_numbers<F: Fn(u32) -> bool>(
+    part: &[u8],
+    from: usize,
+    code: Code,
+    refuses: F,
+) -> Result<(), Refusal>
+    requires { (4 * from + length part.now < 2 ^ 63) × F.IsAlwaysCallable refuses }
+    ensures { (test : ℕ → Bool) → ((u : ℕ) (r : Bool) → F.post refuses u r → r ≡ test u)
+        → result ≡ first_fault (number_checks test code from (numbers_in part.now)) }
 {
-    for i in 0..n {
-        if is_refused(kind, number_at(bytes, from + i)) {
-            return Err((code(kind), 4 * (from + i)));
+    for i in 0..part.len() / 4 {
+        if refuses(number_at(part, i)) {
+            return Err((code, 4 * (from + i)));
         }
     }
     Ok(())
@@ -92,9 +70,15 @@ pub fn judge_parts(bytes: &[u8], h: usize, s: usize, p: usize) -> Result<(), Ref
     requires { length bytes.now ≡ 4 * numbers_of h s p }
     ensures { result ≡ first_fault (part_checks h s p (numbers_in bytes.now)) }
 {
-    if !sum_is(bytes, h, s, p) {
+    let starts_from = h + s;
+    let deltas_from = h + 3 * s;
+    let coefficients_from = h + (3 * s + 2 * p);
+    let counts = &bytes[4 * h..4 * starts_from];
+    let starts = &bytes[4 * starts_from..4 * deltas_from];
+    let deltas = &bytes[4 * deltas_from..4 * coefficients_from];
+    if !sum_is(counts, p) {
         return Err((Code::Shape, 0));
     }
-    judge_numbers(bytes, h + s, 2 * s, Kind::Start)?;
-    judge_numbers(bytes, h + 3 * s, 2 * p, Kind::Delta)
+    judge_numbers(starts, starts_from, Code::Coord, no_start)?;
+    judge_numbers(deltas, deltas_from, Code::Delta, no_delta)
 }

@@ -1,2 +1,0 @@
--- The definitions of the crate `trace_parts`.
-pub mod Kinds
