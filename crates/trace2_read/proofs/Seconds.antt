@@ -1,5 +1,5 @@
 -- Laws of reading a file of version 2: the numbers of its header, and the whole.
-use mathlib.Core.Path.{◌≡◌, refl, sym, subst, ◌∙◌}
+use mathlib.Core.Path.{◌≡◌, refl, sym, ap, subst, ◌∙◌}
 use mathlib.Core.Bool.{Bool, true, false, not, ◌&&◌}
 use mathlib.Core.List.{List, [], ◌∷◌}
 use Prim.Native.Nat.{ℕ, ◌≤◌, ◌<◌}
@@ -9,25 +9,18 @@ use lib.ListN.{length, get_or, get_or-eq_default}
 use lib.IntN.{ℤ}
 use lib.Ieee.{Float}
 use borrow.Author.Tests.{lt-ltb, le-ltb, ltb-true, ltb-false, eqb-true, eqb-false}
-use Rattle.codes.specs.declared.Code.{Code}
 use Rattle.codes.specs.declared.Code.TheVariants.{Room}
-use Rattle.list.specs.List.{ListRooms, got, stop}
-use Rattle.reader.specs.Read.{ReadOutcome, leaves, rooms_of, outcome}
-use Rattle.reader.specs.Rest.{ListLeft, Wiped}
-use Rattle.codes.specs.Refusal.{refused}
+use Rattle.list.specs.List.{ListRooms}
+use Rattle.reader.specs.Read.{ReadOutcome, leaves, outcome}
 use Rattle.read_list.specs.Answer.{ReadAnswer}
 use Rattle.writer.specs.Write.{Check, check, first_fault}
-use Rattle.write_judge.specs.Verdict.{Fine, Fault}
-use Rattle.write_judge.proofs.Checks.{fails, passed, faults_before, fine_before, both_fine}
 use Rattle.little.specs.Little.{numbers_in}
 use Rattle.little.proofs.Little.{numbers_length}
-use Rattle.trace.specs.Read.{splines_in, points_in, tight, described_in, read_trace_of}
-use Rattle.trace_load.specs.Steps.{Loadable}
-use Rattle.trace_read.proofs.Loads.{Sound, sound_body, sound_loadable, same_rooms, wiped_refused, wiped_done}
+use Rattle.trace.specs.Read.{splines_in, points_in, tight, described_in, judged, read_trace_of}
+use Rattle.trace_read.specs.Steps.{read_by}
 use Rattle.trace2.specs.Read.{laid_checks, file_checks, whole_checks2, read_file, answer_of, edition_of, file_leaves, edition_told, FileAnswer, with_edition, read_file_of}
-use Rattle.trace2.proofs.Versions.{second_alike, nine_so, ninth_so, other_as_before, short_as_before}
+use Rattle.trace2.proofs.Versions.{alike_before, second_alike, nine_so, ninth_so, other_as_before, short_as_before}
 use Rattle.trace2_judge.specs.Steps.{Second}
-use Rattle.trace2_judge.proofs.Laid.{laid_sound}
 use Rattle.trace2_read.specs.Steps.{second}
 
 -- ---- the numbers of the header
@@ -62,48 +55,12 @@ module _ (rooms : ListRooms) (bytes : List ℕ) (said : Second bytes) where
   whole_is : first_fault Content ≡ first_fault (file_checks (length bytes) N)
   whole_is = sym (second_alike (length bytes) N said.long said.two)
 
-  pub whole_fault : (c : Code) (q : ℕ) → first_fault Content ≡ Fault c q → Fault c q ≡ first_fault (whole_checks2 rooms bytes)
-  unfolding whole_checks2
-  whole_fault c q e = sym (faults_before (file_checks (length bytes) N) _ c q (sym whole_is ∙ e))
-
-  module _ (fine : first_fault Content ≡ Fine) (s p : ℕ) (is : s ≡ splines_in N) (ip : p ≡ points_in N) where
-    pub whole_room : tight rooms s p ≡ true → Fault Room 0 ≡ first_fault (whole_checks2 rooms bytes)
-    unfolding whole_checks2
-    whole_room e = rw (← is, ← ip) (sym (fine_before (file_checks (length bytes) N) _ (sym whole_is ∙ fine) ∙ fails (tight rooms s p) Room 0 [] e))
-
-    pub whole_fine : tight rooms s p ≡ false → Fine ≡ first_fault (whole_checks2 rooms bytes)
-    unfolding whole_checks2 first_fault
-    whole_fine e = rw (← is, ← ip) (sym (fine_before (file_checks (length bytes) N) (check (tight rooms s p) Room 0 ∷ []) (sym whole_is ∙ fine) ∙ rw e))
-
-  pub second_sound : first_fault Content ≡ Fine → Sound 9 bytes
-  second_sound fine = sound_body 9 bytes (laid_sound (get_or N 8 0) (length bytes) N fine)
-
-  -- nothing was found: it can be loaded
-  pub loadable : first_fault (whole_checks2 rooms bytes) ≡ Fine → Loadable bytes 9 (splines_in N) (points_in N) rooms
-  unfolding whole_checks2
-  loadable e =
-      let b = both_fine (file_checks (length bytes) N) _ e in
-      let t = passed (tight rooms (splines_in N) (points_in N)) Room 0 [] b.1 in
-      sound_loadable 9 rooms bytes (second_sound (whole_is ∙ b.0)) t.0
-
-  judged_fine : first_fault (whole_checks2 rooms bytes) ≡ Fine → read_file rooms bytes ≡ got (described_in 9 N) []
-  unfolding read_file
-  judged_fine e = rw (e, nine_so (length bytes) N said.long said.two)
-
-  judged_fault : (c : Code) (q : ℕ) → first_fault (whole_checks2 rooms bytes) ≡ Fault c q → read_file rooms bytes ≡ stop c q
-  unfolding read_file
-  judged_fault c q e = rw e
-
-module _ (bytes n wn : List ℕ) (s ws : List Float) (d wd c wc : List ℤ) (w : Wiped n wn s ws d wd c wc) (said : Second bytes) where
-  pub read_refused : (k : Code) (q : ℕ) → first_fault (whole_checks2 (rooms_of wn ws wd wc) bytes) ≡ Fault k q
-      → leaves (refused k q) wn ws wd wc ≡ outcome (rooms_of n s d c) (read_file (rooms_of n s d c) bytes)
-  read_refused k q e = rw (judged_fault (rooms_of n s d c) bytes said k q (rw (same_rooms bytes n wn s ws d wd c wc w) at e)) (wiped_refused bytes n wn s ws d wd c wc w k q)
-
-  pub read_done : (r : ReadAnswer) (n' : List ℕ) (s' : List Float) (d' c' : List ℤ) → first_fault (whole_checks2 (rooms_of wn ws wd wc) bytes) ≡ Fine
-      → ListLeft (got (described_in 9 (numbers_in bytes)) []) r wn n' ws s' wd d' wc c'
-      → leaves r n' s' d' c' ≡ outcome (rooms_of n s d c) (read_file (rooms_of n s d c) bytes)
-  read_done r n' s' d' c' e h =
-      rw (judged_fine (rooms_of n s d c) bytes said (rw (same_rooms bytes n wn s ws d wd c wc w) at e)) (wiped_done bytes n wn s ws d wd c wc w (described_in 9 (numbers_in bytes)) r n' s' d' c' h)
+  -- the file is as its content says behind nine numbers
+  pub read_alike : read_by Content 9 rooms bytes ≡ read_file rooms bytes
+  unfolding read_file whole_checks2
+  read_alike =
+      ap (judged (described_in 9 N)) (alike_before Content (file_checks (length bytes) N) (check (tight rooms (splines_in N) (points_in N)) Room 0 ∷ []) whole_is)
+      ∙ ap (λ (h : ℕ). judged (described_in h N) (first_fault (whole_checks2 rooms bytes))) (sym (nine_so (length bytes) N said.long said.two))
 
 -- ---- with the edition
 

@@ -1,12 +1,12 @@
 -- Laws of buffers that are filled from the front with the numbers of a file, and of the whole file.
 use mathlib.Core.Path.{◌≡◌, refl, sym, ap, ◌∙◌}
 use mathlib.Core.Bool.{false}
-use mathlib.Core.List.{List, [], ◌∷◌, ◌++◌, map}
+use mathlib.Core.List.{List, [], ◌∷◌, ◌++◌, map, append-nil}
 use Prim.Native.Nat.{ℕ, zero, suc, ◌+◌, ◌*◌, ◌^◌, ◌≤◌, ◌<◌}
 use native.Mathlib.Nat.{not-suc-le-zero, le_of_suc-le-suc}
 use native.Mathlib.Numerals.{add-one}
 use native.Mathlib.Omega.{arith}
-use lib.ListN.{length, take, drop, set, get_or, length-map, get_or-map}
+use lib.ListN.{length, take, drop, set, get_or, length-map, get_or-map, drop_of_length-le}
 use lib.Seq.{take-length}
 use lib.IntN.{ℤ}
 use lib.Signed.{mag}
@@ -24,7 +24,7 @@ use Rattle.little.specs.Little.{numbers_in, signed_in}
 use Rattle.little.proofs.Little.{numbers_length}
 use Rattle.trace.specs.Trace.{starts_from, part, number_checks}
 use Rattle.trace.specs.Read.{splines_in, points_in, misplaced, described_in}
-use Rattle.trace.proofs.Checks.{fine_each, part_length, part_at}
+use Rattle.trace.proofs.Checks.{fine_each, part_length}
 use Rattle.trace_load.specs.Steps.{start_in, Loadable, Loaded}
 
 module _ {A : Type 0} where
@@ -48,32 +48,45 @@ module _ {A : Type 0} where
 pub held_length : (bytes : List ℕ) (from n : ℕ) → 4 * (from + n) ≤ length bytes → length (part from n (numbers_in bytes)) ≡ n
 held_length bytes from n h = part_length from n (numbers_in bytes) (omega (arith, numbers_length bytes))
 
--- a turn of a loop that loads: each number of a part, as what it stands for
-module _ {A : Type 0} (f : ℕ → A) (bytes : List ℕ) (from n : ℕ) (held : 4 * (from + n) ≤ length bytes) where
+-- a turn of the loop that loads, and its end
+module _ {A : Type 0} (meant : ℕ → A) (bytes : List ℕ) (old new : List A) (i : ℕ) where
   abbrev Values : List A
-  Values = map f (part from n (numbers_in bytes))
+  Values = map meant (numbers_in bytes)
 
-  pub load_more : (old new : List A) (i u : ℕ) (v : A) → i < n → n ≤ length old → u ≡ get_or (numbers_in bytes) (from + i) 0 → v ≡ f u → new ≡ take i Values ++ drop i old
+  pub turn_loaded : (u : ℕ) (v : A) → length bytes ≡ 4 * length old → i < length old → u ≡ get_or (numbers_in bytes) i 0 → v ≡ meant u → new ≡ take i Values ++ drop i old
       → set new i v ≡ take (i + 1) Values ++ drop (i + 1) old
-  load_more old new i u v h g e t is =
-      let k = held_length bytes from n held in
-      let at : get_or Values i (f 0) ≡ f u = get_or-map f (part from n (numbers_in bytes)) i 0 ∙ ap f (part_at from n (numbers_in bytes) i h ∙ sym e) in
-      front_more Values old new (f 0) v i (omega (arith, length-map (part from n (numbers_in bytes)) f)) (omega arith) (t ∙ sym at) is
+  turn_loaded u v long h e t is =
+      let at : get_or Values i (meant 0) ≡ meant u = get_or-map meant (numbers_in bytes) i 0 ∙ ap meant (sym e) in
+      front_more Values old new (meant 0) v i (omega (arith, length-map (numbers_in bytes) meant, numbers_length bytes)) h (t ∙ sym at) is
 
-  pub load_all : (old new : List A) (i : ℕ) → i ≤ n → n ≤ i → new ≡ take i Values ++ drop i old → Front Values old new
-  load_all old new i h g is =
-      front_all Values old new i (omega (arith, length-map (part from n (numbers_in bytes)) f, held_length bytes from n held)) is
+  pub end_loaded : length bytes ≡ 4 * length old → i ≤ length old → length old ≤ i → new ≡ take i Values ++ drop i old → new ≡ Values
+  end_loaded long h g is =
+      let k : length Values ≡ i = omega (arith, length-map (numbers_in bytes) meant, numbers_length bytes) in
+      let s : new ≡ Values ++ drop (length Values) old = front_all Values old new i k is in
+      let q : length old ≤ length Values = omega arith in
+      s ∙ rw (drop_of_length-le old q, append-nil)
+
+-- what is put into the cells of a slice stands in the front of the buffer
+pub front_loaded : {A : Type 0} (meant : ℕ → A) (bytes slice : List ℕ) (from n : ℕ) (old new : List A) → 4 * (from + n) ≤ length bytes
+    → numbers_in slice ≡ part from n (numbers_in bytes) → new ≡ map meant (numbers_in slice) → Front (map meant (part from n (numbers_in bytes))) old (new ++ drop n old)
+front_loaded {A} meant bytes slice from n old new held e is =
+    let k : length (map meant (part from n (numbers_in bytes))) ≡ n = length-map (part from n (numbers_in bytes)) meant ∙ held_length bytes from n held in
+    ap (λ (t : List A). t ++ drop n old) (is ∙ ap (map meant) e) ∙ ap (λ (m : ℕ). map meant (part from n (numbers_in bytes)) ++ drop m old) (sym k)
+
+pub map_same : (us : List ℕ) → map (λ (u : ℕ). u) us ≡ us
+map_same [] = refl
+map_same (u ∷ us) = ap (λ (t : List ℕ). u ∷ t) (map_same us)
 
 -- a start that was judged is in range
 pub placed_small : (u : ℕ) → misplaced u ≡ false → mag (signed_in u) < 2 ^ 23
 unfolding misplaced
 placed_small u e = leb-false (2 ^ 23) (mag (signed_in u)) e
 
-pub placed_at : (bytes : List ℕ) (from n i u : ℕ) → 4 * (from + n) ≤ length bytes → i < n → u ≡ get_or (numbers_in bytes) (from + i) 0
-    → first_fault (number_checks misplaced Coord from (part from n (numbers_in bytes))) ≡ Fine → misplaced u ≡ false
-placed_at bytes from n i u held h e fine =
+pub placed_at : (bytes slice : List ℕ) (from n i : ℕ) → 4 * (from + n) ≤ length bytes → i < n → numbers_in slice ≡ part from n (numbers_in bytes)
+    → first_fault (number_checks misplaced Coord from (part from n (numbers_in bytes))) ≡ Fine → misplaced (get_or (numbers_in slice) i 0) ≡ false
+placed_at bytes slice from n i held h e fine =
     let k = held_length bytes from n held in
-    ap misplaced (e ∙ sym (part_at from n (numbers_in bytes) i h)) ∙ fine_each misplaced Coord (part from n (numbers_in bytes)) 0 from fine i (omega arith)
+    ap (λ (us : List ℕ). misplaced (get_or us i 0)) e ∙ fine_each misplaced Coord (part from n (numbers_in bytes)) 0 from fine i (omega arith)
 
 -- ---- the whole file
 

@@ -2,13 +2,13 @@
 use mathlib.Core.Path.{◌≡◌, refl, sym, ap, ◌∙◌}
 use mathlib.Core.Bool.{Bool, true, false, ◌||◌}
 use mathlib.Core.List.{List, [], ◌∷◌}
-use Prim.Native.Nat.{ℕ, ◌*◌, ◌≤◌, ◌<◌}
+use Prim.Native.Nat.{ℕ, ◌*◌, ◌≤◌}
 use native.Mathlib.Omega.{arith}
 use lib.Dec.{ltb}
 use lib.ListN.{length, replicate, length-replicate}
 use lib.IntN.{ℤ, pos}
 use lib.Ieee.{Float}
-use borrow.Author.Tests.{lt-ltb, le-ltb, ltb-false, eqb-true, not-false}
+use borrow.Author.Tests.{ltb-false, eqb-true, not-false}
 use Rattle.codes.specs.declared.Code.{Code}
 use Rattle.codes.specs.declared.Code.TheVariants.{Short, Coord, Room, Shape, Header}
 use Rattle.shape.specs.Shape.{points_of}
@@ -22,13 +22,13 @@ use Rattle.read_list.specs.Answer.{ReadAnswer}
 use Rattle.reader.proofs.Whole.{read_all}
 use Rattle.writer.specs.Write.{Check, check, first_fault}
 use Rattle.write_judge.specs.Verdict.{Fine, Fault}
-use Rattle.write_judge.proofs.Checks.{neither, fails, passed, faults_before, fine_before, both_fine}
+use Rattle.write_judge.proofs.Checks.{neither, fails, passes, passed, faults_before, fine_before, both_fine}
 use Rattle.little.specs.Little.{numbers_in}
 use Rattle.trace.specs.Trace.{version1, starts_from, numbers_of, part, number_checks}
-use Rattle.trace.specs.Read.{splines_in, points_in, version_checks, offset_checks, length_checks, misplaced, part_checks, body_checks, read_checks, tight, whole_checks, described_in, read_trace, read_trace_of}
+use Rattle.trace.specs.Read.{splines_in, points_in, version_checks, offset_checks, length_checks, misplaced, part_checks, body_checks, read_checks, tight, whole_checks, described_in, judged, read_trace}
 use Rattle.trace_judge.proofs.Faults.{length_due}
 use Rattle.trace_load.specs.Steps.{Loadable}
-use Rattle.trace_read.specs.Steps.{rooms_from}
+use Rattle.trace_read.specs.Steps.{rooms_from, read_by}
 
 -- ---- the room
 
@@ -90,21 +90,22 @@ sound_body h bytes e =
       placed = i.0;
     }
 
--- so a file of version 1 in which none was found but for the room
-pub sound : (bytes : List ℕ) → first_fault (read_checks version1 (length bytes) (numbers_in bytes)) ≡ Fine → Sound 8 bytes
+-- so behind the header of a file of version 1 in which none was found but for the room
+pub body_fine : (bytes : List ℕ) → first_fault (read_checks version1 (length bytes) (numbers_in bytes)) ≡ Fine → first_fault (body_checks 8 (length bytes) (numbers_in bytes)) ≡ Fine
 unfolding read_checks version_checks
-sound bytes e =
+body_fine bytes e =
     let ns = numbers_in bytes in
     let n = length bytes in
     let a = passed (ltb n 32) Short n _ e in
     let b = passed _ Header 0 _ a.1 in
-    sound_body 8 bytes (both_fine (offset_checks 8 ns) (body_checks 8 n ns) b.1).1
+    (both_fine (offset_checks 8 ns) (body_checks 8 n ns) b.1).1
 
 -- with room for it, it can be loaded
-pub sound_loadable : (h : ℕ) (rooms : ListRooms) (bytes : List ℕ) → Sound h bytes → tight rooms (splines_in (numbers_in bytes)) (points_in (numbers_in bytes)) ≡ false
+pub sound_loadable : (h : ℕ) (rooms : ListRooms) (bytes : List ℕ) (u v : ℕ) → Sound h bytes → u ≡ splines_in (numbers_in bytes) → v ≡ points_in (numbers_in bytes) → tight rooms u v ≡ false
     → Loadable bytes h (splines_in (numbers_in bytes)) (points_in (numbers_in bytes)) rooms
-sound_loadable h rooms bytes k t =
+sound_loadable h rooms bytes u v k is ip f =
     let ns = numbers_in bytes in
+    let t = rw (is, ip) at f in
     let r = roomy rooms.counts rooms.starts rooms.deltas rooms.coefficients (splines_in ns) (points_in ns) t in
     record { whole = k.whole; sums = k.sums; placed = k.placed; counts = r.0; starts = r.1; deltas = r.3; coefficients = r.2 }
 
@@ -125,15 +126,6 @@ module _ (rooms : ListRooms) (bytes : List ℕ) where
     unfolding whole_checks first_fault
     whole_fine e = rw (← is, ← ip) (sym (fine_before Content (check (tight rooms s p) Room 0 ∷ []) fine ∙ rw e))
 
-  -- nothing was found: it can be loaded
-  pub loadable : first_fault (whole_checks rooms bytes) ≡ Fine → Loadable bytes 8 (splines_in (numbers_in bytes)) (points_in (numbers_in bytes)) rooms
-  unfolding whole_checks
-  loadable e =
-      let ns = numbers_in bytes in
-      let b = both_fine Content _ e in
-      let t = passed (tight rooms (splines_in ns) (points_in ns)) Room 0 [] b.1 in
-      sound_loadable 8 rooms bytes (sound bytes b.0) t.0
-
   pub judged_fine : first_fault (whole_checks rooms bytes) ≡ Fine → read_trace rooms bytes ≡ got (described_in 8 (numbers_in bytes)) []
   unfolding read_trace
   judged_fine e = rw e
@@ -148,7 +140,7 @@ left_done : (x : Described) (rooms : ListRooms) (r : ReadAnswer) (n' : List ℕ)
 left_done x rooms (Ok r) n' s' d' c' h = read_all (got x []) r.splines r.points r.adjustment n' s' d' c' rooms h
 left_done (described b zs ns ds cs) rooms (refused k p) n' s' d' c' h = let z : ◌≡◌ {A = ℕ} 0 1 = cc h.0 in absurd (omega arith)
 
-module _ (bytes n wn : List ℕ) (s ws : List Float) (d wd c wc : List ℤ) (w : Wiped n wn s ws d wd c wc) where
+module _ (n wn : List ℕ) (s ws : List Float) (d wd c wc : List ℤ) (w : Wiped n wn s ws d wd c wc) where
   -- clearing keeps the lengths
   pub same_rooms : rooms_of wn ws wd wc ≡ rooms_of n s d c
   same_rooms =
@@ -167,16 +159,47 @@ module _ (bytes n wn : List ℕ) (s ws : List Float) (d wd c wc : List ℤ) (w :
       → leaves r n' s' d' c' ≡ outcome (rooms_of n s d c) (got x [])
   wiped_done x r n' s' d' c' h = left_done x (rooms_of n s d c) r n' s' d' c' (rw (w.counts, w.starts, w.deltas, w.coefficients) at h)
 
-  pub read_refused : (k : Code) (q : ℕ) → first_fault (whole_checks (rooms_of wn ws wd wc) bytes) ≡ Fault k q
-      → leaves (refused k q) wn ws wd wc ≡ read_trace_of (rooms_of n s d c) bytes
-  unfolding read_trace_of
-  read_refused k q e = rw (judged_fault (rooms_of n s d c) bytes k q (rw same_rooms at e)) (wiped_refused k q)
+-- ---- what is left, by the checks before that of the room
 
-  pub read_done : (r : ReadAnswer) (n' : List ℕ) (s' : List Float) (d' c' : List ℤ) → first_fault (whole_checks (rooms_of wn ws wd wc) bytes) ≡ Fine
-      → ListLeft (got (described_in 8 (numbers_in bytes)) []) r wn n' ws s' wd d' wc c'
-      → leaves r n' s' d' c' ≡ read_trace_of (rooms_of n s d c) bytes
-  unfolding read_trace_of
-  read_done r n' s' d' c' e h =
-      rw (judged_fine (rooms_of n s d c) bytes (rw same_rooms at e)) (wiped_done (described_in 8 (numbers_in bytes)) r n' s' d' c' h)
+none_found : first_fault [] ≡ Fine
+unfolding first_fault
+none_found = refl
+
+module _ (h : ℕ) (checks : List Check) (rooms : ListRooms) (bytes : List ℕ) where
+  abbrev Tight : Bool
+  Tight = tight rooms (splines_in (numbers_in bytes)) (points_in (numbers_in bytes))
+
+  abbrev Last : List Check
+  Last = check Tight Room 0 ∷ []
+
+  fault_by : (k : Code) (q : ℕ) → first_fault checks ≡ Fault k q → read_by checks h rooms bytes ≡ stop k q
+  fault_by k q e = ap (judged (described_in h (numbers_in bytes))) (faults_before checks Last k q e)
+
+  module _ (fine : first_fault checks ≡ Fine) (u v : ℕ) (is : u ≡ splines_in (numbers_in bytes)) (ip : v ≡ points_in (numbers_in bytes)) where
+    room_by : tight rooms u v ≡ true → read_by checks h rooms bytes ≡ stop Room 0
+    room_by e = ap (judged (described_in h (numbers_in bytes))) (fine_before checks Last fine ∙ fails Tight Room 0 [] (rw (is, ip) at e))
+
+    all_by : tight rooms u v ≡ false → read_by checks h rooms bytes ≡ got (described_in h (numbers_in bytes)) []
+    all_by e = ap (judged (described_in h (numbers_in bytes))) (fine_before checks Last fine ∙ passes Tight Room 0 [] (rw (is, ip) at e) ∙ none_found)
+
+module _ (h : ℕ) (checks : List Check) (bytes n wn : List ℕ) (s ws : List Float) (d wd c wc : List ℤ) (w : Wiped n wn s ws d wd c wc) where
+  abbrev Lent : ListRooms
+  Lent = rooms_of n s d c
+
+  pub left_fault : (k : Code) (q : ℕ) → first_fault checks ≡ Fault k q → leaves (refused k q) wn ws wd wc ≡ outcome Lent (read_by checks h Lent bytes)
+  left_fault k q e = wiped_refused n wn s ws d wd c wc w k q ∙ sym (ap (outcome Lent) (fault_by h checks Lent bytes k q e))
+
+  module _ (fine : first_fault checks ≡ Fine) (u v : ℕ) (is : u ≡ splines_in (numbers_in bytes)) (ip : v ≡ points_in (numbers_in bytes)) where
+    pub left_room : tight (rooms_of wn ws wd wc) u v ≡ true → leaves (refused Room 0) wn ws wd wc ≡ outcome Lent (read_by checks h Lent bytes)
+    left_room e =
+        wiped_refused n wn s ws d wd c wc w Room 0
+        ∙ sym (ap (outcome Lent) (room_by h checks Lent bytes fine u v is ip (rw (same_rooms n wn s ws d wd c wc w) at e)))
+
+    pub left_all : (r : ReadAnswer) (n' : List ℕ) (s' : List Float) (d' c' : List ℤ) → tight (rooms_of wn ws wd wc) u v ≡ false
+        → ListLeft (got (described_in h (numbers_in bytes)) []) r wn n' ws s' wd d' wc c'
+        → leaves r n' s' d' c' ≡ outcome Lent (read_by checks h Lent bytes)
+    left_all r n' s' d' c' e g =
+        wiped_done n wn s ws d wd c wc w (described_in h (numbers_in bytes)) r n' s' d' c' g
+        ∙ sym (ap (outcome Lent) (all_by h checks Lent bytes fine u v is ip (rw (same_rooms n wn s ws d wd c wc w) at e)))
 
 -- Assumes nothing.

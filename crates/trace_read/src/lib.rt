@@ -2,11 +2,13 @@
 // The buffers are cleared, the bytes are judged as they stand, and only a file with no fault is loaded.
 #![tactic(auto)]
 
-ghost use Rattle.std.specs.Prelude.{◌≡◌, ◌<◌, ◌^◌, length};
-ghost use Rattle.reader.specs.Read.{leaves, rooms_of};
-ghost use Rattle.writer.specs.Write.{first_fault};
-ghost use Rattle.trace.specs.Read.{tight, whole_checks, read_trace_of};
-ghost use Rattle.trace_read.specs.Steps.{rooms_from};
+ghost use Rattle.std.specs.Prelude.{◌≡◌, List, ◌≤◌, ◌<◌, ◌^◌, length};
+ghost use Rattle.reader.specs.Read.{leaves, outcome, rooms_of};
+ghost use Rattle.writer.specs.Write.{Check, first_fault};
+ghost use Rattle.write_judge.specs.Verdict.{Fine};
+ghost use Rattle.little.specs.Little.{numbers_in};
+ghost use Rattle.trace.specs.Read.{tight, body_checks, read_trace_of};
+ghost use Rattle.trace_read.specs.Steps.{rooms_from, read_by};
 
 use codes::{Code, Refusal};
 use little::number_at;
@@ -14,38 +16,58 @@ use reader::{Read, wipe};
 use trace_judge::judge;
 use trace_load::load;
 
-// Whether buffers of these lengths lack room for s splines and p points.
-pub fn lacks_room(
-    counts: usize,
-    starts: usize,
-    deltas: usize,
-    coefficients: usize,
-    s: usize,
-    p: usize,
-) -> bool
+// How many cells each of the four buffers has.
+#[derive(Clone, Copy, Debug, PartialEq, Eq)]
+pub struct Lengths {
+    pub counts: usize,
+    pub starts: usize,
+    pub deltas: usize,
+    pub coefficients: usize,
+}
+
+// Whether they lack room for s splines and p points.
+pub fn lacks_room(lengths: Lengths, s: usize, p: usize) -> bool
     requires { (s < 2 ^ 32) × (p < 2 ^ 32) }
-    ensures { result ≡ tight (rooms_from counts starts deltas coefficients) s p }
+    ensures { result ≡ tight (rooms_from lengths.counts lengths.starts lengths.deltas lengths.coefficients) s p }
 {
+    let Lengths {
+        counts,
+        starts,
+        deltas,
+        coefficients,
+    } = lengths;
     counts < s || starts < 2 * s || coefficients < 128 * s || deltas < 2 * p
 }
 
-// The first fault of a file, with buffers of these lengths.
-fn judge_whole(
+// Reads a file behind a header of h numbers, of which `found` is what the checks found, but for that of the room.
+// The buffers stay a parameter each: a call that is lent one out of a struct holds all of the struct.
+pub fn read_judged(
     bytes: &[u8],
-    counts: usize,
-    starts: usize,
-    deltas: usize,
-    coefficients: usize,
-) -> Result<(), Refusal>
-    ensures { result ≡ first_fault (whole_checks (rooms_from counts starts deltas coefficients) bytes.now) }
+    h: usize,
+    found: Result<(), Refusal>,
+    counts: &mut [u32],
+    starts: &mut [f32],
+    deltas: &mut [i32],
+    coefficients: &mut [i32],
+) -> Result<Read, Refusal>
+    requires { (8 ≤ h) × (found ≡ Fine → first_fault (body_checks h (length bytes.now) (numbers_in bytes.now)) ≡ Fine) }
+    ensures { (checks : List Check) → found ≡ first_fault checks → leaves result counts.new starts.new deltas.new coefficients.new
+        ≡ outcome (rooms_of counts.old starts.old deltas.old coefficients.old) (read_by checks h (rooms_of counts.old starts.old deltas.old coefficients.old) bytes.now) }
 {
-    judge(bytes)?;
+    wipe(counts, starts, deltas, coefficients);
+    found?;
     let s = number_at(bytes, 1) as usize;
     let p = number_at(bytes, 2) as usize;
-    if lacks_room(counts, starts, deltas, coefficients, s, p) {
+    let lengths = Lengths {
+        counts: counts.len(),
+        starts: starts.len(),
+        deltas: deltas.len(),
+        coefficients: coefficients.len(),
+    };
+    if lacks_room(lengths, s, p) {
         return Err((Code::Room, 0));
     }
-    Ok(())
+    Ok(load(bytes, h, counts, starts, deltas, coefficients))
 }
 
 pub fn trace_read(
@@ -58,13 +80,6 @@ pub fn trace_read(
     ensures { leaves result counts.new starts.new deltas.new coefficients.new
         ≡ read_trace_of (rooms_of counts.old starts.old deltas.old coefficients.old) bytes.now }
 {
-    wipe(counts, starts, deltas, coefficients);
-    judge_whole(
-        bytes,
-        counts.len(),
-        starts.len(),
-        deltas.len(),
-        coefficients.len(),
-    )?;
-    Ok(load(bytes, counts, starts, deltas, coefficients))
+    let found = judge(bytes);
+    read_judged(bytes, 8, found, counts, starts, deltas, coefficients)
 }

@@ -1,28 +1,23 @@
--- `read_second` meets its contract: the buffers are zero before the file is judged, and a file with no fault is loaded.
-use mathlib.Core.Path.{refl, sym}
-use Rattle.std.specs.Prelude.{Ok, Err}
-use Rattle.codes.proofs.Refusals.{passed_on}
-use Rattle.reader.specs.Read.{rooms_of}
-use Rattle.trace2_read.proofs.Seconds.{loadable, read_refused, read_done}
+-- `read_second` meets its contract: a file that is judged by the checks of version 2 is read behind nine numbers.
+use mathlib.Core.Path.{sym, ap, ◌∙◌}
+use native.Mathlib.Omega.{arith}
+use lib.ListN.{length, get_or}
+use Rattle.reader.specs.Read.{rooms_of, outcome}
+use Rattle.little.specs.Little.{numbers_in}
+use Rattle.trace2.specs.Read.{laid_checks}
+use Rattle.trace2_judge.proofs.Laid.{laid_sound}
+use Rattle.trace2_read.proofs.Seconds.{read_alike}
 use Rattle.trace2_read.proofs.read_second.Goals as goal
 
-pub load-requires : goal.load-requires
-load-requires c =
-    let w = c.wipe in
-    loadable (rooms_of w.new.counts w.new.starts w.new.deltas w.new.coefficients) c.args.bytes.now c.requires (sym c.in_ok-judge_whole.ensures)
-
-pub returns-in_err-judge_whole : goal.returns-in_err-judge_whole
-returns-in_err-judge_whole c =
-    let w = c.wipe in
-    let a = c.args in
-    let e = c.in_err-judge_whole.field-0.0 in
-    rw (passed_on c.from_residual.result e (Err e) c.from_residual.ensures.1 refl)
-    (read_refused a.bytes.now a.counts.now w.new.counts a.starts.now w.new.starts a.deltas.now w.new.deltas a.coefficients.now w.new.coefficients w.ensures c.requires e.0 e.1 (sym c.in_err-judge_whole.ensures))
+pub read_judged-requires : goal.read_judged-requires
+read_judged-requires c =
+    let b = c.args.bytes.now in
+    (omega arith, λ e. laid_sound (get_or (numbers_in b) 8 0) (length b) (numbers_in b) (sym c.judge_second-found.ensures ∙ e))
 
 pub returns : goal.returns
 returns c =
-    let w = c.wipe in
     let a = c.args in
-    let g = c.load in
-    read_done a.bytes.now a.counts.now w.new.counts a.starts.now w.new.starts a.deltas.now w.new.deltas a.coefficients.now w.new.coefficients w.ensures c.requires (Ok g.result) g.new.counts g.new.starts g.new.deltas g.new.coefficients
-    (sym c.in_ok-judge_whole.ensures) g.ensures
+    let b = a.bytes.now in
+    let rooms = rooms_of a.counts.now a.starts.now a.deltas.now a.coefficients.now in
+    c.read_judged.ensures (laid_checks 9 (get_or (numbers_in b) 8 0) (length b) (numbers_in b)) c.judge_second-found.ensures
+    ∙ ap (outcome rooms) (read_alike rooms b c.requires)

@@ -1,28 +1,16 @@
--- `trace_read` meets its contract: the buffers are zero before the file is judged, and a file with no fault is loaded.
-use mathlib.Core.Path.{refl, sym}
-use Rattle.std.specs.Prelude.{Ok, Err}
-use Rattle.codes.proofs.Refusals.{passed_on}
-use Rattle.reader.specs.Read.{rooms_of}
-use Rattle.trace_read.proofs.Loads.{loadable, read_refused, read_done}
+-- `trace_read` meets its contract: a file that is judged by the checks of version 1 is read behind eight numbers.
+use mathlib.Core.Path.{sym, ◌∙◌}
+use native.Mathlib.Omega.{arith}
+use lib.ListN.{length}
+use Rattle.little.specs.Little.{numbers_in}
+use Rattle.trace.specs.Trace.{version1}
+use Rattle.trace.specs.Read.{read_checks, whole_checks, read_trace, read_trace_of}
+use Rattle.trace_read.proofs.Loads.{body_fine}
 use Rattle.trace_read.proofs.trace_read.Goals as goal
 
-pub load-requires : goal.load-requires
-load-requires c =
-    let w = c.wipe in
-    loadable (rooms_of w.new.counts w.new.starts w.new.deltas w.new.coefficients) c.args.bytes.now (sym c.in_ok-judge_whole.ensures)
-
-pub returns-in_err-judge_whole : goal.returns-in_err-judge_whole
-returns-in_err-judge_whole c =
-    let w = c.wipe in
-    let a = c.args in
-    let e = c.in_err-judge_whole.field-0.0 in
-    rw (passed_on c.from_residual.result e (Err e) c.from_residual.ensures.1 refl)
-    (read_refused a.bytes.now a.counts.now w.new.counts a.starts.now w.new.starts a.deltas.now w.new.deltas a.coefficients.now w.new.coefficients w.ensures e.0 e.1 (sym c.in_err-judge_whole.ensures))
+pub read_judged-requires : goal.read_judged-requires
+read_judged-requires c = (omega arith, λ e. body_fine c.args.bytes.now (sym c.judge-found.ensures ∙ e))
 
 pub returns : goal.returns
-returns c =
-    let w = c.wipe in
-    let a = c.args in
-    let g = c.load in
-    read_done a.bytes.now a.counts.now w.new.counts a.starts.now w.new.starts a.deltas.now w.new.deltas a.coefficients.now w.new.coefficients w.ensures (Ok g.result) g.new.counts g.new.starts g.new.deltas g.new.coefficients
-    (sym c.in_ok-judge_whole.ensures) g.ensures
+unfolding read_trace_of read_trace whole_checks
+returns c = c.read_judged.ensures (read_checks version1 (length c.args.bytes.now) (numbers_in c.args.bytes.now)) c.judge-found.ensures
