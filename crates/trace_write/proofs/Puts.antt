@@ -12,6 +12,7 @@ use borrow.Author.Tests.{lt-ltb, le-ltb}
 use Rattle.codes.specs.declared.Code.{Code}
 use Rattle.codes.specs.declared.Code.TheVariants.{Coord, Room, Shape}
 use Rattle.shape.specs.Shape.{points_of}
+use Rattle.shape.specs.Description.{Description}
 use Rattle.list.specs.List.{described}
 use Rattle.writer.specs.Write.{Check, check, first_fault, misshapen, whole_of, WriteOutcome, leaves, outcome}
 use Rattle.write_judge.specs.Verdict.{Fine, Fault}
@@ -19,11 +20,12 @@ use Rattle.write_judge.proofs.Checks.{fails, passes, passed, faults_before, fine
 use Rattle.write_steps.proofs.Stores.{zeros_after}
 use Rattle.little.specs.Little.{bytes_of, unsigned_of}
 use Rattle.little.proofs.Little.{bytes_length}
-use Rattle.trace.specs.Trace.{Layout, version1, header_of, file_of, starts_from, coefficients_from, numbers_of, number_checks}
-use Rattle.trace.specs.Write.{misfit, header_checks, value_checks, write_checks, write_trace_of}
+use Rattle.trace.specs.Trace.{Layout, header_of, file_of, starts_from, coefficients_from, numbers_of, number_checks}
+use Rattle.trace.specs.Write.{misfit, header_checks, value_checks, write_checks}
 use Rattle.trace_fit.proofs.Fits.{header_held}
 use Rattle.trace_put.specs.Steps.{start_number, part_numbers}
 use Rattle.trace_put.proofs.Puts.{put_behind}
+use Rattle.trace_write.specs.Steps.{layout_with, written_by}
 use Rattle.writer.specs.WriteAnswer.{Done, Refused}
 
 -- ---- the whole file
@@ -121,30 +123,33 @@ module _ (content : List Check) (file : List ℕ) (due room : ℕ) where
         let w : l' ≡ file ++ replicate (room - length file) 0 = is ∙ ap (λ (o : List ℕ). sets o 0 file) z ∙ zeros_after room file (omega arith) in
         rw (fine_before content (check (ltb room due) Room 0 ∷ []) fine, t, ← size, w)
 
--- version 1
-module _ (ns : List ℕ) (ss : List Float) (ds cs : List ℤ) (a : ℤ) (room : ℕ) where
+-- how long a header is that has more numbers behind its first eight
+pub long_with : (version : ℕ) (more : List ℕ) (s p : ℕ) (a : ℤ) → 8 + length more ≡ length (header_of (layout_with version more) more s p a)
+long_with version more s p a = omega arith
+
+-- what is left for a description, by the checks before that of the room
+module _ (version : ℕ) (more : List ℕ) (d : Description) (a : ℤ) (checks : List Check) (room : ℕ) where
+  abbrev Long : ℕ
+  Long = 8 + length more
+
   abbrev Due : ℕ
-  Due = 4 * numbers_of 8 (length ns) (points_of ns)
+  Due = 4 * numbers_of Long (length d.counts) (points_of d.counts)
 
   abbrev Written : List ℕ
-  Written = file_of version1 [] (described a (map whole_of ss) ns ds cs)
+  Written = file_of (layout_with version more) more (described a (map whole_of d.starts) d.counts d.deltas d.coefficients)
 
-  pub answer_fault : (c : Code) (p : ℕ) (l : List ℕ) → l ≡ replicate room 0 → first_fault (write_checks 8 ns ss ds cs) ≡ Fault c p
-      → leaves (Refused c p) l ≡ write_trace_of ns ss ds cs a room
-  unfolding write_trace_of
-  answer_fault = left_fault (write_checks 8 ns ss ds cs) Written Due room
+  pub answer_fault : (c : Code) (p : ℕ) (l : List ℕ) → l ≡ replicate room 0 → first_fault checks ≡ Fault c p → leaves (Refused c p) l ≡ written_by checks version more d a room
+  answer_fault = left_fault checks Written Due room
 
-  module _ (fine : first_fault (write_checks 8 ns ss ds cs) ≡ Fine) where
-    pub answer_room : (l : List ℕ) → l ≡ replicate room 0 → length l < 4 * (8 + (131 * length ns + 2 * (length ds / 2)))
-        → leaves (Refused Room 0) l ≡ write_trace_of ns ss ds cs a room
-    unfolding write_trace_of
-    answer_room l z h = left_room (write_checks 8 ns ss ds cs) Written Due room fine l z (omega (arith, size_is 8 ns ss ds cs (judged 8 ns ss ds cs fine)))
+  module _ (fine : first_fault checks ≡ Fine) (j : Judged Long d.counts d.starts d.deltas d.coefficients) where
+    pub answer_room : (l : List ℕ) → l ≡ replicate room 0 → length l < 4 * (Long + (131 * length d.counts + 2 * (length d.deltas / 2)))
+        → leaves (Refused Room 0) l ≡ written_by checks version more d a room
+    answer_room l z h = left_room checks Written Due room fine l z (omega (arith, size_is Long d.counts d.starts d.deltas d.coefficients j))
 
-    pub answer_done : (l l' : List ℕ) (n : ℕ) → l ≡ replicate room 0 → n ≡ 4 * (8 + (131 * length ns + 2 * (length ds / 2))) → n ≤ length l → l' ≡ sets l 0 Written
-        → leaves (Done n) l' ≡ write_trace_of ns ss ds cs a room
-    unfolding write_trace_of
+    pub answer_done : (l l' : List ℕ) (n : ℕ) → l ≡ replicate room 0 → n ≡ 4 * (Long + (131 * length d.counts + 2 * (length d.deltas / 2))) → n ≤ length l → l' ≡ sets l 0 Written
+        → leaves (Done n) l' ≡ written_by checks version more d a room
     answer_done l l' n z e h is =
-        let j = judged 8 ns ss ds cs fine in
-        left_done (write_checks 8 ns ss ds cs) Written Due room fine l l' n z (e ∙ size_is 8 ns ss ds cs j) (file_size_lem version1 [] ns ss ds cs a refl j.pairs j.points j.rows) h is
+        left_done checks Written Due room fine l l' n z (e ∙ size_is Long d.counts d.starts d.deltas d.coefficients j)
+        (file_size_lem (layout_with version more) more d.counts d.starts d.deltas d.coefficients a (long_with version more (length d.counts) (points_of d.counts) a) j.pairs j.points j.rows) h is
 
 -- Assumes nothing.

@@ -1,1 +1,2 @@
 -- The definitions of the crate `trace_write`.
+pub mod Steps

@@ -1,107 +1,17 @@
--- `trace_write` meets its contract: the bytes are cleared, the description judged, and its file put where nothing was found.
-use mathlib.Core.Path.{refl, sym, ap, ◌∙◌}
-use Rattle.std.specs.Prelude.{Err}
-use Rattle.codes.proofs.Refusals.{passed_on}
-use Rattle.writer.specs.Write.{leaves}
-use Rattle.writer.specs.WriteAnswer.{WriteAnswer}
-use native.Mathlib.Omega.{arith}
-use lib.ListN.{length}
-use mathlib.Core.List.{[]}
-use Rattle.trace.specs.Trace.{version1}
+-- `trace_write` meets its contract: a description that is judged by the checks of version 1 is written behind eight numbers.
+use mathlib.Core.Path.{sym, ◌∙◌}
 use mir.Syntax.{w32}
 use mir.Facts.{to_z-of_z}
-use Rattle.trace_write.proofs.Puts.{file_put, judged, size_is, half_is, answer_fault, answer_room, answer_done}
+use native.Mathlib.Omega.{arith}
+use Rattle.shape.specs.Description.{description_in}
+use Rattle.trace.specs.Write.{checks_in, write_trace_of}
 use Rattle.trace_write.proofs.trace_write.Goals as goal
 
-pub overflow_mul-size : goal.overflow_mul-size
-overflow_mul-size c =
-    let a = c.args in
-    let d = a.description.now in
-    let j = judged 8 d.counts.now d.starts.now d.deltas.now d.coefficients.now (sym c.judge.ensures ∙ c.in_ok-judge.was) in
-    record { fits = omega (arith, j.few, j.fewer, j.points) }
-
-pub overflow_add-size : goal.overflow_add-size
-overflow_add-size c =
-    let a = c.args in
-    let d = a.description.now in
-    let j = judged 8 d.counts.now d.starts.now d.deltas.now d.coefficients.now (sym c.judge.ensures ∙ c.in_ok-judge.was) in
-    record { fits = omega (arith, j.few, j.fewer, j.points) }
-
-pub overflow_add-size-2 : goal.overflow_add-size-2
-overflow_add-size-2 c =
-    let a = c.args in
-    let d = a.description.now in
-    let j = judged 8 d.counts.now d.starts.now d.deltas.now d.coefficients.now (sym c.judge.ensures ∙ c.in_ok-judge.was) in
-    record { fits = omega (arith, j.few, j.fewer, j.points) }
-
-pub overflow_mul-size-3 : goal.overflow_mul-size-3
-overflow_mul-size-3 c =
-    let a = c.args in
-    let d = a.description.now in
-    let j = judged 8 d.counts.now d.starts.now d.deltas.now d.coefficients.now (sym c.judge.ensures ∙ c.in_ok-judge.was) in
-    record { fits = omega (arith, j.few, j.fewer, j.points) }
-
-pub returns-then-bytes-size : goal.returns-then-bytes-size
-returns-then-bytes-size c =
-    let a = c.args in
-    let d = a.description.now in
-    answer_room d.counts.now d.starts.now d.deltas.now d.coefficients.now a.adjustment (length a.bytes.now) (sym c.judge.ensures ∙ c.in_ok-judge.was) c.clear.new.cells c.clear.ensures c.if-bytes-size.true
-
-pub overflow_cast-s : goal.overflow_cast-s
-overflow_cast-s c =
-    let a = c.args in
-    let d = a.description.now in
-    let j = judged 8 d.counts.now d.starts.now d.deltas.now d.coefficients.now (sym c.judge.ensures ∙ c.in_ok-judge.was) in
-    record { fits = omega (arith, j.few, j.fewer, j.points) }
-
-pub overflow_cast-p : goal.overflow_cast-p
-overflow_cast-p c =
-    let a = c.args in
-    let d = a.description.now in
-    let j = judged 8 d.counts.now d.starts.now d.deltas.now d.coefficients.now (sym c.judge.ensures ∙ c.in_ok-judge.was) in
-    record { fits = omega (arith, j.few, j.fewer, j.points) }
-
-pub put_header-requires : goal.put_header-requires
-put_header-requires c =
-    let a = c.args in
-    let d = a.description.now in
-    let j = judged 8 d.counts.now d.starts.now d.deltas.now d.coefficients.now (sym c.judge.ensures ∙ c.in_ok-judge.was) in
-    let left = c.if-bytes-size.false in
-    (omega (arith, left), omega (arith, j.offsets, half_is 8 d.counts.now d.starts.now d.deltas.now d.coefficients.now j))
-
-pub put_parts-requires : goal.put_parts-requires
-put_parts-requires c =
-    let a = c.args in
-    let d = a.description.now in
-    let j = judged 8 d.counts.now d.starts.now d.deltas.now d.coefficients.now (sym c.judge.ensures ∙ c.in_ok-judge.was) in
-    let room = c.if-bytes-size.false in
-    record {
-      short = omega arith;
-      few = j.few;
-      fewer = j.fewer;
-      offsets = j.offsets;
-      pairs = j.pairs;
-      points = j.points;
-      rows = j.rows;
-      fit = j.fit;
-      held = omega (arith, room, size_is 8 d.counts.now d.starts.now d.deltas.now d.coefficients.now j, c.put_header.auto.bytes);
-    }
-
-pub returns-in_err-judge : goal.returns-in_err-judge
-returns-in_err-judge c =
-    let a = c.args in
-    let d = a.description.now in
-    let r = c.in_err-judge.field-0.0 in
-    ap (λ (o : WriteAnswer). leaves o c.clear.new.cells) (passed_on _ _ (Err r) c.from_residual.ensures.1 refl)
-    ∙ answer_fault d.counts.now d.starts.now d.deltas.now d.coefficients.now a.adjustment (length a.bytes.now) r.0 r.1 c.clear.new.cells c.clear.ensures (sym c.judge.ensures ∙ c.in_err-judge.was)
+pub write_judged-requires : goal.write_judged-requires
+write_judged-requires c = (omega arith, λ e. sym c.judge-found.ensures ∙ e)
 
 pub returns : goal.returns
+unfolding write_trace_of
 returns c =
-    let a = c.args in
-    let d = a.description.now in
-    let j = judged 8 d.counts.now d.starts.now d.deltas.now d.coefficients.now (sym c.judge.ensures ∙ c.in_ok-judge.was) in
-    let h = c.put_header in
-    let z = to_z-of_z {w = w32} {z = a.adjustment} c.ranges.adjustment in
-    let put = file_put version1 [] d.counts.now d.starts.now d.deltas.now d.coefficients.now a.adjustment refl c.clear.new.cells h.new.bytes c.put_parts.new.bytes
-    (rw (half_is 8 d.counts.now d.starts.now d.deltas.now d.coefficients.now j, z) at h.ensures) c.put_parts.ensures in
-    answer_done d.counts.now d.starts.now d.deltas.now d.coefficients.now a.adjustment (length a.bytes.now) (sym c.judge.ensures ∙ c.in_ok-judge.was) c.clear.new.cells _ _ c.clear.ensures refl c.if-bytes-size.false put
+    let z = to_z-of_z {w = w32} {z = c.args.adjustment} c.ranges.adjustment in
+    rw z at (c.write_judged.ensures (checks_in 8 (description_in c.args.description.now)) c.judge-found.ensures)
