@@ -55,7 +55,7 @@ fn judge_starts(starts: &[f32], from: usize) -> Result<(), Refusal>
     Ok(())
 }
 
-// Its loop is that of the starts: a trait for the two tests and codes would be longer than both.
+// Its loop is that of the starts. One over both would be generic over the number, with a test that is lent and a law that ties it to `misfit` or `wild`: it would be as long as the two.
 fn judge_deltas(deltas: &[i32], from: usize) -> Result<(), Refusal>
     requires { from + length deltas.now < 2 ^ 60 }
     ensures { result ≡ first_fault (number_checks wild Code.Delta from deltas.now) }

@@ -16,7 +16,7 @@ ghost use Rattle.trace_put.specs.Steps.{start_number, parts_in, Puttable};
 use little::{put_number, unsigned};
 use shape::Description;
 
-// ---- a part of the file: three loops, since one over all would need a trait that says what each asks of its numbers
+// ---- a part of the file: three loops, each a line; one over all would be generic over the number, with a conversion that is lent, and the three functions, which others call, would stay as its callers
 
 // Numbers as they are.
 pub fn put_numbers(numbers: &[u32], bytes: &mut [u8], from: usize)
