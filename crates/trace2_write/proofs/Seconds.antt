@@ -1,32 +1,29 @@
--- Laws of writing a file of version 2: the checks one after the other, and the answers.
-use mathlib.Core.Path.{◌≡◌, refl, sym, subst, ◌∙◌}
+-- Laws of writing a file of version 2: the checks one after the other, and what is left.
+use mathlib.Core.Path.{◌≡◌, refl, sym, ap, subst, ◌∙◌}
 use mathlib.Core.Bool.{Bool, true, false, ◌&&◌}
 use mathlib.Core.Logic.{◌⊎◌, inl, inr}
 use mathlib.Core.List.{List, [], ◌∷◌, ◌++◌, map}
-use Prim.Native.Nat.{ℕ, ◌+◌, ◌*◌, ◌/◌, ◌≤◌, ◌<◌}
-use native.Mathlib.Omega.{arith}
-use lib.Dec.{T, eqb}
-use lib.ListN.{length, replicate}
-use lib.Seq.{sets}
+use Prim.Native.Nat.{ℕ, ◌*◌}
+use lib.Dec.{T, eqb, ltb}
+use lib.ListN.{length}
 use lib.IntN.{ℤ}
 use lib.Ieee.{Float}
 use borrow.Author.Tests.{eq-eqb, ne_eqb, eqb-true}
-use Rattle.codes.specs.declared.Code.{Code}
 use Rattle.codes.specs.declared.Code.TheVariants.{Room, Shape, Header, Edition}
-use Rattle.shape.specs.Shape.{points_of, shaped}
+use Rattle.shape.specs.Shape.{points_of}
+use Rattle.shape.specs.Description.{Description, shaped_of}
 use Rattle.list.specs.List.{described}
-use Rattle.writer.specs.Write.{Check, first_fault, misshapen, whole_of, leaves}
-use Rattle.write_judge.specs.Verdict.{Fine, Fault}
-use Rattle.write_judge.proofs.Checks.{fails, passes, passed}
-use Rattle.trace.specs.Trace.{numbers_of, file_of}
-use Rattle.trace.specs.Write.{header_checks, value_checks, write_checks, write_trace_of}
-use Rattle.trace_write.proofs.Puts.{Judged, judged, size_is, file_size_lem, left_fault, left_room, left_done}
-use Rattle.trace2.specs.Editions.{unknown, version2, header_long}
+use Rattle.writer.specs.Write.{Check, check, first_fault, misshapen, whole_of, WriteOutcome, outcome}
+use Rattle.write_judge.specs.Verdict.{Verdict, Fine, Fault}
+use Rattle.write_judge.proofs.Checks.{fails, passes, passed, faults_before}
+use Rattle.trace.specs.Trace.{Layout, numbers_of, file_of}
+use Rattle.trace.specs.Write.{header_checks, value_checks, write_checks, checks_in, write_trace_in}
+use Rattle.trace_write.specs.Steps.{layout_with, written_by}
+use Rattle.trace2.specs.Editions.{unknown, layout_of, more_of, header_long}
 use Rattle.trace2.specs.Write.{barred, write_checks2, write_file_of}
 use Rattle.trace2.proofs.Editions.{known_is, free_first, nine}
 use Rattle.trace2.proofs.Versions.{write_as_before}
-use Rattle.trace2_write.specs.Steps.{plain}
-use Rattle.writer.specs.WriteAnswer.{Done, Refused}
+use Rattle.trace2_write.specs.Steps.{plain, file_checks_in, write_file_in}
 
 -- ---- version 1 with edition 1
 
@@ -51,20 +48,20 @@ pub is_plain : (v e : ℕ) → v ≡ 1 → e ≡ 1 → plain v e ≡ true
 is_plain v e h g = sym (plain_one v e h) ∙ eq-eqb e 1 g
 
 -- what `trace_write` leaves
-pub plain_written : (ns : List ℕ) (ss : List Float) (ds cs : List ℤ) (a : ℤ) (v e room : ℕ) → plain v e ≡ true → write_trace_of ns ss ds cs a room ≡ write_file_of ns ss ds cs a v e room
-plain_written ns ss ds cs a v e room h = let k = plain_is v e h in rw (k.0, k.1) (sym (write_as_before ns ss ds cs a room))
+pub plain_written : (d : Description) (a : ℤ) (v e room : ℕ) → plain v e ≡ true → write_trace_in d a room ≡ write_file_in d a v e room
+plain_written d a v e room h = let k = plain_is v e h in rw (k.0, k.1) (sym (write_as_before d.counts d.starts d.deltas d.coefficients a room))
 
 -- ---- the checks one after the other
 
-module _ (v e : ℕ) (ns : List ℕ) (ss : List Float) (ds cs : List ℤ) where
+module _ (v e : ℕ) (d : Description) where
   abbrev Checks : List Check
-  Checks = write_checks2 v e ns ss ds cs
+  Checks = file_checks_in v e d
 
-  pub file_shape : shaped ns ss ds cs ≡ false → Fault Shape 0 ≡ first_fault Checks
+  pub file_shape : shaped_of d ≡ false → Fault Shape 0 ≡ first_fault Checks
   unfolding write_checks2 misshapen
   file_shape h = sym (fails _ Shape 0 _ (rw h))
 
-  module _ (good : shaped ns ss ds cs ≡ true) where
+  module _ (good : shaped_of d ≡ true) where
     pub file_edition : barred v e ≡ true → Fault Edition 32 ≡ first_fault Checks
     unfolding write_checks2 misshapen
     file_edition h = sym (passes _ Shape 0 _ (rw good) ∙ fails _ Edition 32 _ h)
@@ -74,12 +71,13 @@ module _ (v e : ℕ) (ns : List ℕ) (ss : List Float) (ds cs : List ℤ) where
       unfolding write_checks2 misshapen
       file_version h = sym (passes _ Shape 0 _ (rw good) ∙ passes _ Edition 32 _ free ∙ fails _ Header 0 _ h)
 
-      pub file_rest : unknown v ≡ false → (h : ℕ) → h ≡ header_long v → first_fault (write_checks h ns ss ds cs) ≡ first_fault Checks
+      pub file_rest : unknown v ≡ false → (h : ℕ) → h ≡ header_long v → first_fault (checks_in h d) ≡ first_fault Checks
       unfolding write_checks2 write_checks misshapen
       file_rest known h is = rw is (passes _ Shape 0 _ (rw good) ∙ sym (passes _ Shape 0 _ (rw good) ∙ passes _ Edition 32 _ free ∙ passes _ Header 0 _ known))
 
+module _ (v e : ℕ) (ns : List ℕ) (ss : List Float) (ds cs : List ℤ) where
   -- nothing was found: the version is 1 with edition 1, or 2
-  pub found_none : first_fault Checks ≡ Fine → (unknown v ≡ false) × (barred v e ≡ false) × (first_fault (write_checks (header_long v) ns ss ds cs) ≡ Fine)
+  pub found_none : first_fault (write_checks2 v e ns ss ds cs) ≡ Fine → (unknown v ≡ false) × (barred v e ≡ false) × (first_fault (write_checks (header_long v) ns ss ds cs) ≡ Fine)
   unfolding write_checks2 write_checks
   found_none f =
       let a = passed _ Shape 0 _ f in
@@ -87,7 +85,7 @@ module _ (v e : ℕ) (ns : List ℕ) (ss : List Float) (ds cs : List ℤ) where
       let d = passed _ Header 0 _ b.1 in
       (d.0, b.0, passes (misshapen ns ss ds cs) Shape 0 (header_checks (header_long v) (length ns) (points_of ns) ++ value_checks (header_long v) (length ns) ss ds) a.0 ∙ d.1)
 
-  module _ (other : plain v e ≡ false) (fine : first_fault Checks ≡ Fine) where
+  module _ (other : plain v e ≡ false) (fine : first_fault (write_checks2 v e ns ss ds cs) ≡ Fine) where
     pub is_second : v ≡ 2
     is_second = go (known_is v (found_none fine).0)
       where
@@ -95,37 +93,30 @@ module _ (v e : ℕ) (ns : List ℕ) (ss : List Float) (ds cs : List ℤ) where
         go (inr h) = h
         go (inl h) = absurd (subst T (sym (is_plain v e h (free_first v e (found_none fine).1 h)) ∙ other) tt)
 
-    pub judged_second : Judged 9 ns ss ds cs
-    judged_second = judged 9 ns ss ds cs (rw (nine v is_second) at (found_none fine).2)
+    pub checked_second : first_fault (write_checks 9 ns ss ds cs) ≡ Fine
+    checked_second = rw (nine v is_second) at (found_none fine).2
 
--- ---- the answers
+-- ---- what is left: a refusal is the same in every version, and what is not refused is of version 2
 
-module _ (ns : List ℕ) (ss : List Float) (ds cs : List ℤ) (a : ℤ) (v e room : ℕ) where
-  abbrev Written : List ℕ
-  Written = file_of version2 (e ∷ []) (described a (map whole_of ss) ns ds cs)
+module _ (d : Description) (a : ℤ) (v e room : ℕ) (other : plain v e ≡ false) where
+  abbrev Left : WriteOutcome
+  Left = written_by (file_checks_in v e d) 2 (e ∷ []) d a room
 
-  pub answer_fault : (c : Code) (p : ℕ) (l : List ℕ) → l ≡ replicate room 0 → first_fault (write_checks2 v e ns ss ds cs) ≡ Fault c p
-      → leaves (Refused c p) l ≡ write_file_of ns ss ds cs a v e room
+  -- the check of the room, and the file
+  abbrev Last : ℕ → List Check
+  Last h = check (ltb room (4 * numbers_of h (length d.counts) (points_of d.counts))) Room 0 ∷ []
+
+  abbrev Written : Layout → List ℕ → List ℕ
+  Written l more = file_of l more (described a (map whole_of d.starts) d.counts d.deltas d.coefficients)
+
+  pub left_alike : Left ≡ write_file_in d a v e room
   unfolding write_file_of
-  answer_fault = left_fault (write_checks2 v e ns ss ds cs) _ _ room
-
-  module _ (other : plain v e ≡ false) (fine : first_fault (write_checks2 v e ns ss ds cs) ≡ Fine) where
-    pub answer_room : (l : List ℕ) → l ≡ replicate room 0 → length l < 4 * (9 + (131 * length ns + 2 * (length ds / 2)))
-        → leaves (Refused Room 0) l ≡ write_file_of ns ss ds cs a v e room
-    unfolding write_file_of
-    answer_room l z h =
-        let j = judged_second v e ns ss ds cs other fine in
-        let k = nine v (is_second v e ns ss ds cs other fine) in
-        left_room (write_checks2 v e ns ss ds cs) _ (4 * numbers_of (header_long v) (length ns) (points_of ns)) room fine l z (omega (arith, k, size_is 9 ns ss ds cs j))
-
-    pub answer_done : (l l' : List ℕ) (n : ℕ) → l ≡ replicate room 0 → n ≡ 4 * (9 + (131 * length ns + 2 * (length ds / 2))) → n ≤ length l → l' ≡ sets l 0 Written
-        → leaves (Done n) l' ≡ write_file_of ns ss ds cs a v e room
-    unfolding write_file_of
-    answer_done l l' n z i h is =
-        let j = judged_second v e ns ss ds cs other fine in
-        let two = is_second v e ns ss ds cs other fine in
-        rw two
-        (left_done (write_checks2 2 e ns ss ds cs) Written (4 * numbers_of 9 (length ns) (points_of ns)) room (rw two at fine) l l' n z (i ∙ size_is 9 ns ss ds cs j)
-        (file_size_lem version2 (e ∷ []) ns ss ds cs a refl j.pairs j.points j.rows) h is)
+  left_alike = go (first_fault (file_checks_in v e d)) refl
+    where
+      go : (f : Verdict) → first_fault (file_checks_in v e d) ≡ f → Left ≡ write_file_in d a v e room
+      go Fine f = rw (is_second v e d.counts d.starts d.deltas d.coefficients other f)
+      go (Fault c p) f =
+          ap (outcome room (Written (layout_with 2 (e ∷ [])) (e ∷ []))) (faults_before (file_checks_in v e d) (Last 9) c p f)
+          ∙ sym (ap (outcome room (Written (layout_of v) (more_of v e))) (faults_before (file_checks_in v e d) (Last (header_long v)) c p f))
 
 -- Assumes nothing.

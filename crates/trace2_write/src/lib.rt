@@ -2,22 +2,17 @@
 // Version 1 with edition 1 is left to `trace_write`; the steps here are those of a header of nine numbers, the ninth of which is the edition.
 #![tactic(auto)]
 
-ghost use Rattle.std.specs.Prelude.{◌≡◌, Bool, [], ◌∷◌, ◌+◌, ◌*◌, ◌≤◌, ◌<◌, ◌^◌, length};
-ghost use Rattle.std.proofs.lemmas.List.Edits.{sets};
+ghost use Rattle.std.specs.Prelude.{◌≡◌, Bool, ◌<◌, length};
 ghost use Rattle.shape.specs.Description.{description_in};
 ghost use Rattle.writer.specs.Write.{first_fault, leaves};
-ghost use Rattle.little.specs.Little.{bytes_of};
-ghost use Rattle.trace.specs.Trace.{header_of};
-ghost use Rattle.trace2.specs.Editions.{version2, header_long};
+ghost use Rattle.trace2.specs.Editions.{header_long};
 ghost use Rattle.trace2.specs.Write.{barred};
 ghost use Rattle.trace2_write.specs.Steps.{plain, file_checks_in, write_file_in};
 
-use buffers::clear;
 use codes::{Code, Refusal};
 use shape::{Description, is_shaped};
 use trace_fit::judge;
-use trace_put::{put_header, put_numbers, put_parts};
-use trace_write::trace_write;
+use trace_write::{trace_write, write_judged};
 use trace2::unknown;
 
 // ---- the checks
@@ -54,16 +49,7 @@ fn judge_file(description: &Description<'_>, version: u32, edition: u32) -> Resu
 
 // ---- the file
 
-// The header of version 2, for s splines and p points.
-fn put_second_header(bytes: &mut [u8], s: u32, p: u32, adjustment: i32, edition: u32)
-    requires { (36 ≤ length bytes.old) × (4 * (9 + (3 * s + 2 * p)) < 2 ^ 32) }
-    ensures { bytes.new ≡ sets bytes.old 0 (bytes_of (header_of version2 (edition ∷ []) s p adjustment)) }
-{
-    put_header(bytes, 2, 9, s, p, adjustment);
-    put_numbers(&[edition], bytes, 8);
-}
-
-// All but version 1 with edition 1: what is not refused is of version 2. Only the checks and the header differ from `trace_write`, which takes neither.
+// All but version 1 with edition 1: what is not refused is of version 2, whose header has the edition as its ninth number.
 fn write_second(
     description: &Description<'_>,
     adjustment: i32,
@@ -75,17 +61,8 @@ fn write_second(
     ensures { leaves result bytes.new
         ≡ write_file_in (description_in description.now) adjustment version edition (length bytes.old) }
 {
-    clear(bytes);
-    judge_file(description, version, edition)?;
-    let s = description.counts.len();
-    let p = description.deltas.len() / 2;
-    let size = 4 * (9 + (131 * s + 2 * p));
-    if bytes.len() < size {
-        return Err((Code::Room, 0));
-    }
-    put_second_header(bytes, s as u32, p as u32, adjustment, edition);
-    put_parts(description, 9, bytes);
-    Ok(size)
+    let found = judge_file(description, version, edition);
+    write_judged(description, adjustment, 2, &[edition], found, bytes)
 }
 
 // Whether it is version 1 with edition 1.
