@@ -1,7 +1,7 @@
 // Records of numbers written into lent buffers, and lent buffers made zero.
 #![tactic(auto)]
 
-ghost use Rattle.std.specs.Prelude.{◌≡◌, [], ◌∷◌, ◌+◌, ◌≤◌, length, replicate, pos};
+ghost use Rattle.std.specs.Prelude.{◌≡◌, ◌+◌, ◌≤◌, length, replicate, pos};
 ghost use Rattle.std.proofs.lemmas.List.Edits.{sets};
 ghost use Rattle.std.proofs.Common.{rules};
 ghost use Rattle.std.specs.Float.{binary32};
@@ -13,22 +13,6 @@ pub fn put<const N: usize>(out: &mut [f32], k: usize, values: &[f32; N])
     ensures { out.new ≡ sets out.old k values.now }
 {
     out[k..k + N].copy_from_slice(values);
-}
-
-// Two numbers, written from cell k on.
-pub fn put2(out: &mut [f32], k: usize, a: f32, b: f32)
-    requires { k + 2 ≤ length out.old }
-    ensures { out.new ≡ sets out.old k (a ∷ b ∷ []) }
-{
-    put(out, k, &[a, b]);
-}
-
-// Three numbers, written from cell k on.
-pub fn put3(out: &mut [f32], k: usize, a: f32, b: f32, c: f32)
-    requires { k + 3 ≤ length out.old }
-    ensures { out.new ≡ sets out.old k (a ∷ b ∷ c ∷ []) }
-{
-    put(out, k, &[a, b, c]);
 }
 
 // The zero of a type of numbers.
@@ -98,34 +82,4 @@ pub fn clear<T: Zero>(cells: &mut [T])
     ensures { cells.new ≡ replicate (length cells.old) T.ZERO }
 {
     cells.fill(T::ZERO);
-}
-
-pub fn clear_f32(cells: &mut [f32])
-    ensures { cells.new ≡ replicate (length cells.old) (of_bits binary32 0) }
-{
-    clear(cells);
-}
-
-pub fn clear_i32(cells: &mut [i32])
-    ensures { cells.new ≡ replicate (length cells.old) (pos 0) }
-{
-    clear(cells);
-}
-
-pub fn clear_u8(cells: &mut [u8])
-    ensures { cells.new ≡ replicate (length cells.old) 0 }
-{
-    clear(cells);
-}
-
-pub fn clear_u32(cells: &mut [u32])
-    ensures { cells.new ≡ replicate (length cells.old) 0 }
-{
-    clear(cells);
-}
-
-pub fn clear_u64(cells: &mut [u64])
-    ensures { cells.new ≡ replicate (length cells.old) 0 }
-{
-    clear(cells);
 }

@@ -2,7 +2,7 @@
 #![tactic(auto)]
 
 ghost use Rattle.std.specs.Prelude.{◌≡◌, eqb};
-ghost use Rattle.shape.specs.Shape.{points_of, shaped};
+ghost use Rattle.shape.specs.Shape.{points_of};
 ghost use Rattle.shape.specs.Description.{description_in, shaped_of};
 
 // All splines, as they were read: a count for each, two start numbers for each, two delta numbers for each point, 128 coefficients for each.
@@ -15,7 +15,7 @@ pub struct Description<'a> {
 }
 
 // Whether the counts sum to just so many points: the sum itself may be too large to hold, so points are taken away instead.
-fn sum_is(counts: &[u32], points: usize) -> bool
+pub fn sum_is(counts: &[u32], points: usize) -> bool
     ensures { result ≡ eqb (points_of counts.now) points }
 {
     let mut left = points;
@@ -39,15 +39,4 @@ pub fn is_shaped(description: &Description<'_>) -> bool
         && description.coefficients.len() % 128 == 0
         && description.coefficients.len() / 128 == splines
         && sum_is(description.counts, description.deltas.len() / 2)
-}
-
-pub fn shape_good(counts: &[u32], starts: &[f32], deltas: &[i32], coefficients: &[i32]) -> bool
-    ensures { result ≡ shaped counts.now starts.now deltas.now coefficients.now }
-{
-    is_shaped(&Description {
-        counts,
-        starts,
-        deltas,
-        coefficients,
-    })
 }
