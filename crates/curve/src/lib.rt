@@ -264,7 +264,7 @@ fn put_path(start: Pair, deltas: &[i32], out: &mut [f32], m: usize)
     buffers::put(out, 32 * m, &[t.r.x, t.r.y]);
 }
 
-// How many points a path may have in a buffer of len numbers.
+// How many points a path may have in a buffer of len numbers. The definition of this name stands in the contracts of crates above.
 fn path_room(len: usize) -> usize
     ensures { result ≡ path_room len }
 {

@@ -5,7 +5,8 @@ ghost use Rattle.std.specs.Prelude.{◌≡◌, ◌-◌, ◌≤◌, length, repli
 ghost use Rattle.std.proofs.lemmas.List.Edits.{sets};
 ghost use Rattle.owners.specs.Owners.{owned_room};
 
-// How many segments have room: the least of the whole records in so many floats, of the cells for owners, and of 2^24.
+// How many segments have room: the least of the whole records in so many floats, of the cells for owners, and of 2^24. The definition owned_room of it
+// stands in the contracts of crates above.
 pub fn room(floats: usize, cells: usize) -> usize
     ensures { result ≡ owned_room floats cells }
 {

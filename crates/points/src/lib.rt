@@ -43,7 +43,7 @@ fn point_segment(
     )
 }
 
-// How many segments a buffer of len numbers has room for.
+// How many segments a buffer of len numbers has room for. The definition of this name stands in the contracts of crates above.
 pub fn segment_room(len: usize) -> usize
     ensures { result ≡ segment_room len }
 {

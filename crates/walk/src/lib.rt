@@ -7,6 +7,7 @@ ghost use Rattle.walk.specs.Walk.{distance_of, point_at, stretch_of, walk_in, wa
 use curve::Point;
 
 // Where a unit of length leads: to the path's end with what was walked until there, or to a point before the path's point at the index.
+// Neither way is a failure, and the definitions stretch_in and after_stretch speak of both.
 #[derive(Clone, Copy, Debug, PartialEq)]
 enum Stretch {
     Ends(Point, f32),
@@ -50,7 +51,7 @@ fn onward(path: &[f32], next: usize, from: Point) -> Stretch
     Stretch::Ends(previous, walked)
 }
 
-// How many points a walk may have in a buffer of len numbers.
+// How many points a walk may have in a buffer of len numbers. The definition of this name stands in the contracts of crates above.
 fn walk_room(len: usize) -> usize
     ensures { result ≡ walk_room len }
 {
