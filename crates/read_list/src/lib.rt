@@ -3,6 +3,7 @@
 
 ghost use Rattle.std.specs.Prelude.{[], ◌*◌, ◌≤◌, length};
 ghost use Rattle.list.specs.List.{after_starts, read_of};
+ghost use Rattle.read_steps.specs.Steps.{Rest};
 ghost use Rattle.read_list.specs.Rest.{rooms_of, RestLeft, ListLeft};
 
 use codes::{Code, Refusal};
@@ -18,6 +19,8 @@ pub struct Read {
     pub adjustment: i32,
 }
 
+// The buffers of a description are written, so each is lent by itself: a call that is lent a slice in a field holds the whole struct.
+
 // After the starts: the adjustment, the splines, and nothing else.
 fn read_rest(
     list: &[u32],
@@ -28,7 +31,7 @@ fn read_rest(
     deltas: &mut [i32],
     coefficients: &mut [i32],
 ) -> Result<Read, Refusal>
-    requires { (s ≤ length counts.old) × (128 * s ≤ length coefficients.old) × (length list.now ≤ total) }
+    requires { (s ≤ length counts.old) × (128 * s ≤ length coefficients.old) × Rest list.now total }
     ensures { RestLeft (after_starts total limit (length deltas.old) s [] list.now) result counts.old counts.new deltas.old deltas.new coefficients.old coefficients.new }
 {
     let [u, rest @ ..] = list else {

@@ -3,6 +3,7 @@
 
 ghost use Rattle.std.specs.Prelude.{◌*◌, ◌≤◌, ◌<◌, length};
 ghost use Rattle.list.specs.List.{spline_in, splines_of};
+ghost use Rattle.read_steps.specs.Steps.{Rest};
 ghost use Rattle.read_splines.specs.Splines.{SplineLeft, SplinesLeft};
 
 use codes::{Code, Refusal};
@@ -16,7 +17,7 @@ pub fn read_spline(
     deltas: &mut [i32],
     coefficients: &mut [i32],
 ) -> Result<u32, Refusal>
-    requires { (128 ≤ length coefficients.old) × (length list.now ≤ total) }
+    requires { (128 ≤ length coefficients.old) × Rest list.now total }
     ensures { SplineLeft (spline_in total left (length deltas.old) list.now) result deltas.old deltas.new coefficients.old coefficients.new }
 {
     let [n, after @ ..] = list else {
@@ -36,6 +37,7 @@ pub fn read_spline(
 }
 
 // All splines; what is left of the limit goes down by each point count.
+// The three buffers are written, so each is lent by itself: a call that is lent a slice in a field holds the whole struct.
 pub fn read_splines(
     list: &[u32],
     total: usize,
@@ -45,7 +47,7 @@ pub fn read_splines(
     deltas: &mut [i32],
     coefficients: &mut [i32],
 ) -> Result<u32, Refusal>
-    requires { (s ≤ length counts.old) × (128 * s ≤ length coefficients.old) × (length list.now ≤ total) }
+    requires { (s ≤ length counts.old) × (128 * s ≤ length coefficients.old) × Rest list.now total }
     ensures { SplinesLeft (splines_of total limit (length deltas.old) s list.now) result counts.old counts.new deltas.old deltas.new coefficients.old coefficients.new }
 {
     let mut rest = list;

@@ -1,8 +1,12 @@
 -- What each loop leaves in the buffer that it is lent: on success its values and then what was there, after a stop nothing is said.
-use Rattle.std.specs.Prelude.{◌≡◌, List, ◌++◌, map, length, drop, ℤ, Float, Result, Ok}
+use Rattle.std.specs.Prelude.{◌≡◌, List, ◌++◌, ℕ, ◌≤◌, map, length, drop, ℤ, Float, Result, Ok}
 use Rattle.codes.specs.Refusal.{Refusal, refused}
 use Rattle.list.specs.List.{Got, got, stop}
 use Rattle.list.specs.Steps.{f32_of}
+
+-- what is left of a list of `total` values
+abbrev pub Rest : List ℕ → ℕ → Type 0
+Rest rest total = length rest ≤ total
 
 -- whole numbers as f32
 abbrev pub floats : Got (List ℤ) → Got (List Float)

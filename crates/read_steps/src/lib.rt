@@ -1,12 +1,13 @@
 // The loops that read the list: starts, double deltas and coefficients, each into a lent buffer.
 // Each takes the next value apart or stops with SHORT, and goes on with the part of the list that begins after it.
+// Each is told how many values are due, n, beside the buffer: to lend just the cells for them would say n at every call too, as the end of a part.
 #![tactic(auto)]
 
 ghost use Rattle.std.specs.Prelude.{◌≡◌, Bool, ◌*◌, ◌≤◌, ◌<◌, ◌^◌, leb, pos, nat_abs, ◌+ℤ◌, length};
 ghost use Rattle.std.specs.Int.Signed.{mag};
 ghost use Rattle.list.specs.List.{unpack_signed, pos_limit, delta_limit, beyond, coordinate, starts_in, deltas_in, coefficients_in};
 ghost use Rattle.list.specs.Steps.{f32_of};
-ghost use Rattle.read_steps.specs.Steps.{floats, Filled};
+ghost use Rattle.read_steps.specs.Steps.{Rest, floats, Filled};
 
 use codes::{Code, Refusal};
 use list::unpack_signed;
@@ -19,7 +20,7 @@ pub fn wild(a: u32, b: u32) -> bool
 }
 
 pub fn read_deltas(list: &[u32], total: usize, n: usize, out: &mut [i32]) -> Result<(), Refusal>
-    requires { (2 * n ≤ length out.old) × (length list.now ≤ total) }
+    requires { (2 * n ≤ length out.old) × Rest list.now total }
     ensures { Filled (deltas_in total n list.now) result out.old out.new }
 {
     let mut rest = list;
@@ -88,7 +89,7 @@ pub fn far(x: i64, y: i64) -> bool
     is_far(x) || is_far(y)
 }
 
-// A whole number below 2^23 in magnitude is an f32.
+// A whole number below 2^23 in magnitude is an f32. A cast, since std has no From of i64 for f32.
 pub fn start_of(x: i64) -> f32
     requires { mag x < 2 ^ 23 }
     ensures { result ≡ f32_of x }
@@ -97,7 +98,7 @@ pub fn start_of(x: i64) -> f32
 }
 
 pub fn read_starts(list: &[u32], total: usize, n: usize, out: &mut [f32]) -> Result<(), Refusal>
-    requires { (2 * n ≤ length out.old) × (length list.now ≤ total) }
+    requires { (2 * n ≤ length out.old) × Rest list.now total }
     ensures { Filled (floats (starts_in total Bool.true (pos 0) (pos 0) n list.now)) result out.old out.new }
 {
     let mut rest = list;
