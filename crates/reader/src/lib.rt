@@ -11,6 +11,7 @@ use list::limit;
 pub use read_list::Read;
 use read_list::read_list;
 
+// The buffers of a description are written, so each is lent by itself: a call that is lent a slice in a field holds the whole struct.
 pub fn wipe(counts: &mut [u32], starts: &mut [f32], deltas: &mut [i32], coefficients: &mut [i32])
     ensures { Wiped counts.old counts.new starts.old starts.new deltas.old deltas.new coefficients.old coefficients.new }
 {
@@ -34,11 +35,9 @@ pub fn read(
 {
     let most = limit(configured, pixels);
     wipe(counts, starts, deltas, coefficients);
-    match read_list(list, most, counts, starts, deltas, coefficients) {
-        Ok(read) => Ok(read),
-        Err(refusal) => {
-            wipe(counts, starts, deltas, coefficients);
-            Err(refusal)
-        }
+    let answer = read_list(list, most, counts, starts, deltas, coefficients);
+    if answer.is_err() {
+        wipe(counts, starts, deltas, coefficients);
     }
+    answer
 }
