@@ -16,6 +16,8 @@ pub struct Built {
     pub faint: u32,
 }
 
+// The six buffers are written, so each is lent by itself: a call that is lent a slice in a field holds the whole struct.
+
 // A refusal, with every lent cell zero.
 pub fn refuse(
     refusal: Refusal,

@@ -13,6 +13,8 @@ use dequantize::Given;
 use shape::Description;
 use strand_at::draw_one;
 
+// The four buffers are written, so each is lent by itself: a call that is lent a slice in a field holds the whole struct.
+
 // The segments of all splines of a description that was judged before, where each segment that has room has a cell for its owner too.
 fn draw_each(
     description: &Description<'_>,

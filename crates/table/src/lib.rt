@@ -40,6 +40,8 @@ fn given_of(setting: Setting) -> Given
     }
 }
 
+// The six buffers are written, so each is lent by itself: a call that is lent a slice in a field holds the whole struct.
+
 // The table of a description that was judged.
 fn paint(
     description: &Description<'_>,

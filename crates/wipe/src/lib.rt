@@ -16,7 +16,7 @@ fn wipe_working(path: &mut [f32], walk: &mut [f32])
     clear(walk);
 }
 
-// Every lent cell.
+// Every lent cell. Each buffer is written, so each is lent by itself: a call that is lent a slice in a field holds the whole struct.
 pub fn wipe(
     path: &mut [f32],
     walk: &mut [f32],
