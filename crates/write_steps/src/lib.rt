@@ -13,7 +13,7 @@ ghost use Rattle.write_steps.specs.Steps.{whole_of, later_list, list_values, Can
 use list::pack_signed;
 use shape::Description;
 
-// The value of a coordinate of the first start.
+// The value of a coordinate of the first start. A cast, since std has no TryFrom of f32 for u32.
 fn first_value(x: f32) -> u32
     requires { unfit_as Bool.true x ≡ Bool.false }
     ensures { result ≡ nat_abs (whole_of x) }
@@ -74,18 +74,24 @@ fn put_spline(n: u32, deltas: &[i32], coefficients: &[i32], list: &mut [u32], at
 }
 
 // All splines, from a place on.
-fn put_splines(counts: &[u32], deltas: &[i32], coefficients: &[i32], list: &mut [u32], at: usize)
-    requires { (length deltas.now ≡ 2 * points_of counts.now) × (length coefficients.now ≡ 128 * length counts.now) × (at + length deltas.now + 129 * length counts.now ≤ length list.old) }
-    ensures { list.new ≡ sets list.old at (splines_list counts.now deltas.now coefficients.now) }
+fn put_splines(description: &Description<'_>, list: &mut [u32], at: usize)
+    requires { (length description.now.deltas.now ≡ 2 * points_of description.now.counts.now) × (length description.now.coefficients.now ≡ 128 * length description.now.counts.now) × (at + length description.now.deltas.now + 129 * length description.now.counts.now ≤ length list.old) }
+    ensures { list.new ≡ sets list.old at (splines_list description.now.counts.now description.now.deltas.now description.now.coefficients.now) }
 {
     let mut place = at;
     let mut from = 0;
     let mut row = 0;
-    for &n in counts {
+    for &n in description.counts {
         let cells = 2 * (n as usize);
         let to = from + cells;
         let end = row + 128;
-        put_spline(n, &deltas[from..to], &coefficients[row..end], list, place);
+        put_spline(
+            n,
+            &description.deltas[from..to],
+            &description.coefficients[row..end],
+            list,
+            place,
+        );
         place += cells + 129;
         from = to;
         row = end;
@@ -102,11 +108,5 @@ pub fn put_list(description: &Description<'_>, adjustment: i32, list: &mut [u32]
     list[0] = (splines - 1) as u32;
     put_starts(description.starts, list);
     list[after] = pack_signed(adjustment);
-    put_splines(
-        description.counts,
-        description.deltas,
-        description.coefficients,
-        list,
-        after + 1,
-    );
+    put_splines(description, list, after + 1);
 }

@@ -3,4 +3,4 @@ use Rattle.write_steps.proofs.Stores.{Rows}
 use Rattle.write_steps.proofs.put_splines.Given as goal
 
 abbrev pub invariant-loop-n : goal.invariant-loop-n
-invariant-loop-n l = Rows l.counts l.deltas l.coefficients l.initial.list l.at l.list l.place l.from l.row l.n-index
+invariant-loop-n l = Rows l.description.counts.now l.description.deltas.now l.description.coefficients.now l.initial.list l.at l.list l.place l.from l.row l.n-index
