@@ -1,6 +1,5 @@
 -- What a call of `read` leaves, from what reading the whole list left.
 use mathlib.Core.Path.{◌≡◌, ap, ◌∙◌}
-use mathlib.Core.Bool.{true, false}
 use mathlib.Core.List.{List, map}
 use Prim.Native.Nat.{ℕ, zero, suc, ◌-◌}
 use native.Mathlib.Nat.{sub-zero, zero-sub, suc-sub-suc}
@@ -14,9 +13,7 @@ use Rattle.codes.specs.Refusal.{refused}
 use Rattle.codes.proofs.Refusals.{same_refusal}
 use Rattle.read_list.specs.Answer.{done}
 use Rattle.read_list.proofs.Answers.{same_done}
-use Rattle.std.specs.Prelude.{Ok}
-use Rattle.std.specs.Result.{is_err}
-use Rattle.reader.specs.Read.{ReadAnswer, leaves, rooms_of, outcome, read_outcome}
+use Rattle.reader.specs.Read.{leaves, rooms_of, outcome, read_outcome}
 use Rattle.reader.specs.Rest.{ListLeft, Wiped}
 
 -- ---- zeros before, and zeros after a refusal
@@ -77,18 +74,5 @@ module _ (configured pixels limit : ℕ) (el : limit ≡ limit_of configured pix
   read_refused k p n' n'' s' s'' d' d'' c' c'' h ln ls ld lc v =
       rw (v.counts, v.starts, v.deltas, v.coefficients, ln ∙ ap ListRooms.counts same, ls ∙ ap ListRooms.starts same, ld ∙ ap ListRooms.deltas same, lc ∙ ap ListRooms.coefficients same)
       (stopped (read_of (limit_of configured pixels) (rooms_of n s d c) list) k p wn n' ws s' wd d' wc c' (rooms_of n s d c) (rw (same, el) at h))
-
-  -- either way
-  pub read_kept : (r : ReadAnswer) → is_err r ≡ false → (n' : List ℕ) (s' : List Float) (d' c' : List ℤ) → ListLeft (read_of limit (rooms_of wn ws wd wc) list) r wn n' ws s' wd d' wc c'
-      → leaves r n' s' d' c' ≡ read_outcome configured pixels (rooms_of n s d c) list
-  read_kept (Ok r) e n' s' d' c' h = read_done r.splines r.points r.adjustment n' s' d' c' h
-  read_kept (refused k p) bad n' s' d' c' h = cc
-
-  pub read_wiped : (r : ReadAnswer) → is_err r ≡ true → (n' n'' : List ℕ) (s' s'' : List Float) (d' d'' c' c'' : List ℤ)
-      → ListLeft (read_of limit (rooms_of wn ws wd wc) list) r wn n' ws s' wd d' wc c'
-      → length n' ≡ length wn → length s' ≡ length ws → length d' ≡ length wd → length c' ≡ length wc → Wiped n' n'' s' s'' d' d'' c' c''
-      → leaves r n'' s'' d'' c'' ≡ read_outcome configured pixels (rooms_of n s d c) list
-  read_wiped (Ok r) bad n' n'' s' s'' d' d'' c' c'' h ln ls ld lc v = cc
-  read_wiped (refused k p) e n' n'' s' s'' d' d'' c' c'' h ln ls ld lc v = read_refused k p n' n'' s' s'' d' d'' c' c'' h ln ls ld lc v
 
 -- Assumes nothing.

@@ -35,9 +35,12 @@ pub fn read(
 {
     let most = limit(configured, pixels);
     wipe(counts, starts, deltas, coefficients);
-    let answer = read_list(list, most, counts, starts, deltas, coefficients);
-    if answer.is_err() {
-        wipe(counts, starts, deltas, coefficients);
+    // No map_err: the wipe needs the buffers that a closure would hold, and the edit fixed_answer changes what the first arm hands on.
+    match read_list(list, most, counts, starts, deltas, coefficients) {
+        Ok(read) => Ok(read),
+        Err(refusal) => {
+            wipe(counts, starts, deltas, coefficients);
+            Err(refusal)
+        }
     }
-    answer
 }
