@@ -7,7 +7,11 @@ use Rattle.dequantize.specs.Dequantize.{dequantize_of}
 use Rattle.dequantize.specs.Judge.{Description, Shaped, start_x, start_y, deltas_at, deltas_of, coefficients_of, answer_of, settle_of, judge_from, judge_of}
 use Rattle.dequantize.specs.declared.Given.{Given}
 use Rattle.dequantize.specs.declared.Spline.{Spline}
-use Rattle.dequantize.specs.Answers.{Settled, Total, Stop, Fine, Refused}
+use Rattle.dequantize.specs.Answers.{Settled, Total, Stop, Judged, Fine, Refused}
+use mathlib.Core.Path.{ap}
+use mathlib.Core.Bool.{true}
+use Rattle.std.specs.Prelude.{Ok, Err, is_ok, MatchResult}
+use Rattle.codes.specs.Refusal.{Refusal}
 
 -- ---- sums of counts
 
@@ -70,5 +74,20 @@ module _ (d : Description) (g : Given) (k at total : ℕ) (u : Under d g k at to
           used = rw (w, u.used) (sym (deltas_more d k h));
           left = u.left ∙ rw (one_left, ← answer_is, ← q, z, add-one k);
         }
+
+        -- a refusal gets its spline's number, and a sum is kept
+        pub under_err : (e : Refusal) → MatchResult t (λ y. ◌≡◌ {A = Judged} (Err e) (Ok y)) (λ code. e ≡ (code, k)) → ◌≡◌ {A = Judged} (Err e) (judge_of d g)
+        under_err e = go t refl
+          where
+            go : (v : Settled) → t ≡ v → MatchResult v (λ y. ◌≡◌ {A = Judged} (Err e) (Ok y)) (λ code. e ≡ (code, k)) → ◌≡◌ {A = Judged} (Err e) (judge_of d g)
+            go (Total n) z h = cc h
+            go (Stop code) z h = ap Err h ∙ under_stop z
+
+        pub under_ok : {more : ℕ} (P : Code → Type 0) → MatchResult t (λ y. ◌≡◌ {A = Judged} (Ok more) (Ok y)) P → true ≡ is_ok t → Under d g (k + 1) (at + 2 * n) more
+        under_ok {more} P m v = under_more (kept t m v)
+          where
+            kept : (r : Settled) → MatchResult r (λ y. ◌≡◌ {A = Judged} (Ok more) (Ok y)) P → true ≡ is_ok r → r ≡ Total more
+            kept (Total n) m v = cc
+            kept (Stop code) m v = cc
 
 -- Assumes nothing.

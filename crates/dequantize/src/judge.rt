@@ -62,10 +62,7 @@ pub fn judge(description: &Description<'_>, given: Given) -> Result<u64, Refusal
             k,
             given,
         );
-        match settle(total, spline, given.limit) {
-            Ok(more) => total = more,
-            Err(code) => return Err((code, k)),
-        }
+        total = settle(total, spline, given.limit).map_err(|code| (code, k))?;
         at = end;
     }
     Ok(total)

@@ -10,4 +10,4 @@ invariant-loop-k l =
     × (2 * length l.description.counts.now ≤ length l.description.starts.now)
     × (128 * length l.description.counts.now ≤ length l.description.coefficients.now)
     × Shaped (description_in l.description)
-    × Under (description_in l.description) l.given l.k l.at l.total
+    × Under (description_in l.description) l.given l.k-counter l.at l.total
