@@ -1,4 +1,5 @@
 // The exports for a summary of every 64 rows: made whole, or refreshed for one band.
+// The parameters of an export are C's, each slice and number a parameter of its own.
 ghost use Rattle.std.specs.Prelude.{◌≡◌, length};
 ghost use Rattle.desks.specs.Desks.{sight_of};
 ghost use Rattle.checks.specs.Tables.{table_of};

@@ -1,5 +1,6 @@
 // The exported functions, on numbers and slices; the crate `aktyrbuz_c` hands them to C.
 // Every call but the logarithm returns its code's number and fills five numbers: the place, then the counts, then zeros.
+// The parameters of an export are C's, each slice and number a parameter of its own.
 #![tactic(auto)]
 
 ghost use Rattle.std.specs.Prelude.{◌≡◌, length};

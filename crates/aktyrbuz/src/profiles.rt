@@ -1,4 +1,5 @@
 // The exports for the fineness profile: the check of a description, and building by profile.
+// The parameters of an export are C's, each slice and number a parameter of its own.
 ghost use Rattle.std.specs.Prelude.{◌≡◌};
 ghost use Rattle.dequantize.specs.Judge.{description_of};
 ghost use Rattle.table.specs.Table.{setting_of, rooms_of};

@@ -1,4 +1,5 @@
 // The export for the shared bytes of two desks.
+// The parameters of an export are C's, each slice and number a parameter of its own.
 ghost use Rattle.std.specs.Prelude.{◌≡◌};
 ghost use Rattle.desks.specs.Hide.{hide_of};
 ghost use Rattle.aktyrbuz.specs.Exported.{hide_leaves, hide_export};

@@ -1,4 +1,5 @@
 // The exports for C: each calls the function of the library `aktyrbuz` that has its name, and promises what that promises.
+// The parameters of an export are C's, each slice and number a parameter of its own.
 #![tactic(auto)]
 
 ghost use Rattle.std.specs.Prelude.{◌≡◌, length};

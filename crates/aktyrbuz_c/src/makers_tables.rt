@@ -1,4 +1,5 @@
 // The export for a row table that another maker offers: its check.
+// The parameters of an export are C's, each slice and number a parameter of its own.
 ghost use Rattle.std.specs.Prelude.{◌≡◌};
 ghost use Rattle.makers.specs.Check.{check_of};
 ghost use Rattle.aktyrbuz.specs.MakersExported.{check_leaves, check_export};

@@ -1,4 +1,5 @@
 // The exports for line drawings: the control points of one spline as a points text, and back.
+// The parameters of an export are C's, each slice and number a parameter of its own.
 ghost use Rattle.std.specs.Prelude.{◌≡◌, length};
 ghost use Rattle.polyline.specs.Read.{read_points_of};
 ghost use Rattle.polyline.specs.Write.{write_points_of};

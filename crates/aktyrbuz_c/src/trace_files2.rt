@@ -1,4 +1,5 @@
 // The exports for trace files of either version, told with their edition.
+// The parameters of an export are C's, each slice and number a parameter of its own.
 ghost use Rattle.std.specs.Prelude.{◌≡◌, length};
 ghost use Rattle.reader.specs.Read.{rooms_of};
 ghost use Rattle.trace2.specs.Read.{read_file_of};

@@ -1,4 +1,5 @@
 // Building by profile: SIZE, the check of the profile, then a build. A refusal leaves every lent cell zero.
+// The six buffers stay a parameter each, as `table::build` takes them: over a struct of `&mut` slices the proofs did not close (draw/src/lib.rt).
 #![tactic(auto)]
 
 ghost use Rattle.std.specs.Prelude.{◌≡◌, Err};
