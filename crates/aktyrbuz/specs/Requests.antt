@@ -52,6 +52,8 @@ use Rattle.trace_laws.specs.Refusals.{TraceReadRefusal, TraceWriteRefusal, Trace
 use Rattle.trace_laws.specs.Small.{small_file, small_rooms}
 use Rattle.aktyrbuz.specs.ListCodes.{ReadDone}
 use Rattle.aktyrbuz.specs.TraceCalls.{TraceReadCall, TraceWriteCall}
+use Rattle.profile_rules.specs.declared.Rule.{Rule}
+use Rattle.profile_rules.specs.Rules.{rule_number}
 use Rattle.profile.specs.Profile.{ProfileOutcome}
 use Rattle.profile.specs.Answers.{ProfileAnswer}
 use Rattle.profile.specs.Answers as ProfileAnswer
@@ -466,12 +468,12 @@ MeetsExactly = (d : Description) (a : ℤ) (e : ℕ) (o : ProfileOutcome) → Pr
 -- it names a rule and a spline exactly when that rule is the first that is broken: rules 1 and 3 first, then the splines in order, and of a spline 2, 4, 5, 6
 abbrev pub FirstBrokenRule : Type 0
 FirstBrokenRule =
-    (d : Description) (a : ℤ) (e : ℕ) (o : ProfileOutcome) → ProfileCall d a e o → (rule k : ℕ) → o.answer ≡ ProfileAnswer.Broken rule k ↔ Breaking d a e rule k
+    (d : Description) (a : ℤ) (e : ℕ) (o : ProfileOutcome) → ProfileCall d a e o → (rule : Rule) (k : ℕ) → o.answer ≡ ProfileAnswer.Broken rule k ↔ Breaking d a e rule k
 
--- the other codes exactly when; and what is told: PROFILE is 21 at the spline, with the rule as first count, any other refusal has a count of 0, and so has a success
+-- the other codes exactly when; and what is told: PROFILE is 21 at the spline, with the rule's number as first count, any other refusal has a count of 0, and so has a success
 pub record ProfileCodes : Type 0 where
   pub exactly : (d : Description) (a : ℤ) (e : ℕ) (o : ProfileOutcome) → ProfileCall d a e o → (c : Code) (p : ℕ) → o.answer ≡ ProfileAnswer.Refused c p ↔ ProfileRefusal d a e c p
-  pub broken : (d : Description) (a : ℤ) (e : ℕ) (o : ProfileOutcome) → ProfileCall d a e o → (rule k : ℕ) → Breaking d a e rule k → o.told ≡ record { number = 21; place = k; first = rule }
+  pub broken : (d : Description) (a : ℤ) (e : ℕ) (o : ProfileOutcome) → ProfileCall d a e o → (rule : Rule) (k : ℕ) → Breaking d a e rule k → o.told ≡ record { number = 21; place = k; first = rule_number rule }
   pub refused : (d : Description) (a : ℤ) (e : ℕ) (o : ProfileOutcome) → ProfileCall d a e o → (c : Code) (p : ℕ) → ProfileRefusal d a e c p → o.told ≡ record { number = number_of c; place = p; first = 0 }
   pub met : (d : Description) (a : ℤ) (e : ℕ) (o : ProfileOutcome) → ProfileCall d a e o → Meeting d a e → o.told ≡ record { number = 0; place = 0; first = 0 }
 
@@ -485,17 +487,17 @@ pub record ProfileBuildIsBuild : Type 0 where
   pub otherwise : (d : Description) (i : Setting) (e : ℕ) (r : BuildRooms) (o : ProfileBuildOutcome) → ProfileBuildCall d i e r o → (c : Code) (p : ℕ) → o.answer ≡ ProfileBuildAnswer.Refused c p
       → (c ≡ Code.Edition → ⊥) → (b : BuildOutcome) → BuildCall d i r b → o ≡ as_built b
 
--- each answer exactly when; after a refusal, PROFILE too, every lent cell is zero; PROFILE is 21 at the spline, with the rule as first count
+-- each answer exactly when; after a refusal, PROFILE too, every lent cell is zero; PROFILE is 21 at the spline, with the rule's number as first count
 pub record ProfileBuildCodes : Type 0 where
   pub done : (d : Description) (i : Setting) (e : ℕ) (r : BuildRooms) (o : ProfileBuildOutcome) → ProfileBuildCall d i e r o
       → (s n t f : ℕ) → o.answer ≡ ProfileBuildAnswer.Done s n t f ↔ DoneByBuild d i e r s n t f
   pub broken : (d : Description) (i : Setting) (e : ℕ) (r : BuildRooms) (o : ProfileBuildOutcome) → ProfileBuildCall d i e r o
-      → (rule k : ℕ) → o.answer ≡ ProfileBuildAnswer.Broken rule k ↔ BreaksRule d i e r rule k
+      → (rule : Rule) (k : ℕ) → o.answer ≡ ProfileBuildAnswer.Broken rule k ↔ BreaksRule d i e r rule k
   pub refused : (d : Description) (i : Setting) (e : ℕ) (r : BuildRooms) (o : ProfileBuildOutcome) → ProfileBuildCall d i e r o
       → (c : Code) (p : ℕ) → o.answer ≡ ProfileBuildAnswer.Refused c p ↔ ProfileBuildRefusal d i e r c p
   pub broken_zero : (d : Description) (i : Setting) (e : ℕ) (r : BuildRooms) (o : ProfileBuildOutcome) → ProfileBuildCall d i e r o
-      → (rule k : ℕ) → BreaksRule d i e r rule k → (o ≡ stopped_with r (ProfileBuildAnswer.Broken rule k))
-      × (o.told ≡ record { number = 21; place = k; first = rule; second = 0; third = 0; fourth = 0 })
+      → (rule : Rule) (k : ℕ) → BreaksRule d i e r rule k → (o ≡ stopped_with r (ProfileBuildAnswer.Broken rule k))
+      × (o.told ≡ record { number = 21; place = k; first = rule_number rule; second = 0; third = 0; fourth = 0 })
   pub refused_zero : (d : Description) (i : Setting) (e : ℕ) (r : BuildRooms) (o : ProfileBuildOutcome) → ProfileBuildCall d i e r o
       → (c : Code) (p : ℕ) → ProfileBuildRefusal d i e r c p → (o ≡ stopped_with r (ProfileBuildAnswer.Refused c p))
       × (o.told ≡ record { number = number_of c; place = p; first = 0; second = 0; third = 0; fourth = 0 })

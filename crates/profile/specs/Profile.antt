@@ -6,39 +6,45 @@ use Rattle.shape.specs.Shape as Shape
 use Rattle.dequantize.specs.Judge.{Description}
 use Rattle.editions.specs.declared.Limits.{Limits}
 use Rattle.editions.specs.Editions.{Edition, Known, Unknown}
-use Rattle.profile_rules.specs.Finding.{Finding}
-use Rattle.profile_rules.specs.Finding as found
+use Rattle.profile_rules.specs.declared.Rule.TheVariants as Rule
+use Rattle.profile_rules.specs.Checked.{Checked}
+use Rattle.profile_rules.specs.Checked as found
 pub use Rattle.editions.specs.Editions.{edition1, edition2}
 unfoldable pub use Rattle.editions.specs.Editions.{limits_of}
-pub use Rattle.profile_rules.specs.Rules.{kept, first_finding, counted, within}
-unfoldable pub use Rattle.profile_rules.specs.Rules.{zero_from, deltas_finding, sigma_finding, colour_finding, spline_finding}
+pub use Rattle.profile_rules.specs.Rules.{rule_number, kept, first_broken, counted, within}
+unfoldable pub use Rattle.profile_rules.specs.Rules.{zero_from, check_deltas, check_sigma, check_colour, check_spline}
 use Rattle.profile.specs.Answers.{ProfileAnswer, Meets, Broken, Refused}
-use Rattle.profile.specs.declared.ProfileTold.{ProfileTold}
 
 -- ---- a description
 
 -- splines with these counts, of which the first is the spline k
-unfoldable pub splines_finding : Limits → List ℕ → List ℤ → ℕ → Finding
-splines_finding l [] cs k = found.Kept
-splines_finding l (n ∷ ns) cs k = first_finding (spline_finding l n cs k) (splines_finding l ns cs (suc k))
+unfoldable pub check_splines : Limits → List ℕ → List ℤ → ℕ → Checked
+check_splines l [] cs k = found.Kept
+check_splines l (n ∷ ns) cs k = first_broken (check_spline l n cs k) (check_splines l ns cs (suc k))
 
 -- 1: 1 to 4096 splines; 3: the adjustment; then spline by spline
-unfoldable pub rules_finding : Limits → List ℕ → List ℤ → ℤ → Finding
-rules_finding l ns cs adjustment =
-    first_finding (kept (counted 4096 (length ns)) 1 0)
-    (first_finding (kept (within l.least l.greatest adjustment) 3 0)
-    (splines_finding l ns cs 0))
+unfoldable pub check_rules : Limits → List ℕ → List ℤ → ℤ → Checked
+check_rules l ns cs adjustment =
+    first_broken (kept (counted 4096 (length ns)) Rule.Splines 0)
+    (first_broken (kept (within l.least l.greatest adjustment) Rule.Adjustment 0)
+    (check_splines l ns cs 0))
 
-abbrev pub answered : Finding → ProfileAnswer
+abbrev pub answered : Checked → ProfileAnswer
 answered found.Kept = Meets
 answered (found.Broken rule spline) = Broken rule spline
 
 -- ---- what a check answers
 
--- a success is number 0 at place 0 with a count of 0; a broken rule is PROFILE at its spline, with the rule as first count; any other refusal has a count of 0
+-- an answer in the terms of the table of codes: the code's number, the place, and the first count
+pub record ProfileTold : Type 0 where
+  pub number : ℕ
+  pub place : ℕ
+  pub first : ℕ
+
+-- a success is number 0 at place 0 with a count of 0; a broken rule is PROFILE at its spline, with the rule's number as first count; any other refusal has a count of 0
 abbrev pub told_of : ProfileAnswer → ProfileTold
 told_of Meets = record { number = 0; place = 0; first = 0 }
-told_of (Broken rule spline) = record { number = number_of Code.Profile; place = spline; first = rule }
+told_of (Broken rule spline) = record { number = number_of Code.Profile; place = spline; first = rule_number rule }
 told_of (Refused c p) = record { number = number_of c; place = p; first = 0 }
 
 pub record ProfileOutcome : Type 0 where
@@ -50,7 +56,7 @@ tells r = record { answer = r; told = told_of r }
 
 abbrev pub by_edition : Edition → List ℕ → List ℤ → ℤ → ProfileAnswer
 by_edition Unknown ns cs adjustment = Refused Code.Edition 0
-by_edition (Known l) ns cs adjustment = answered (rules_finding l ns cs adjustment)
+by_edition (Known l) ns cs adjustment = answered (check_rules l ns cs adjustment)
 
 -- SHAPE, EDITION, then the rules
 unfoldable pub answer_of : Description → ℤ → ℕ → ProfileAnswer

@@ -3,17 +3,20 @@
 
 ghost use Rattle.std.specs.Prelude.{◌≡◌, ◌*◌, ◌≤◌, length};
 ghost use Rattle.shape.specs.Description.{description_in};
-ghost use Rattle.profile.specs.Profile.{told_of, splines_finding, rules_finding, tells, profile_of};
+ghost use Rattle.profile.specs.Profile.{check_splines, check_rules, tells, profile_of};
 
 use codes::{Code, Refusal};
 use editions::{Limits, limits_of};
-use profile_rules::{Broken, counted, kept, spline_finding, within};
+use profile_rules::{Broken, Rule, check_spline, counted, kept, within};
 use shape::Description;
 
-// Why a description does not meet the profile: the first broken rule and its spline; or a code and its place.
+// The most splines of a description, in either edition.
+pub const MOST_SPLINES: usize = 4096;
+
+// Why a description does not meet the profile: the first broken rule and its spline; or a code and its place. `?` makes it of either.
 #[derive(Clone, Copy, Debug, PartialEq, Eq)]
 pub enum Unmet {
-    Broken(u32, usize),
+    Broken(Rule, usize),
     Refused(Code, usize),
 }
 
@@ -37,32 +40,28 @@ impl From<Refusal> for Unmet {
     }
 }
 
-// An answer in the terms of the table of codes: the code's number, the place, and the first count.
-#[derive(Clone, Copy, Debug, PartialEq, Eq)]
-pub struct ProfileTold {
-    pub number: u32,
-    pub place: usize,
-    pub first: u32,
-}
-
-fn splines_finding(counts: &[u32], c: &[i32], limits: Limits) -> Result<(), Broken>
+fn check_splines(counts: &[u32], c: &[i32], limits: Limits) -> Result<(), Broken>
     requires { 128 * length counts.now ≤ length c.now }
-    ensures { result ≡ splines_finding limits counts.now c.now 0 }
+    ensures { result ≡ check_splines limits counts.now c.now 0 }
 {
     for (k, n) in counts.iter().enumerate() {
-        spline_finding(*n, c, k, limits)?;
+        check_spline(*n, c, k, limits)?;
     }
     Ok(())
 }
 
-#[tactic(auto, unfolding(crate::specs::Profile::rules_finding))]
-fn rules_finding(counts: &[u32], c: &[i32], adjustment: i32, limits: Limits) -> Result<(), Broken>
+#[tactic(auto, unfolding(crate::specs::Profile::check_rules))]
+fn check_rules(counts: &[u32], c: &[i32], adjustment: i32, limits: Limits) -> Result<(), Broken>
     requires { 128 * length counts.now ≤ length c.now }
-    ensures { result ≡ rules_finding limits counts.now c.now adjustment }
+    ensures { result ≡ check_rules limits counts.now c.now adjustment }
 {
-    kept(counted(counts.len(), 4096), 1, 0)?;
-    kept(within(adjustment, limits.least, limits.greatest), 3, 0)?;
-    splines_finding(counts, c, limits)
+    kept(counted(counts.len(), MOST_SPLINES), Rule::Splines, 0)?;
+    kept(
+        within(adjustment, limits.least, limits.greatest),
+        Rule::Adjustment,
+        0,
+    )?;
+    check_splines(counts, c, limits)
 }
 
 // SHAPE, EDITION, then the rules.
@@ -75,29 +74,6 @@ pub fn profile(description: &Description<'_>, adjustment: i32, edition: u32) -> 
     }
     let limits = limits_of(edition).ok_or(Unmet::Refused(Code::Edition, 0))?;
     let c = description.coefficients;
-    rules_finding(description.counts, c, adjustment, limits)?;
+    check_rules(description.counts, c, adjustment, limits)?;
     Ok(())
-}
-
-// A broken rule is PROFILE at its spline, and the rule is its first count.
-pub fn told(answer: Result<(), Unmet>) -> ProfileTold
-    ensures { result ≡ told_of answer }
-{
-    match answer {
-        Ok(()) => ProfileTold {
-            number: 0,
-            place: 0,
-            first: 0,
-        },
-        Err(Unmet::Broken(rule, spline)) => ProfileTold {
-            number: u32::from(Code::Profile),
-            place: spline,
-            first: rule,
-        },
-        Err(Unmet::Refused(code, place)) => ProfileTold {
-            number: u32::from(code),
-            place,
-            first: 0,
-        },
-    }
 }

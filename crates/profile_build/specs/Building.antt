@@ -9,8 +9,7 @@ use Rattle.verdict.specs.Verdict.{sized}
 use Rattle.profile.specs.Answers.{ProfileAnswer, Meets}
 use Rattle.profile.specs.Profile.{answer_of}
 use Rattle.profile_told.specs.Answers.{ProfileBuildAnswer, Refused}
-use Rattle.profile_told.specs.declared.ProfileBuildTold.{ProfileBuildTold}
-use Rattle.profile_told.specs.Told.{told_of}
+use Rattle.profile_told.specs.Told.{ProfileBuildTold, told_of}
 
 -- what a build answers, as an answer of building by profile
 abbrev pub of_build : BuildAnswer → ProfileBuildAnswer

@@ -15,6 +15,7 @@ use Rattle.control_points.specs.Refusals as tracing
 use Rattle.dequantize.specs.Refusals as judging
 use Rattle.dequantize.specs.declared.Given.{Given}
 use Rattle.control_points.specs.declared.Pair.{Pair}
+use Rattle.profile_rules.specs.declared.Rule.{Rule}
 use Rattle.build_answer.specs.BuildAnswer.{BuildAnswer}
 use Rattle.build_answer.specs.BuildAnswer as plainly
 use Rattle.build_answer.specs.declared.Built.{Built}
@@ -75,7 +76,7 @@ module _ (d : Description) (i : Setting) (e : ℕ) (r : BuildRooms) where
   pub as_build : Plain d i e r → by_profile ≡ as_built (build_of d i r)
   as_build p = decided Meets (checked p.sized Meets (meets p.meets))
 
-  pub breaks_leaves : (rule k : ℕ) → BreaksRule d i e r rule k → by_profile ≡ stopped_with r (Broken rule k)
+  pub breaks_leaves : (rule : Rule) (k : ℕ) → BreaksRule d i e r rule k → by_profile ≡ stopped_with r (Broken rule k)
   breaks_leaves rule k b = decided (Broken rule k) (checked b.sized (Broken rule k) (breaks b.breaks))
 
   -- a build's refusal, every cell
@@ -93,7 +94,7 @@ module _ (d : Description) (i : Setting) (e : ℕ) (r : BuildRooms) where
 
   data Way : Type 0 where
     plain : Plain d i e r → Way
-    broken : (rule k : ℕ) → BreaksRule d i e r rule k → Way
+    broken : (rule : Rule) (k : ℕ) → BreaksRule d i e r rule k → Way
     refusal : (c : Code) (p : ℕ) → ProfileBuildRefusal d i e r c p → Way
 
   by_answer : Sized i → {x : ProfileAnswer} → Says d i.adjustment e x → Way
@@ -130,7 +131,7 @@ module _ (d : Description) (i : Setting) (e : ℕ) (r : BuildRooms) where
       let v : p' ≡ p = cc in
       rw (u, v)
 
-  not_broken : (b : BuildAnswer) (rule k : ℕ) → of_build b ≡ Broken rule k → ⊥
+  not_broken : (b : BuildAnswer) (rule : Rule) (k : ℕ) → of_build b ≡ Broken rule k → ⊥
   not_broken (Ok b) rule k q = let z : ◌≡◌ {A = ℕ} 0 1 = cc in omega arith
   not_broken (plainly.Refused c p) rule k q = let z : ◌≡◌ {A = ℕ} 0 1 = cc in omega arith
 
@@ -149,7 +150,7 @@ module _ (d : Description) (i : Setting) (e : ℕ) (r : BuildRooms) where
   pub done_exactly : (s n t f : ℕ) → (by_profile.answer ≡ Done s n t f) ↔ DoneByBuild d i e r s n t f
   done_exactly s n t f = (done_given s n t f, λ w. answer_of_lem (as_build w.fits) ∙ ap (λ (b : BuildAnswer). of_build b) w.built)
 
-  broken_given : (rule k : ℕ) → by_profile.answer ≡ Broken rule k → BreaksRule d i e r rule k
+  broken_given : (rule : Rule) (k : ℕ) → by_profile.answer ≡ Broken rule k → BreaksRule d i e r rule k
   broken_given rule k q = go way
     where
       go : Way → BreaksRule d i e r rule k
@@ -163,7 +164,7 @@ module _ (d : Description) (i : Setting) (e : ℕ) (r : BuildRooms) where
           let x : ◌≡◌ {A = ProfileBuildAnswer} (Refused c p) (Broken rule k) = sym (stopped_answer (Refused c p)) ∙ sym (answer_of_lem (refusal_leaves c p w)) ∙ q in
           absurd (let z : ◌≡◌ {A = ℕ} 0 1 = cc in omega arith)
 
-  pub broken_exactly : (rule k : ℕ) → (by_profile.answer ≡ Broken rule k) ↔ BreaksRule d i e r rule k
+  pub broken_exactly : (rule : Rule) (k : ℕ) → (by_profile.answer ≡ Broken rule k) ↔ BreaksRule d i e r rule k
   broken_exactly rule k = (broken_given rule k, λ b. answer_of_lem (breaks_leaves rule k b) ∙ stopped_answer (Broken rule k))
 
   refusal_given : (c : Code) (p : ℕ) → by_profile.answer ≡ Refused c p → ProfileBuildRefusal d i e r c p
@@ -201,7 +202,7 @@ module _ (d : Description) (i : Setting) (e : ℕ) (r : BuildRooms) where
   pub refused_zero : (c : Code) (p : ℕ) → by_profile.answer ≡ Refused c p → by_profile ≡ stopped_with r (Refused c p)
   refused_zero c p q = refusal_leaves c p (refusal_given c p q)
 
-  pub broken_zero : (rule k : ℕ) → by_profile.answer ≡ Broken rule k → by_profile ≡ stopped_with r (Broken rule k)
+  pub broken_zero : (rule : Rule) (k : ℕ) → by_profile.answer ≡ Broken rule k → by_profile ≡ stopped_with r (Broken rule k)
   broken_zero rule k q = breaks_leaves rule k (broken_given rule k q)
 
 -- ---- EDITION

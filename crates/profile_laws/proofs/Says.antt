@@ -13,11 +13,12 @@ use Rattle.shape.proofs.Shape.{is_shaped, shaped_is, not_shaped}
 use Rattle.dequantize.specs.Judge.{Description, Shaped}
 use Rattle.editions.specs.declared.Limits.{Limits}
 use Rattle.editions.specs.Editions.{Known, Unknown}
-use Rattle.profile_rules.specs.Finding.{Finding}
+use Rattle.profile_rules.specs.declared.Rule.{Rule}
+use Rattle.profile_rules.specs.Checked.{Checked}
 use Rattle.profile.specs.Answers.{ProfileAnswer, Meets, Broken, Refused}
-use Rattle.profile.specs.Profile.{edition1, edition2, limits_of, rules_finding, answered, by_edition, answer_of}
+use Rattle.profile.specs.Profile.{edition1, edition2, limits_of, check_rules, answered, by_edition, answer_of}
 use Rattle.profile_laws.specs.Rules.{Allows, one, two, NoEdition, Meeting, Breaking, ProfileRefusal, shape, edition, Says, meets, breaks, refuses}
-use Rattle.profile_laws.proofs.Splines.{RulesFind, all_kept, one_broken, rules_find, meets_finding, breaks_finding}
+use Rattle.profile_laws.proofs.Splines.{RulesFind, all_kept, one_broken, rules_find, meets_checked, breaks_checked}
 
 -- ---- the edition
 
@@ -36,7 +37,7 @@ module _ (d : Description) (a : ℤ) (e : ℕ) where
 
   -- ---- the answer
 
-  by_rules : Shaped d → (l : Limits) → Allows e l → {x : Finding} → RulesFind l d a x → Says d a e (answered x)
+  by_rules : Shaped d → (l : Limits) → Allows e l → {x : Checked} → RulesFind l d a x → Says d a e (answered x)
   by_rules s l w (all_kept m) = meets (record { shape = s; limits = l; allowed = w; rules = m })
   by_rules s l w (one_broken b) = breaks (record { shape = s; limits = l; allowed = w; broken = b })
 
@@ -62,15 +63,15 @@ module _ (d : Description) (a : ℤ) (e : ℕ) where
   agreed : Shaped d → agree ≡ true
   agreed = is_shaped d.counts d.starts d.deltas d.coefficients
 
-  said_known : Shaped d → (l : Limits) → Allows e l → answer_of d a e ≡ answered (rules_finding l d.counts d.coefficients a)
+  said_known : Shaped d → (l : Limits) → Allows e l → answer_of d a e ≡ answered (check_rules l d.counts d.coefficients a)
   unfolding answer_of
   said_known s l w = rw (agreed s, allows_limits e l w)
 
   pub said : (r : ProfileAnswer) → Says d a e r → answer_of d a e ≡ r
   unfolding answer_of
-  said _ (meets m) = said_known m.shape m.limits m.allowed ∙ ap (λ (x : Finding). answered x) (meets_finding m.limits d a m.rules)
+  said _ (meets m) = said_known m.shape m.limits m.allowed ∙ ap (λ (x : Checked). answered x) (meets_checked m.limits d a m.rules)
   said _ (breaks {rule = rule} {k = k} b) =
-      said_known b.shape b.limits b.allowed ∙ ap (λ (x : Finding). answered x) (breaks_finding b.limits d a rule k b.broken)
+      said_known b.shape b.limits b.allowed ∙ ap (λ (x : Checked). answered x) (breaks_checked b.limits d a rule k b.broken)
   said _ (refuses (shape n)) = rw (not_shaped d.counts d.starts d.deltas d.coefficients n)
   said _ (refuses (edition s n)) = rw (agreed s, no_limits e n)
 
@@ -85,7 +86,7 @@ module _ (d : Description) (a : ℤ) (e : ℕ) where
       go : Says d a e Meets → Meeting d a e
       go (meets m) = m
 
-  pub broken_iff : (rule k : ℕ) → (answer_of d a e ≡ Broken rule k) ↔ Breaking d a e rule k
+  pub broken_iff : (rule : Rule) (k : ℕ) → (answer_of d a e ≡ Broken rule k) ↔ Breaking d a e rule k
   broken_iff rule k = (λ q. go ((says_exactly (Broken rule k)).0 q), λ b. said (Broken rule k) (breaks b))
     where
       go : Says d a e (Broken rule k) → Breaking d a e rule k

@@ -6,6 +6,7 @@ use Rattle.dequantize.specs.Judge.{Description, Shaped}
 use Rattle.table.specs.Table.{Setting, BuildRooms, build_of}
 use Rattle.build_answer.specs.BuildAnswer as BuildAnswer
 use Rattle.table.specs.Refusals.{BuildRefusal}
+use Rattle.profile_rules.specs.declared.Rule.{Rule}
 use Rattle.profile_laws.specs.Rules.{NoEdition, Meeting, Breaking}
 
 -- width and height of at most 2^23
@@ -32,7 +33,7 @@ module _ (d : Description) (i : Setting) (e : ℕ) (r : BuildRooms) where
     pub none : NoEdition e
 
   -- 21: SIZE, SHAPE and EDITION have passed, and this rule is the first that is broken
-  pub record BreaksRule (rule k : ℕ) : Type 0 where
+  pub record BreaksRule (rule : Rule) (k : ℕ) : Type 0 where
     pub sized : Sized i
     pub breaks : Breaking d i.adjustment e rule k
 

@@ -4,6 +4,7 @@ use Rattle.std.specs.Prelude.{◌≡◌, ℕ, ◌+◌, ◌*◌, ◌≤◌, ◌<�
 use Rattle.codes.specs.declared.Code.{Code}
 use Rattle.dequantize.specs.Judge.{Description, Shaped}
 use Rattle.editions.specs.declared.Limits.{Limits}
+use Rattle.profile_rules.specs.declared.Rule.{Rule}
 use Rattle.profile.specs.Answers.{ProfileAnswer, Meets, Broken, Refused}
 use Rattle.profile.specs.Profile.{edition1, edition2}
 
@@ -64,17 +65,17 @@ module _ (l : Limits) (d : Description) (adjustment : ℤ) where
     pub each : (k : ℕ) → k < length d.counts → SplineMeets k
 
   -- the first broken rule of the spline k, in the order 2, 4, 5, 6
-  pub data SplineBreaks (k : ℕ) : ℕ → Type 0 where
-    second : (Rule2 k → ⊥) → SplineBreaks k 2
-    fourth : Rule2 k → (Rule4 k → ⊥) → SplineBreaks k 4
-    fifth : Rule2 k → Rule4 k → (Rule5 k → ⊥) → SplineBreaks k 5
-    sixth : Rule2 k → Rule4 k → Rule5 k → (Rule6 k → ⊥) → SplineBreaks k 6
+  pub data SplineBreaks (k : ℕ) : Rule → Type 0 where
+    second : (Rule2 k → ⊥) → SplineBreaks k Rule.Deltas
+    fourth : Rule2 k → (Rule4 k → ⊥) → SplineBreaks k Rule.SigmaTail
+    fifth : Rule2 k → Rule4 k → (Rule5 k → ⊥) → SplineBreaks k Rule.FirstSigma
+    sixth : Rule2 k → Rule4 k → Rule5 k → (Rule6 k → ⊥) → SplineBreaks k Rule.Colour
 
   -- the first broken rule and its spline: rules 1 and 3 first, with place 0, then spline by spline
-  pub data FirstBroken : ℕ → ℕ → Type 0 where
-    first : (Rule1 → ⊥) → FirstBroken 1 0
-    third : Rule1 → (Rule3 → ⊥) → FirstBroken 3 0
-    spline : {rule k : ℕ} → Rule1 → Rule3 → k < length d.counts → ((j : ℕ) → j < k → SplineMeets j) → SplineBreaks k rule → FirstBroken rule k
+  pub data FirstBroken : Rule → ℕ → Type 0 where
+    first : (Rule1 → ⊥) → FirstBroken Rule.Splines 0
+    third : Rule1 → (Rule3 → ⊥) → FirstBroken Rule.Adjustment 0
+    spline : {rule : Rule} {k : ℕ} → Rule1 → Rule3 → k < length d.counts → ((j : ℕ) → j < k → SplineMeets j) → SplineBreaks k rule → FirstBroken rule k
 
 -- ---- the editions
 
@@ -96,7 +97,7 @@ module _ (d : Description) (adjustment : ℤ) (e : ℕ) where
     pub rules : MeetsRules limits d adjustment
 
   -- the lengths agree, and of the edition's rules this one is the first that is broken, at the spline k
-  pub record Breaking (rule k : ℕ) : Type 0 where
+  pub record Breaking (rule : Rule) (k : ℕ) : Type 0 where
     pub shape : Shaped d
     pub limits : Limits
     pub allowed : Allows e limits
@@ -112,5 +113,5 @@ module _ (d : Description) (adjustment : ℤ) (e : ℕ) where
   -- the answer, when
   pub data Says : ProfileAnswer → Type 0 where
     meets : Meeting → Says Meets
-    breaks : {rule k : ℕ} → Breaking rule k → Says (Broken rule k)
+    breaks : {rule : Rule} {k : ℕ} → Breaking rule k → Says (Broken rule k)
     refuses : {c : Code} {p : ℕ} → ProfileRefusal c p → Says (Refused c p)

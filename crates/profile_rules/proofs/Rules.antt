@@ -1,25 +1,62 @@
--- Laws of coefficients that are all 0, of which n are left: a turn of the loop over them.
-use mathlib.Core.Path.{◌≡◌}
-use mathlib.Core.Bool.{true, false}
-use mathlib.Core.List.{List}
-use Prim.Native.Nat.{ℕ, zero, suc, ◌-◌, ◌<◌}
+-- Laws of coefficients that are all 0: of a lent part of them, and of what a test of each says.
+use mathlib.Core.Path.{◌≡◌, refl, sym, ap, ◌∙◌}
+use mathlib.Core.Bool.{Bool, true, false, ◌&&◌, cond}
+use mathlib.Core.List.{List, [], ◌∷◌}
+use Prim.Native.Nat.{ℕ, zero, suc, ◌+◌, ◌-◌, ◌≤◌, ◌<◌}
 use native.Mathlib.Omega.{arith}
-use lib.IntN.{ℤ, pos}
-use lib.ListN.{get_or}
+use lib.Dec.{leb}
+use borrow.Author.Tests.{le-leb, lt-leb}
+use lib.IntN.{ℤ, pos, negsuc}
+use lib.ListN.{length, get_or, take, drop}
+use Rattle.std.proofs.lemmas.List.{get_or-drop, get_or-take}
+use Rattle.std.specs.List.{list_all}
+use Rattle.std.specs.Ordering.{int_eq}
+use Rattle.std.proofs.lemmas.Bool.Decides.{Decides-int_eq}
 use Rattle.profile_rules.specs.Rules.{within, zero_from}
 
-pub zero_fails : (cs : List ℤ) (from n : ℕ) → 0 < n → within (pos 0) (pos 0) (get_or cs from (pos 0)) ≡ false → zero_from cs from n ≡ false
+-- two lists that agree from an index on
+zero_alike : (cs ds : List ℤ) (a b n : ℕ) → ((i : ℕ) → i < n → get_or cs (a + i) (pos 0) ≡ get_or ds (b + i) (pos 0)) → zero_from cs a n ≡ zero_from ds b n
 unfolding zero_from
-zero_fails cs from zero h e = absurd (omega arith)
-zero_fails cs from (suc n) h e = rw e
+zero_alike cs ds a b zero f = refl
+zero_alike cs ds a b (suc n) f =
+    let p : a + 0 ≡ a = omega arith in
+    let q : b + 0 ≡ b = omega arith in
+    let e : get_or cs a (pos 0) ≡ get_or ds b (pos 0) = rw (p, q) at (f 0 (omega arith)) in
+    rw (
+      e,
+      zero_alike cs ds (suc a) (suc b) n (λ i h.
+          let s : suc a + i ≡ a + suc i = omega arith in
+          let t : suc b + i ≡ b + suc i = omega arith in
+          rw (s, t) (f (suc i) (omega arith))),
+    )
 
-pub zero_passes : (cs : List ℤ) (from n : ℕ) → 0 < n → within (pos 0) (pos 0) (get_or cs from (pos 0)) ≡ true → zero_from cs from n ≡ zero_from cs (suc from) (n - 1)
-unfolding zero_from
-zero_passes cs from zero h e = absurd (omega arith)
-zero_passes cs from (suc n) h e = let q : suc n - 1 ≡ n = omega arith in rw (e, q)
+-- n coefficients that are lent, from an index on
+pub zeros_lent : (cs : List ℤ) (from n : ℕ) → zero_from (take n (drop from cs)) 0 n ≡ zero_from cs from n
+zeros_lent cs from n = zero_alike (take n (drop from cs)) cs 0 from n (λ i h.
+    let e : 0 + i ≡ i = omega arith in
+    rw e (get_or-take n (drop from cs) i (pos 0) h ∙ get_or-drop from cs i (pos 0)))
 
-pub zero_end : (cs : List ℤ) (from n : ℕ) → n ≡ 0 → zero_from cs from n ≡ true
+-- ---- all of a list
+
+no : (b : Bool) → (b ≡ true → ⊥) → b ≡ false
+no true f = absurd (f refl)
+no false f = refl
+
+zero_is : (z : ℤ) → int_eq z (pos 0) ≡ within (pos 0) (pos 0) z
+zero_is (pos zero) = refl
+zero_is (pos (suc n)) =
+    let unequal : int_eq (pos (suc n)) (pos 0) ≡ false = no _ (λ e. let z : suc n ≡ 0 = (let same = (Decides-int_eq (pos (suc n)) (pos 0)).0 e in cc) in omega arith) in
+    let outside : cond (leb 0 (suc n)) (leb (suc n) 0) false ≡ false = rw (le-leb 0 (suc n) (omega arith), lt-leb (suc n) 0 (omega arith)) refl in
+    unequal ∙ sym outside
+zero_is (negsuc n) = refl
+
+and_is : (a b : Bool) → (a && b) ≡ cond a b false
+and_is true b = refl
+and_is false b = refl
+
+pub all_zero : (cs : List ℤ) → list_all (λ z. int_eq z (pos 0)) cs ≡ zero_from cs 0 (length cs)
 unfolding zero_from
-zero_end cs from n e = rw e
+all_zero [] = refl
+all_zero (z ∷ cs) = rw (zero_is z, all_zero cs, zero_alike (z ∷ cs) cs 1 0 (length cs) (λ i h. let p : 1 + i ≡ suc i = omega arith in let q : 0 + i ≡ i = omega arith in rw (p, q) refl)) (and_is (within (pos 0) (pos 0) z) (zero_from cs 0 (length cs)))
 
 -- Assumes nothing.

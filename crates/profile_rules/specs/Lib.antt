@@ -1,3 +1,3 @@
 -- The definitions of the crate `profile_rules`.
-pub mod Finding
+pub mod Checked
 pub mod Rules

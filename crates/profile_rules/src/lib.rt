@@ -2,15 +2,36 @@
 #![tactic(auto)]
 
 ghost use Rattle.std.specs.Prelude.{◌≡◌, ◌+◌, ◌*◌, ◌≤◌, ◌<◌, pos, length, get_or};
-ghost use Rattle.profile_rules.specs.Rules.{kept, counted, within, zero_from, deltas_finding, sigma_finding, colour_finding, spline_finding};
+ghost use Rattle.profile_rules.specs.Rules.{rule_number, kept, counted, within, zero_from, check_deltas, check_sigma, check_colour, check_spline};
 
 use editions::Limits;
 
+// The six rules, by what each is a rule of: how many splines and double deltas there are, the adjustment,
+// the sigma coefficients after the first, the first, and the X and B coefficients.
+#[derive(Clone, Copy, Debug, PartialEq, Eq)]
+pub enum Rule {
+    Splines = 1,
+    Deltas = 2,
+    Adjustment = 3,
+    SigmaTail = 4,
+    FirstSigma = 5,
+    Colour = 6,
+}
+
+// The number by which the profile names a rule.
+impl From<Rule> for u32 {
+    ghost from_gives = { λ rule n. n ≡ rule_number rule };
+
+    fn from(rule: Rule) -> u32 {
+        rule as u32
+    }
+}
+
 // A rule that is broken, and the first spline that breaks it.
-pub type Broken = (u32, usize);
+pub type Broken = (Rule, usize);
 
 // A rule of a spline that is kept where the test passes.
-pub fn kept(test: bool, rule: u32, spline: usize) -> Result<(), Broken>
+pub fn kept(test: bool, rule: Rule, spline: usize) -> Result<(), Broken>
     ensures { result ≡ kept test rule spline }
 {
     if test { Ok(()) } else { Err((rule, spline)) }
@@ -31,59 +52,50 @@ pub fn within(v: i32, least: i32, greatest: i32) -> bool
     least <= v && v <= greatest
 }
 
-fn within_at(c: &[i32], i: usize, least: i32, greatest: i32) -> bool
-    requires { i < length c.now }
-    ensures { result ≡ within least greatest (get_or c.now i (pos 0)) }
+// Whether coefficients are all 0.
+fn zeros(c: &[i32]) -> bool
+    ensures { result ≡ zero_from c.now 0 (length c.now) }
 {
-    within(c[i], least, greatest)
-}
-
-// Whether n coefficients from an index on are all 0.
-fn zeros(c: &[i32], from: usize, n: usize) -> bool
-    requires { from + n ≤ length c.now }
-    ensures { result ≡ zero_from c.now from n }
-{
-    for i in 0..n {
-        if !within_at(c, from + i, 0, 0) {
-            return false;
-        }
-    }
-    true
+    c.iter().all(|&v| v == 0)
 }
 
 // ---- the rules of the spline k
 
-#[tactic(auto, unfolding(crate::specs::Rules::deltas_finding))]
-fn deltas_finding(n: u32, k: usize, limits: Limits) -> Result<(), Broken>
-    ensures { result ≡ deltas_finding limits n k }
+#[tactic(auto, unfolding(crate::specs::Rules::check_deltas))]
+fn check_deltas(n: u32, k: usize, limits: Limits) -> Result<(), Broken>
+    ensures { result ≡ check_deltas limits n k }
 {
-    kept(counted(n as usize, limits.deltas as usize), 2, k)
+    kept(counted(n as usize, limits.deltas as usize), Rule::Deltas, k)
 }
 
-#[tactic(auto, unfolding(crate::specs::Rules::sigma_finding))]
-fn sigma_finding(c: &[i32], k: usize, limits: Limits) -> Result<(), Broken>
+#[tactic(auto, using(crate::proofs::Rules::zeros_lent), unfolding(crate::specs::Rules::check_sigma))]
+fn check_sigma(c: &[i32], k: usize, limits: Limits) -> Result<(), Broken>
     requires { 128 * k + 128 ≤ length c.now }
-    ensures { result ≡ sigma_finding limits c.now k }
+    ensures { result ≡ check_sigma limits c.now k }
 {
-    kept(zeros(c, 128 * k + 97, 31), 4, k)?;
-    kept(within_at(c, 128 * k + 96, 1, limits.sigma), 5, k)
+    kept(zeros(&c[128 * k + 97..128 * k + 128]), Rule::SigmaTail, k)?;
+    kept(
+        within(c[128 * k + 96], 1, limits.sigma),
+        Rule::FirstSigma,
+        k,
+    )
 }
 
-#[tactic(auto, unfolding(crate::specs::Rules::colour_finding))]
-fn colour_finding(c: &[i32], k: usize) -> Result<(), Broken>
+#[tactic(auto, using(crate::proofs::Rules::zeros_lent), unfolding(crate::specs::Rules::check_colour))]
+fn check_colour(c: &[i32], k: usize) -> Result<(), Broken>
     requires { 128 * k + 128 ≤ length c.now }
-    ensures { result ≡ colour_finding c.now k }
+    ensures { result ≡ check_colour c.now k }
 {
-    kept(zeros(c, 128 * k, 32), 6, k)?;
-    kept(zeros(c, 128 * k + 64, 32), 6, k)
+    kept(zeros(&c[128 * k..128 * k + 32]), Rule::Colour, k)?;
+    kept(zeros(&c[128 * k + 64..128 * k + 96]), Rule::Colour, k)
 }
 
-#[tactic(auto, unfolding(crate::specs::Rules::spline_finding))]
-pub fn spline_finding(n: u32, c: &[i32], k: usize, limits: Limits) -> Result<(), Broken>
+#[tactic(auto, unfolding(crate::specs::Rules::check_spline))]
+pub fn check_spline(n: u32, c: &[i32], k: usize, limits: Limits) -> Result<(), Broken>
     requires { 128 * k + 128 ≤ length c.now }
-    ensures { result ≡ spline_finding limits n c.now k }
+    ensures { result ≡ check_spline limits n c.now k }
 {
-    deltas_finding(n, k, limits)?;
-    sigma_finding(c, k, limits)?;
-    colour_finding(c, k)
+    check_deltas(n, k, limits)?;
+    check_sigma(c, k, limits)?;
+    check_colour(c, k)
 }

@@ -7,6 +7,7 @@ use Rattle.read_list.specs.declared.Read.{Read}
 use Rattle.trace2.specs.declared.FileRead.{FileRead}
 use Rattle.build_answer.specs.declared.Built.{Built}
 use Rattle.segments.specs.declared.Range.{Range}
+use Rattle.profile_rules.specs.Rules.{rule_number}
 use Rattle.profile.specs.declared.Unmet.{Unmet}
 use Rattle.profile.specs.declared.Unmet.TheVariants.{Broken, Refused}
 use Rattle.told.specs.declared.Counts.{Counts}
@@ -46,9 +47,9 @@ told_refusal c p = record { number = number_of c; place = signed_of p; counts = 
 abbrev pub reason_of : Refusal → Told
 reason_of (c, p) = told_refusal c p
 
--- a broken rule is PROFILE at its spline, with the rule as first count
+-- a broken rule is PROFILE at its spline, with the rule's number as first count
 abbrev pub unmet_of : Unmet → Told
-unmet_of (Broken rule spline) = record { number = number_of Code.Profile; place = signed_of spline; counts = one_count (pos rule) }
+unmet_of (Broken rule spline) = record { number = number_of Code.Profile; place = signed_of spline; counts = one_count (pos (rule_number rule)) }
 unmet_of (Refused c p) = told_refusal c p
 
 -- a success is number 0 at place 0

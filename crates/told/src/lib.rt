@@ -12,7 +12,7 @@ use read_list::Read;
 use segments::Range;
 use trace2::FileRead;
 
-// The counts of a success, with zeros behind those that it has.
+// The counts of a success, with zeros behind those that it has: the last four of C's five cells.
 #[derive(Clone, Copy, Debug, PartialEq, Eq)]
 pub struct Counts {
     pub first: i64,
@@ -22,6 +22,7 @@ pub struct Counts {
 }
 
 // An outcome in the terms of the table of codes: the code's number, the place and the counts.
+// C's function returns the number, so a code is no `Code` here, and the place and the counts are the five cells that C lends.
 #[derive(Clone, Copy, Debug, PartialEq, Eq)]
 pub struct Told {
     pub number: u32,
@@ -183,13 +184,15 @@ impl Reason for Refusal {
     }
 }
 
-// A broken rule is PROFILE at its spline, and the rule is its first count.
+// A broken rule is PROFILE at its spline, and the rule's number is its first count.
 impl Reason for Unmet {
     ghost reason = { unmet_of };
 
     fn why(self) -> Told {
         match self {
-            Unmet::Broken(rule, spline) => told_refusal(Code::Profile, spline, i64::from(rule)),
+            Unmet::Broken(rule, spline) => {
+                told_refusal(Code::Profile, spline, i64::from(u32::from(rule)))
+            }
             Unmet::Refused(code, place) => told_refusal(code, place, 0),
         }
     }
