@@ -1,7 +1,7 @@
 // A segment of a spline: which points make one, its eight floats, and the rows and columns that it touches.
 #![tactic(auto)]
 
-ghost use Rattle.std.specs.Prelude.{◌≡◌, ◌+◌, ◌*◌, ◌≤◌, length};
+ghost use Rattle.std.specs.Prelude.{◌≡◌, ◌&&◌, ◌+◌, ◌*◌, ◌≤◌, leb, ltb, length};
 ghost use Rattle.std.proofs.lemmas.List.Edits.{sets};
 ghost use Rattle.segments.specs.Segment.{skipped, max_color, distance_exp, max_distance, add_segment, segment_at, eight_of};
 ghost use Rattle.segments.specs.Ranges.{rows_of, columns_of};
@@ -25,6 +25,15 @@ pub struct Segment {
 pub struct Range {
     pub first: u32,
     pub past: u32,
+}
+
+impl Range {
+    // Whether row or column n is in the range.
+    pub fn contains(self, n: u32) -> bool
+        ensures { result ≡ (leb self.first n && ltb n self.past) }
+    {
+        self.first <= n && n < self.past
+    }
 }
 
 // Whether a point makes no segment.
