@@ -1,19 +1,27 @@
 -- Laws of a row's entries, taken from the front.
 use mathlib.Core.Path.{◌≡◌, refl, sym, ap, ◌∙◌, subst}
-use mathlib.Core.Bool.{Bool, true, false, ◌&&◌}
+use mathlib.Core.Bool.{Bool, true, false, ◌&&◌, ◌||◌}
 use mathlib.Core.List.{List, [], ◌∷◌}
-use Prim.Native.Nat.{ℕ, ◌+◌, ◌*◌, ◌<◌, ◌≤◌}
+use Prim.Native.Nat.{ℕ, ◌+◌, ◌-◌, ◌*◌, ◌<◌, ◌≤◌}
 use native.Mathlib.Omega.{arith}
 use native.Mathlib.Nat.{le_antisymm}
 use native.Mathlib.Numerals.{add-one}
-use lib.ListN.{length, get_or}
-use lib.Seq.{slice, slice-cons, slice_empty}
+use lib.ListN.{length, get_or, take, drop}
+use lib.Seq.{slice, slice-cons, slice_empty, take-length}
+use Rattle.std.proofs.lemmas.Slice.{between_is}
 use lib.Dec.{ltb}
 use borrow.Author.Tests.{ltb-true}
 use Rattle.desks.proofs.Shown.{owned_first, owned_rest}
 use Rattle.desks.specs.Desks.{Sight, Seen, all_owned}
 use Rattle.checks.specs.Tables.{Table}
 use Rattle.checks.specs.Checks.{all_below, EntriesFit}
+
+-- the entries from b up to e as a loan has them, and a whole list
+pub part_is : (b e : ℕ) (l : List ℕ) → take (e - b) (drop b l) ≡ slice b e l
+part_is b e l = between_is l b e
+
+pub slice_whole : (l : List ℕ) → slice 0 (length l) l ≡ l
+slice_whole l = take-length l
 
 pub slice_next : (i e : ℕ) (l : List ℕ) → i < e → e ≤ length l → slice i e l ≡ get_or l i 0 ∷ slice (i + 1) e l
 slice_next i e l h k = rw (add-one i) (slice-cons i e l 0 h k)
@@ -38,6 +46,10 @@ and_right false b h = absurd (false_true h)
 
     false_true : false ≡ true → ⊥
     false_true p = subst is_false p tt
+
+pub or_left : (a b : Bool) → a || b ≡ true → b ≡ false → a ≡ true
+or_left true b h k = refl
+or_left false b h k = sym k ∙ h
 
 -- the first entry is below m, and so are the others
 pub first_below : (m i e : ℕ) (l : List ℕ) → i < e → e ≤ length l → all_below m (slice i e l) ≡ true → get_or l i 0 < m

@@ -2,7 +2,6 @@
 #![tactic(auto)]
 
 ghost use Rattle.std.specs.Prelude.{◌≡◌, ◌&&◌, ◌+◌, ◌<◌, ◌≤◌, leb, length};
-ghost use Rattle.std.proofs.Math.Seq.{slice};
 ghost use Rattle.desks.specs.Desks.{sight_in, all_owned};
 ghost use Rattle.checks.specs.Tables.{table_in, row_of};
 ghost use Rattle.checks.specs.Checks.{counts_good_for, span_good, all_below, row_good_for, judge_row, judge_draw};
@@ -21,13 +20,12 @@ pub struct Table<'a> {
     pub height: u32,
 }
 
-// Whether the entries from b up to e all name segments, and the owners of these are splines.
-fn all_owned(table: &Table<'_>, sight: &Sight<'_>, b: usize, e: usize) -> bool
-    requires { (b ≤ e) × (e ≤ length table.now.entries.now) × (table.now.segment_count ≤ length sight.now.owners.now) }
-    ensures { result ≡ (all_below table.now.segment_count (slice b e table.now.entries.now) && all_owned sight.now.owners.now sight.now.splines (slice b e table.now.entries.now)) }
+// Whether the listed numbers all name segments, and the owners of these are splines.
+fn all_owned(table: &Table<'_>, sight: &Sight<'_>, listed: &[u32]) -> bool
+    requires { table.now.segment_count ≤ length sight.now.owners.now }
+    ensures { result ≡ (all_below table.now.segment_count listed.now && all_owned sight.now.owners.now sight.now.splines listed.now) }
 {
-    for j in b..e {
-        let i = table.entries[j];
+    for &i in listed {
         if table.segment_count <= i {
             return false;
         }
@@ -61,7 +59,7 @@ pub fn span_good(x0: u32, n: u32, l0: usize, l1: usize, l2: usize) -> bool
 }
 
 // Whether the two starts of row y, the entries between them and the owners of their segments are good.
-#[tactic(auto, unfolding(crate::specs::Checks::entries_good, crate::specs::Checks::row_good_for))]
+#[tactic(auto, using(crate::proofs::Entries::part_is), unfolding(crate::specs::Checks::entries_good, crate::specs::Checks::row_good_for))]
 fn entries_good(table: &Table<'_>, sight: &Sight<'_>, y: u32) -> bool
     requires { (table.now.entry_count ≤ length table.now.entries.now) × (y + 1 < length table.now.row_starts.now) × (table.now.segment_count ≤ length sight.now.owners.now) }
     ensures { result ≡ row_good_for (table_in table.now) (sight_in sight.now) y }
@@ -69,10 +67,11 @@ fn entries_good(table: &Table<'_>, sight: &Sight<'_>, y: u32) -> bool
     let at = y as usize;
     let b = table.row_starts[at] as usize;
     let e = table.row_starts[at + 1] as usize;
-    b <= e && e <= table.entry_count as usize && all_owned(table, sight, b, e)
+    b <= e && e <= table.entry_count as usize && all_owned(table, sight, &table.entries[b..e])
 }
 
 // The checks of a row for a desk, in their order, with the answer of the span's among them.
+// `judge_row` of the specs has the bytes between the counts and the row, and others before them: so each call tests desk and bytes where its definition has them.
 pub fn judge_row(table: &Table<'_>, sight: &Sight<'_>, y: u32, spanned: bool) -> Result<(), Code>
     ensures { result ≡ judge_row (table_in table.now) (sight_in sight.now) y spanned }
 {
