@@ -6,6 +6,7 @@ ghost use Rattle.rows.specs.Rows.{in_row, listed_rows};
 ghost use Rattle.build_answer.specs.Answer.{rooms_of, leaves, refused_with, after_rows};
 
 use codes::{Code, Refusal};
+use rows::Scene;
 
 // What a build has made: how many segments and entries, the estimate, and how many of the segments are faint.
 #[derive(Clone, Copy, Debug, PartialEq, Eq)]
@@ -51,7 +52,12 @@ pub fn list_segments(
     ensures { leaves result path.new walk.new segments.new owners.new row_starts.new entries.new
         ≡ after_rows (rooms_of path.old walk.old segments.old owners.old row_starts.old entries.old) estimate count (take (8 * count) segments.old) (take count owners.old) (listed_rows (in_row segments.old) count height (length row_starts.old) (length entries.old)) }
 {
-    let listed = rows::list_rows(segments, count, height as usize, row_starts, entries);
+    let scene = Scene {
+        segments,
+        count,
+        height,
+    };
+    let listed = rows::list_rows(&scene, row_starts, entries);
     let Some(entry_count) = listed else {
         return refuse(
             (Code::Room, 0),
