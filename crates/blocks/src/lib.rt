@@ -52,6 +52,7 @@ fn intensities(segment: Segment, v: &mut [f32; 32], m: usize)
 }
 
 // Adds a segment to at most 32 pixels, the first of which is column x.
+// The channels stay three parameters, for the reason that `draw/src/lib.rt` gives.
 fn block(
     segment: Segment,
     dy2: f32,
@@ -122,6 +123,7 @@ pub fn add_segment(
     let dy = float_of(y) - segment.center_y;
     let dy2 = dy * dy;
     let n = r0.len();
+    // A `for` by `step_by(32)` would be no plainer: it asks for the same measure, and the last block still ends at n.
     let mut a: usize = 0;
     while a < n {
         let e = block_end(a, n);

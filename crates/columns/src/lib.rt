@@ -14,6 +14,7 @@ mod part;
 pub use part::Part;
 
 // Adds a segment to those pixels of a part that lie in a range of columns, and says how many they are.
+// The channels stay three parameters, for the reason that `draw/src/lib.rt` gives.
 pub fn draw_columns(
     segment: Segment,
     columns: Range,

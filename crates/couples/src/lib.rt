@@ -13,6 +13,7 @@ use desks::Sight;
 use segments::{Range, Segment};
 
 // Adds two segments, one after the other, each in a range of at most 32 columns. Each pass is made for both before the next, so that neither waits for its own numbers.
+// The channels stay three parameters, for the reason that `draw/src/lib.rt` gives.
 fn draw_narrow(
     one: Segment,
     p: Range,

@@ -30,6 +30,7 @@ pub fn part_of(segment: Segment, hidden: bool, part: Part) -> Range
 }
 
 // Adds a segment to those pixels of three channels that begin at column x0 which lie in a range, by the intensities there.
+// The channels stay three parameters, for the reason that `draw/src/lib.rt` gives.
 pub fn add_in(
     segment: Segment,
     range: Range,

@@ -16,7 +16,8 @@ pub struct Sight<'a> {
     pub desk: u32,
 }
 
-// Whether the desk's bit of a byte is set.
+// Whether the desk's bit of a byte is set. Bits go by division here and below, as `bit_of` and `with_bit` of the specs have them, and by two branches:
+// each then divides by a constant, and drawing asks this of every entry.
 fn bit_of(byte: u8, desk: u32) -> bool
     requires { desk < 2 }
     ensures { result ≡ bit_of desk byte }

@@ -15,6 +15,7 @@ use desks::Sight;
 use singles::draw_shown;
 
 // Adds the segments of the entries from b up to e that are not hidden for the desk, one at a time, in their order, and counts the updates.
+// The channels stay three parameters, for the reason that `draw/src/lib.rt` gives.
 fn draw_each(
     table: &Table<'_>,
     sight: &Sight<'_>,

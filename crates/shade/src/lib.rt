@@ -45,6 +45,7 @@ pub fn fours(m: usize) -> usize
 }
 
 // Adds a segment to at most 32 pixels, by the intensities there.
+// The channels stay three parameters, for the reason that `draw/src/lib.rt` gives.
 pub fn add(segment: Segment, locals: &[f32; 32], r0: &mut [f32], r1: &mut [f32], r2: &mut [f32])
     requires { (length r0.old ≤ 32) × (length r1.old ≡ length r0.old) × (length r2.old ≡ length r0.old) }
     ensures r0_after { r0.new ≡ edit (λ k v. shaded_by_intensity segment (get_or locals.now k nan) 0 v) r0.old }

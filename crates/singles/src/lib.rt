@@ -9,6 +9,7 @@ use columns::{Part, draw_segment};
 use desks::Sight;
 
 // Adds segment i as draw_segment does, unless it is hidden for the desk.
+// The channels stay three parameters, for the reason that `draw/src/lib.rt` gives.
 pub fn draw_shown(
     segments: &[f32],
     sight: &Sight<'_>,
