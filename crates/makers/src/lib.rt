@@ -2,7 +2,6 @@
 #![tactic(auto)]
 
 ghost use Rattle.std.specs.Prelude.{◌≡◌, ◌+◌, ◌*◌, ◌<◌, ◌≤◌, ◌^◌, length};
-ghost use Rattle.std.proofs.Math.Seq.{slice};
 ghost use Rattle.rows.specs.Rows.{in_row};
 ghost use Rattle.makers.specs.Check.{wrong_from};
 ghost use Rattle.makers.specs.Steps.{rising, row_fits, HasSegments};
@@ -16,19 +15,16 @@ fn has_row(segments: &[f32], i: usize, y: usize) -> bool
     requires y_bound { y < 2 ^ 24 }
     ensures { result ≡ in_row segments.now i y }
 {
-    let rows = Segment::at(segments, i).rows();
-    rows.first as usize <= y && y < rows.past as usize
+    Segment::at(segments, i).rows().contains(y as u32)
 }
 
-// Whether the entries from b up to e ascend and each names a segment that has row y.
-fn entries_rise(table: &Table<'_>, b: usize, e: usize, y: usize) -> bool
-    requires b_le_e { (b ≤ e) × (e ≤ length table.now.entries.now) }
+// Whether the listed numbers ascend and each names a segment that has row y.
+fn entries_rise(table: &Table<'_>, listed: &[u32], y: usize) -> bool
     requires segments { HasSegments table.now × (y < 2 ^ 24) }
-    ensures { result ≡ rising (λ i. in_row table.now.segments.now i y) table.now.segment_count 0 (slice b e table.now.entries.now) }
+    ensures { result ≡ rising (λ i. in_row table.now.segments.now i y) table.now.segment_count 0 listed.now }
 {
     let mut least: u32 = 0;
-    for j in b..e {
-        let i = table.entries[j];
+    for &i in listed {
         if i < least {
             return false;
         }
@@ -51,7 +47,7 @@ fn row_fits(table: &Table<'_>, y: usize) -> bool
 {
     let b = table.row_starts[y] as usize;
     let e = table.row_starts[y + 1] as usize;
-    b <= e && e <= table.entry_count as usize && entries_rise(table, b, e, y)
+    b <= e && e <= table.entry_count as usize && entries_rise(table, &table.entries[b..e], y)
 }
 
 // The first of `height` rows that does not fit, or `height`.
