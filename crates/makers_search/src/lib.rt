@@ -2,49 +2,29 @@
 // never gets less with the next: the first such row is found by halving, with a sum over the segments at each step, and no working buffer is needed.
 #![tactic(auto)]
 
-ghost use Rattle.std.specs.Prelude.{◌≡◌, ◌+◌, ◌-◌, ◌*◌, ◌<◌, ◌≤◌, ◌^◌, ltb, length, get_or};
+ghost use Rattle.std.specs.Prelude.{◌≡◌, ◌<◌, ◌≤◌, ◌^◌, ltb, length, get_or};
 ghost use Rattle.rows.specs.Rows.{start_of, in_row};
-ghost use Rattle.rows.specs.Steps.{first_of, past_of};
 ghost use Rattle.checks.specs.Tables.{table_in};
 ghost use Rattle.makers.specs.Check.{row_right, wrong_from, offered_counts_good, check_in};
 ghost use Rattle.makers.specs.Steps.{Fitting, HasSegments};
 
 use checks::Table;
 use codes::{Code, Refusal};
-use segments::Segment;
-
-// How many of the first n rows segment i has.
-fn rows_below(segments: &[f32], i: usize, n: usize) -> usize
-    requires { 8 * i + 8 ≤ length segments.now }
-    ensures { result ≡ past_of segments.now n i - first_of segments.now i }
-{
-    let rows = Segment::at(segments, i).rows();
-    let first = rows.first as usize;
-    let end = (rows.past as usize).min(n);
-    end.saturating_sub(first)
-}
-
-// How many entries the first n rows should have.
-fn due(segments: &[f32], count: usize, n: usize) -> u64
-    requires count_in_bounds { 8 * count ≤ length segments.now }
-    requires count_bound { count ≤ 2 ^ 24 }
-    requires n_bound { n ≤ 2 ^ 23 }
-    ensures { result ≡ start_of (in_row segments.now) count n }
-{
-    let mut sum: u64 = 0;
-    for i in 0..count {
-        sum += rows_below(segments, i, n) as u64;
-    }
-    sum
-}
+use rows::Scene;
 
 // Whether the first n rows list too few.
+#[tactic(auto, using(crate::proofs::Sums::due_is))]
 fn short_before(table: &Table<'_>, n: usize) -> bool
     requires segments { HasSegments table.now }
     requires n_bound { (n ≤ 2 ^ 23) × (n < length table.now.row_starts.now) }
     ensures { result ≡ ltb (get_or table.now.row_starts.now n 0) (start_of (in_row table.now.segments.now) table.now.segment_count n) }
 {
-    u64::from(table.row_starts[n]) < due(table.segments, table.segment_count as usize, n)
+    let scene = Scene {
+        segments: table.segments,
+        count: table.segment_count as usize,
+        height: n as u32,
+    };
+    u64::from(table.row_starts[n]) < rows::total(&scene)
 }
 
 // The first row that lists too few, of the rows below `bad`, which all fit; or `bad`.
