@@ -13,7 +13,6 @@ use codes::{Code, Refusal};
 use rows::Scene;
 
 // Whether the first n rows list too few.
-#[tactic(auto, using(crate::proofs::Sums::due_is))]
 fn short_before(table: &Table<'_>, n: usize) -> bool
     requires segments { HasSegments table.now }
     requires n_bound { (n ≤ 2 ^ 23) × (n < length table.now.row_starts.now) }
