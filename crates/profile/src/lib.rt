@@ -56,11 +56,8 @@ fn check_rules(counts: &[u32], c: &[i32], adjustment: i32, limits: Limits) -> Re
     ensures { result ≡ check_rules limits counts.now c.now adjustment }
 {
     kept(counted(counts.len(), MOST_SPLINES), Rule::Splines, 0)?;
-    kept(
-        within(adjustment, limits.least, limits.greatest),
-        Rule::Adjustment,
-        0,
-    )?;
+    let adjusted = within(adjustment, limits.least, limits.greatest);
+    kept(adjusted, Rule::Adjustment, 0)?;
     check_splines(counts, c, limits)
 }
 
