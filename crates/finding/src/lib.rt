@@ -1,7 +1,7 @@
 // What stands where in a drawing.
 #![tactic(auto)]
 
-ghost use Rattle.std.specs.Prelude.{◌≡◌, ◌+◌, ◌≤◌, ◌<◌, length};
+ghost use Rattle.std.specs.Prelude.{◌≡◌, ◌+◌, ◌≤◌, ◌<◌, IfSome, length, unwrap_or};
 ghost use Rattle.finding.specs.Finding.{stands_at, FirstFrom};
 
 // Whether a word stands at a place.
@@ -12,17 +12,18 @@ fn stands(bytes: &[u8], at: usize, word: &[u8]) -> bool
     bytes[at..].starts_with(word)
 }
 
-// The first place from one on where a word stands; the length where there is none.
-pub fn find(bytes: &[u8], from: usize, word: &[u8]) -> usize
+// The first place from one on where a word stands.
+pub fn find(bytes: &[u8], from: usize, word: &[u8]) -> Option<usize>
     requires { from ≤ length bytes.now }
-    ensures { (from ≤ result) × (result ≤ length bytes.now) × FirstFrom bytes.now from word.now result }
+    ensures within { IfSome result (λ at. (from ≤ at) × (at < length bytes.now)) }
+    ensures first { FirstFrom bytes.now from word.now (unwrap_or result (length bytes.now)) }
 {
     for at in from..bytes.len() {
         if stands(bytes, at, word) {
-            return at;
+            return Some(at);
         }
     }
-    bytes.len()
+    None
 }
 
 // Whether a name ends at a place: there is white space, or the end of its element.
@@ -46,25 +47,25 @@ fn after(bytes: &[u8], at: usize) -> usize
     ensures { (at < result) × (result ≤ length bytes.now) }
 {
     if stands(bytes, at, b"<!--") {
-        find(bytes, at + 1, b"-->")
+        find(bytes, at + 1, b"-->").unwrap_or(bytes.len())
     } else {
         at + 1
     }
 }
 
-// Where the next polyline begins from a place on, but for those in comments; the length where there is none.
-pub fn next_line(bytes: &[u8], from: usize) -> usize
+// Where the next polyline begins from a place on, but for those in comments. A comment is passed in one step, so the places form no range.
+pub fn next_line(bytes: &[u8], from: usize) -> Option<usize>
     requires { from ≤ length bytes.now }
-    ensures { (from ≤ result) × (result ≤ length bytes.now) }
+    ensures { IfSome result (λ at. (from ≤ at) × (at < length bytes.now)) }
 {
     let mut at = from;
     while at < bytes.len() {
         if is_line(bytes, at) {
-            return at;
+            return Some(at);
         }
         at = after(bytes, at);
     }
-    at
+    None
 }
 
 // The mark within which the next byte stands, if it stands in one: one mark ends what the same mark began.
@@ -79,19 +80,19 @@ fn mark_after(mark: Option<u8>, b: u8) -> Option<u8> {
     }
 }
 
-// Where the element that begins at a place ends, by a `>` outside of quotation marks; the length where it does not end.
-pub fn end_of(bytes: &[u8], from: usize) -> usize
+// Where the element that begins at a place ends, by a `>` outside of quotation marks.
+pub fn end_of(bytes: &[u8], from: usize) -> Option<usize>
     requires { from ≤ length bytes.now }
-    ensures { (from ≤ result) × (result ≤ length bytes.now) }
+    ensures { IfSome result (λ at. (from ≤ at) × (at < length bytes.now)) }
 {
     let mut mark = None;
     for at in from..bytes.len() {
         if mark.is_none() && bytes[at] == b'>' {
-            return at;
+            return Some(at);
         }
         mark = mark_after(mark, bytes[at]);
     }
-    bytes.len()
+    None
 }
 
 // Whether this name of an attribute stands at a place, with its `="`, behind white space.
@@ -99,16 +100,16 @@ fn is_attribute(element: &[u8], at: usize, name: &[u8]) -> bool {
     0 < at && at < element.len() && text::is_space(element[at - 1]) && stands(element, at, name)
 }
 
-// Where the attribute of this name, with its `="`, stands in an element outside of quotation marks; the length where it does not.
-pub fn attribute(element: &[u8], name: &[u8]) -> usize
-    ensures { result ≤ length element.now }
+// Where the attribute of this name, with its `="`, stands in an element outside of quotation marks.
+pub fn attribute(element: &[u8], name: &[u8]) -> Option<usize>
+    ensures { IfSome result (λ at. at < length element.now) }
 {
     let mut mark = None;
     for (at, &b) in element.iter().enumerate() {
         if mark.is_none() && is_attribute(element, at, name) {
-            return at;
+            return Some(at);
         }
         mark = mark_after(mark, b);
     }
-    element.len()
+    None
 }

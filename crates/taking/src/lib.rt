@@ -68,29 +68,32 @@ fn number_in(digits: &[u8]) -> Option<u32> {
     }
 }
 
+// What stands in an element behind this name of an attribute, with its `="`, up to the next quotation mark or the end of the element.
+fn value_of<'e>(element: &'e [u8], name: &[u8]) -> Option<&'e [u8]> {
+    let at = finding::attribute(element, name)?;
+    let behind = element.get(at..)?.strip_prefix(name)?;
+    match finding::find(behind, 0, b"\"") {
+        Some(past) => Some(&behind[..past]),
+        None => Some(behind),
+    }
+}
+
 // The number of a polyline: N by the id trace-N, else its place among the polylines.
 fn number_of(element: &[u8], order: u64) -> u64 {
-    let at = finding::attribute(element, b"id=\"trace-");
-    if element.len() - at < 10 {
-        return order;
-    }
-    let from = at + 10;
-    let to = finding::find(element, from, b"\"");
-    number_in(&element[from..to]).map_or(order, u64::from)
+    value_of(element, b"id=\"trace-")
+        .and_then(number_in)
+        .map_or(order, u64::from)
 }
 
 // The points of the polyline of this number.
 fn say_line(to: Stdout, element: &[u8], number: u64) -> Result<(), Failure> {
-    let at = finding::attribute(element, b"points=\"");
-    if element.len() - at < 8 {
+    let Some(points) = value_of(element, b"points=\"") else {
         return Err(wrong(
             Failure::Refused,
             format_args!("trace {number} has no points: points=\"..\" is due in its polyline\n"),
         ));
-    }
-    let from = at + 8;
-    let past = finding::find(element, from, b"\"");
-    say_points(to, number, &element[from..past])
+    };
+    say_points(to, number, points)
 }
 
 // A polyline, where it is asked for; whether it was.
@@ -119,23 +122,22 @@ fn say_end(order: u64, found: bool, wanted: Option<u32>) -> Result<(), Failure> 
     }
 }
 
-// Every polyline that is asked for.
+// Every polyline that is asked for. Each is as long as it is, so the places where they begin form no range.
 fn say_lines(to: Stdout, bytes: &[u8], wanted: Option<u32>) -> Result<(), Failure> {
-    let mut at = finding::next_line(bytes, 0);
+    let mut from = 0;
     let mut order: u64 = 0;
     let mut found = false;
-    while at < bytes.len() {
-        let end = finding::end_of(bytes, at);
-        if end == bytes.len() {
+    while let Some(at) = finding::next_line(bytes, from) {
+        let Some(end) = finding::end_of(bytes, at) else {
             return Err(wrong(
                 Failure::Refused,
                 format_args!(
                     "the drawing is cut: it ends within polyline {order}, counted from 0\n"
                 ),
             ));
-        }
+        };
         found |= take_line(to, &bytes[at..end], order, wanted)?;
-        at = finding::next_line(bytes, end + 1);
+        from = end + 1;
         order += 1;
     }
     say_end(order, found, wanted)
@@ -145,13 +147,13 @@ fn say_lines(to: Stdout, bytes: &[u8], wanted: Option<u32>) -> Result<(), Failur
 pub fn say(to: Stdout, bytes: &[u8], wanted: Option<u32>) -> Result<(), Failure>
     ensures { Unit {0} }
 {
-    if finding::find(bytes, 0, b"<svg") == bytes.len() {
+    if finding::find(bytes, 0, b"<svg").is_none() {
         return Err(wrong(
             Failure::Refused,
             "this is no drawing: there is no <svg in it\n",
         ));
     }
-    if finding::find(bytes, 0, b"</svg") == bytes.len() {
+    if finding::find(bytes, 0, b"</svg").is_none() {
         return Err(wrong(
             Failure::Refused,
             "the drawing is cut: it ends before its </svg>\n",
