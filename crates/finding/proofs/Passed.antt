@@ -11,6 +11,7 @@ use lib.ListN.{length, take, drop, length-drop}
 use Rattle.std.specs.Cmp.Lexicographic.{pointwise}
 use Rattle.std.proofs.lemmas.List.{take_all}
 use Rattle.std.specs.List.{starts_with}
+use Rattle.std.specs.Prelude.{Option, Some, None, IfSome, unwrap_or}
 use Rattle.text.specs.Text.{same_of}
 use Rattle.finding.specs.Finding.{stands_at, FirstFrom}
 
@@ -50,5 +51,10 @@ module _ {bytes word : List ℕ} {start : ℕ} where
 
   pub nowhere : {at : ℕ} → Missing bytes start word at → length bytes ≤ at → FirstFrom bytes start word at
   nowhere m past = record { before = λ k from less. m.so_far k less from; there = λ less. absurd (omega (arith, less, past)) }
+
+-- a place that is found behind this one, or the end where none is found, is behind it
+pub passes : (r : Option ℕ) {at n u : ℕ} → at < n → IfSome r (λ k. (at + 1 ≤ k) × (k < n)) → u ≡ unwrap_or r n → (at < u) × (u ≤ n)
+passes None less within is = (omega (arith, less, is), omega (arith, is))
+passes (Some k) less within is = (omega (arith, within.0, is), omega (arith, within.1, is))
 
 -- Assumes nothing.
