@@ -9,17 +9,13 @@ ghost use Rattle.std.specs.Float.Ieee.{of_bits};
 ghost use Rattle.dequantize.specs.Coefficients.{table};
 ghost use Rattle.stored.specs.Stored.{float_in, signed_in, long_in, refusal_word, Begins, BeginsWith};
 
-// The f32 of a bit pattern.
+use std::num::{f32_from_bits_with_nan, f32_to_bits_with_nan, f64_from_bits_with_nan};
+
+// The f32 of a bit pattern, which may be that of a NaN.
 pub fn float(bits: u32) -> f32
     ensures { result ≡ of_bits binary32 bits }
 {
-    if bits % 2147483648 / 8388608 != 255 {
-        return f32::from_bits(bits);
-    }
-    if bits % 8388608 == 0 {
-        return f32::from_bits(bits);
-    }
-    0.0 / 0.0
+    f32_from_bits_with_nan(bits)
 }
 
 // A u64 of two words, the lower half first.
@@ -29,28 +25,18 @@ pub fn long(low: u32, high: u32) -> u64
     u64::from(low) + 4294967296 * u64::from(high)
 }
 
-// The f64 of a bit pattern.
+// The f64 of a bit pattern, which may be that of a NaN.
 pub fn double(bits: u64) -> f64
     ensures { result ≡ of_bits binary64 bits }
 {
-    if bits % 9223372036854775808 / 4503599627370496 != 2047 {
-        return f64::from_bits(bits);
-    }
-    if bits % 4503599627370496 == 0 {
-        return f64::from_bits(bits);
-    }
-    0.0 / 0.0
+    f64_from_bits_with_nan(bits)
 }
 
 // Whether x is the number of a word. Every NaN is stored as 7fc00000.
 pub fn is_float(x: f32, bits: u32) -> bool
     ensures { result ≡ true → x ≡ of_bits binary32 bits }
 {
-    if x != x {
-        bits == 2143289344
-    } else {
-        f32::to_bits(x) == bits
-    }
+    f32_to_bits_with_nan(x) == bits
 }
 
 // Whether n is the number of two words.
