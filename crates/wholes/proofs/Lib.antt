@@ -1,6 +1,5 @@
 -- The laws that the proofs of this crate, and of those over it, cite.
 pub mod Wholes
 pub mod Steps
-pub mod Std
 pub mod Rounds
 pub mod Quotients

@@ -1,26 +1,29 @@
 -- Adding 2 ^ 23 and taking it away makes a smaller value whole: the sum keeps no fraction, and the difference is exact. A comparison then says whether a step is due.
 use mathlib.Core.Path.{◌≡◌, refl, sym, ap, ◌∙◌, subst}
-use mathlib.Core.Bool.{true, false, true≢false}
+use mathlib.Core.Bool.{Bool, true, false, not, true≢false}
 use Prim.Native.Nat.{ℕ, suc, ◌+◌, ◌-◌, ◌*◌, ◌/◌, ◌%◌, ◌^◌, ◌≤◌, ◌<◌, compare, Ordering}
-use native.Mathlib.Nat.{le_trans, le_of_eq, lt_of_lt_of_le, mul-one, mul_comm, mul_assoc, mul_right_comm, mul-mul-mul_comm, add-mul, add_comm, mul-lt-mul_of_pos_right, mul-sub, mul-pos, mul-le-mul_right, mul-le-mul_left, div-lt_iff_lt-mul, le-div_iff_mul-le, add-mul-div_right, add-mul-mod_self_right, zero-lt-suc}
+use native.Mathlib.Nat.{le_trans, le_antisymm, lt_of_not-le, lt_irrefl, le_of_lt, le_of_eq, lt_of_lt_of_le, lt_of_le_of_lt, mul-one, mul_comm, mul_assoc, mul_right_comm, mul-mul-mul_comm, add-mul, add_comm, mul-lt-mul_of_pos_right, mul-sub, mul-pos, mul-le-mul_right, mul-le-mul_left, div-add-mod', div-mul-le_self, div-lt_iff_lt-mul, le-div_iff_mul-le, add-mul-div_right, add-mul-mod_self_right, zero-lt-suc}
 use native.Mathlib.Omega.{arith}
 use lib.IntN.{pos}
-use lib.Dec.{ltb}
+use lib.Dec.{T, ltb, leb, leb→le, nleb→lt, lit≤}
 use lib.Arith.{le→nltb}
 use lib.Pow.{pow-add, pow_pos}
-use lib.Ieee.{Float, nan, inf, fin, Format, binary32, up, down, size, nearest, units, round, sum, add, sub, neg, of_int}
+use lib.Ieee.{Float, nan, inf, fin, Format, binary32, up, down, size, nearest, units, round, sum, add, sub, neg, of_int, lt}
 use lib.Ieee.Fits.{down_pos, round_is, nearest-le}
 use lib.Ieee.Bits.{cond_no}
 use lib.Ieee.Exact.{HasValue}
-use lib.Ieee.Nearest.{closest, closest_same}
+use lib.Ieee.Nearest.{closest, closest_same, nearest-ge}
 use lib.Ieee.Scale.{round_same}
 use lib.Ieee.Back.{round_whole}
 use lib.Ieee.Positive.{num, den, den_pos, own_value}
 use Rattle.wholes.specs.Small.{Small}
+use Rattle.wholes.specs.Whole.{cut, raised}
 use Rattle.numbers.proofs.Zero.{two_to}
+use Rattle.numbers.proofs.Order.{lt_yes, lt_no}
 use Rattle.numbers.proofs.Units.{of_int_is, exact}
 use Rattle.numbers.proofs.Near.{size_is}
-use Rattle.wholes.proofs.Wholes.{small_above, bound}
+use Rattle.numbers.proofs.Shift.{below_half}
+use Rattle.wholes.proofs.Wholes.{small_above, bound, raised_up, raised_same}
 
 -- ---- sums and differences of values that are not negative
 part : (u g c d a e : ℕ) → u * c ≡ a * e → u * g * (c * d) ≡ a * d * (e * g)
@@ -64,6 +67,12 @@ difference_at f (fin false m e) (fin false n g) a b h k l =
 whole_value : (n : ℕ) → n ≤ 2 ^ 24 → HasValue (of_int binary32 (pos n)) false n 1
 whole_value n h = subst (λ (z : Float). HasValue z false n 1) (sym (of_int_is binary32 n)) (round_whole binary32 false n h)
 
+pub more : (n : ℕ) → n ≤ 2 ^ 23 → add binary32 (of_int binary32 (pos n)) (two_to 0) ≡ of_int binary32 (pos (n + 1))
+more n h = sum_at binary32 (of_int binary32 (pos n)) (two_to 0) n 1 1 1 (zero-lt-suc 0) (zero-lt-suc 0) (whole_value n (le_trans h (lit≤ tt))) (refl, refl) ∙ ap (λ (z : ℕ). round binary32 false (z + 1) 1) (mul-one n) ∙ sym (of_int_is binary32 (n + 1))
+
+pub less : (n : ℕ) → 0 < n → n ≤ 2 ^ 23 → sub binary32 (of_int binary32 (pos n)) (two_to 0) ≡ of_int binary32 (pos (n - 1))
+less n p h = difference_at binary32 (of_int binary32 (pos n)) (two_to 0) n 1 (whole_value n (le_trans h (lit≤ tt))) (refl, refl) p
+
 -- ---- n / d and 2 ^ 23 more
 even_step : (q : ℕ) (o : Ordering) → nearest (8388608 + q) o ≡ 8388608 + nearest q o
 even_step q Ordering.lt = refl
@@ -83,9 +92,44 @@ shifted_closest n d D =
     ∙ even_step (n / d) (compare (n % d * 2) d)
 
 -- ---- the nearest whole number is the whole part or the next
+module _ (n d : ℕ) (D : 0 < d) where
+  is_whole : (k : ℕ) → n / d ≤ k → k * d ≤ n → k ≡ n / d
+  is_whole k lo h = le_antisymm ((le-div_iff_mul-le D).1 h) lo
+
+  is_next : (k : ℕ) → n / d ≤ k → k ≤ suc (n / d) → n < k * d → k ≡ n / d + 1
+  is_next k lo hi h = go k (n / d) (lt_of_not-le (λ (g : k ≤ n / d). lt_irrefl n (lt_of_lt_of_le h (le_trans (mul-le-mul_right d g) (div-mul-le_self n d))))) hi
+    where
+      go : (k q : ℕ) → q < k → k ≤ suc q → k ≡ q + 1
+      go k q a b = omega arith
+
+  is_raised : n ≤ closest n d * d → closest n d ≡ raised n d
+  is_raised h = go (leb n (n / d * d)) (leb→le n (n / d * d)) (nleb→lt n (n / d * d))
+    where
+      rest : n ≤ n / d * d → n % d ≡ 0
+      rest l = let e = div-add-mod' n d in omega arith
+
+      up : n / d * d < n → closest n d ≡ n / d + 1
+      up l = go2 (closest n d) (n / d) (lt_of_not-le (λ (g : closest n d ≤ n / d). lt_irrefl n (lt_of_le_of_lt h (lt_of_le_of_lt (mul-le-mul_right d g) l)))) (nearest-le (n / d) (compare (n % d * 2) d))
+        where
+          go2 : (k q : ℕ) → q < k → k ≤ suc q → k ≡ q + 1
+          go2 k q a b = omega arith
+
+      half : n % d ≡ 0 → n % d < d - n % d
+      half e = subst (λ (z : ℕ). z < d - z) (sym e) (go3 d D)
+        where
+          go3 : (d : ℕ) → 0 < d → 0 < d - 0
+          go3 d h = omega arith
+
+      go : (b : Bool) → (T b → n ≤ n / d * d) → (T (not b) → n / d * d < n) → closest n d ≡ raised n d
+      go true f g = sym (below_half n d (half (rest (f tt)))) ∙ sym (raised_same n d D (f tt))
+      go false f g = up (g tt) ∙ sym (raised_up n d D (g tt))
+
 module _ (a : Float) (s : Small a) where
   abbrev k : ℕ
   k = closest (num a) (den a)
+
+  k_ge : num a / den a ≤ closest (num a) (den a)
+  k_ge = nearest-ge (num a / den a) (compare (num a % den a * 2) (den a))
 
   k_next : closest (num a) (den a) ≤ suc (num a / den a)
   k_next = nearest-le (num a / den a) (compare (num a % den a * 2) (den a))
@@ -136,5 +180,43 @@ module _ (a : Float) (s : Small a) where
 
       go3 : (k : ℕ) → 8388608 + k - 8388608 ≡ k
       go3 k = omega arith
+
+  -- ---- the step that is due
+  whole_k : HasValue (of_int binary32 (pos (closest (num a) (den a)))) false (closest (num a) (den a)) 1
+  whole_k = whole_value k (le_trans k_le (lit≤ tt))
+
+  under : T (lt a (of_int binary32 (pos k))) → num a < k * den a
+  under h = subst (λ (z : ℕ). z < k * den a) (mul-one (num a)) (lt_yes a (of_int binary32 (pos k)) (num a) (den a) k 1 (den_pos a) (zero-lt-suc 0) (own_value a (small_above a s)) whole_k h)
+
+  not_under : T (not (lt a (of_int binary32 (pos k)))) → k * den a ≤ num a
+  not_under h = subst (λ (z : ℕ). k * den a ≤ z) (mul-one (num a)) (lt_no a (of_int binary32 (pos k)) (num a) (den a) k 1 (own_value a (small_above a s)) whole_k h)
+
+  over : T (lt (of_int binary32 (pos k)) a) → k * den a < num a
+  over h = subst (λ (z : ℕ). k * den a < z) (mul-one (num a)) (lt_yes (of_int binary32 (pos k)) a k 1 (num a) (den a) (zero-lt-suc 0) (den_pos a) whole_k (own_value a (small_above a s)) h)
+
+  not_over : T (not (lt (of_int binary32 (pos k)) a)) → num a ≤ k * den a
+  not_over h = subst (λ (z : ℕ). z ≤ k * den a) (mul-one (num a)) (lt_no (of_int binary32 (pos k)) a k 1 (num a) (den a) whole_k (own_value a (small_above a s)) h)
+
+  pub stepped_down : T (lt a (of_int binary32 (pos k))) → sub binary32 (of_int binary32 (pos k)) (two_to 0) ≡ of_int binary32 (pos (cut (num a) (den a)))
+  stepped_down h =
+      let e : k ≡ num a / den a + 1 = is_next (num a) (den a) (den_pos a) k k_ge k_next (under h) in
+      less k (go k (num a / den a) e) k_le ∙ ap (λ (z : ℕ). of_int binary32 (pos z)) (go2 k (num a / den a) e)
+    where
+      go : (k q : ℕ) → k ≡ q + 1 → 0 < k
+      go k q e = omega arith
+
+      go2 : (k q : ℕ) → k ≡ q + 1 → k - 1 ≡ q
+      go2 k q e = omega arith
+
+  pub stayed_down : T (not (lt a (of_int binary32 (pos k)))) → of_int binary32 (pos k) ≡ of_int binary32 (pos (cut (num a) (den a)))
+  stayed_down h = ap (λ (z : ℕ). of_int binary32 (pos z)) (is_whole (num a) (den a) (den_pos a) k k_ge (not_under h))
+
+  pub stepped_up : T (lt (of_int binary32 (pos k)) a) → add binary32 (of_int binary32 (pos k)) (two_to 0) ≡ of_int binary32 (pos (raised (num a) (den a)))
+  stepped_up h =
+      let e : k ≡ num a / den a = is_whole (num a) (den a) (den_pos a) k k_ge (le_of_lt (over h)) in
+      more k k_le ∙ ap (λ (z : ℕ). of_int binary32 (pos z)) (ap (λ (z : ℕ). z + 1) e ∙ sym (raised_up (num a) (den a) (den_pos a) (subst (λ (z : ℕ). z * den a < num a) e (over h))))
+
+  pub stayed_up : T (not (lt (of_int binary32 (pos k)) a)) → of_int binary32 (pos k) ≡ of_int binary32 (pos (raised (num a) (den a)))
+  stayed_up h = ap (λ (z : ℕ). of_int binary32 (pos z)) (is_raised (num a) (den a) (den_pos a) (not_over h))
 
 -- Assumes nothing.
