@@ -1,2 +1,3 @@
 -- The proofs of the crate `finding`.
 pub mod Passed
+pub mod Sameness

@@ -1,39 +1,30 @@
 -- A word in a drawing: it stands nowhere where too few bytes are left; and where it was not found at a place either, it is at none that was passed.
 use mathlib.Core.Path.{◌≡◌, refl, sym, ◌∙◌}
-use mathlib.Core.Bool.{Bool, true, false, cond, ◌&&◌}
+use mathlib.Core.Bool.{Bool, true, false, cond}
 use mathlib.Core.List.{List, [], ◌∷◌}
 use Prim.Native.Nat.{ℕ, ◌+◌, ◌-◌, ◌<◌, ◌≤◌}
 use native.Mathlib.Omega.{arith}
 use borrow.Author.Count.{below_more}
-use borrow.Author.Tests.{tests}
 use lib.Dec.{eqb}
-use lib.ListN.{length, take, drop, length-drop}
-use Rattle.std.specs.Cmp.Lexicographic.{pointwise}
-use Rattle.std.proofs.lemmas.List.{take_all}
-use Rattle.std.specs.List.{starts_with}
+use lib.ListN.{length, take, drop, length-take, length-drop}
 use Rattle.std.specs.Prelude.{Option, Some, None, IfSome, unwrap_or}
 use Rattle.text.specs.Text.{same_of}
 use Rattle.finding.specs.Finding.{stands_at, FirstFrom}
 
-eqb-comm : (x y : ℕ) → eqb x y ≡ eqb y x
-eqb-comm x y = grind (arith, tests)
+either_way : (t : Bool) {s : Bool} → false ≡ s → false ≡ cond t s false
+either_way true e = e
+either_way false e = refl
 
-both : (t s : Bool) → (t && s) ≡ cond t s false
-both true s = refl
-both false s = refl
-
--- as the library compares two texts
-same_as : (xs ys : List ℕ) → pointwise eqb xs ys ≡ same_of ys xs
+-- a text is not the same as a longer one
+same_longer : (xs ys : List ℕ) → length xs < length ys → false ≡ same_of xs ys
 unfolding same_of
-same_as [] [] = refl
-same_as [] (y ∷ ys) = refl
-same_as (x ∷ xs) [] = refl
-same_as (x ∷ xs) (y ∷ ys) = rw (eqb-comm x y, same_as xs ys) (both (eqb y x) (same_of ys xs))
+same_longer [] [] less = absurd (omega (arith, less))
+same_longer [] (y ∷ ys) less = refl
+same_longer (x ∷ xs) [] less = absurd (omega (arith, less))
+same_longer (x ∷ xs) (y ∷ ys) less = either_way (eqb x y) (same_longer xs ys (omega (arith, less)))
 
-pub begins : (bytes : List ℕ) (at : ℕ) (word : List ℕ) → starts_with eqb (take (length bytes - at) (drop at bytes)) word ≡ stands_at bytes at word
-begins bytes at word =
-    let all : take (length bytes - at) (drop at bytes) ≡ drop at bytes = take_all (length bytes - at) (drop at bytes) (omega (arith, length-drop at bytes)) in
-    rw all (same_as word (take (length word) (drop at bytes)))
+pub too_short : (bytes : List ℕ) (at : ℕ) (word : List ℕ) → length bytes - at < length word → false ≡ stands_at bytes at word
+too_short bytes at word less = same_longer (take (length word) (drop at bytes)) word (omega (arith, less, length-take (length word) (drop at bytes), length-drop at bytes))
 
 -- the word is at no place from the start on and before this one
 pub record Missing (bytes : List ℕ) (start : ℕ) (word : List ℕ) (at : ℕ) : Type 0 where

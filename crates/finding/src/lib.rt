@@ -4,12 +4,20 @@
 ghost use Rattle.std.specs.Prelude.{◌≡◌, ◌+◌, ◌≤◌, ◌<◌, IfSome, length, unwrap_or};
 ghost use Rattle.finding.specs.Finding.{stands_at, FirstFrom};
 
-// Whether a word stands at a place.
+// Whether a word stands at a place, byte by byte: of what every byte of a drawing is asked, std's `starts_with` takes a hundred steps before it compares.
 fn stands(bytes: &[u8], at: usize, word: &[u8]) -> bool
     requires { at ≤ length bytes.now }
     ensures { result ≡ stands_at bytes.now at word.now }
 {
-    bytes[at..].starts_with(word)
+    if bytes.len() - at < word.len() {
+        return false;
+    }
+    for k in 0..word.len() {
+        if bytes[at + k] != word[k] {
+            return false;
+        }
+    }
+    true
 }
 
 // The first place from one on where a word stands.
