@@ -6,7 +6,7 @@ use files::Named;
 use segments::Segment;
 use std::fmt::Display;
 use std::io::Stdout;
-use words::{Failure, out, wrong};
+use words::{Failure, out, out_number, wrong};
 
 // A start of 16385 takes nine bytes and an entry of 2^24 takes eight, each with what parts it from the next; and more, so that a text that fills it is known to be too long.
 const BYTES: usize = 135266304;
@@ -19,7 +19,7 @@ const NUMBERS: usize = 16793601;
 // Numbers, each on a line.
 fn say_numbers(to: Stdout, numbers: &[u32]) -> Result<(), Failure> {
     for number in numbers {
-        out(to, format_args!("{number}\n"))?;
+        out_number(to, *number, b'\n')?;
     }
     Ok(())
 }

@@ -17,9 +17,9 @@ fn line(file: &File, values: &[u32]) -> Result<()> {
         return Ok(());
     };
     for value in before {
-        words::tell(file, format_args!("{value} "))?;
+        words::tell_number(file, *value, b' ')?;
     }
-    words::tell(file, format_args!("{last}\n"))
+    words::tell_number(file, *last, b'\n')
 }
 
 // The spline with which the values begin; those behind it.

@@ -2,7 +2,7 @@
 #![tactic(auto)]
 
 use std::io::Stdout;
-use words::{Failure, out, wrong};
+use words::{Failure, out, out_pair, wrong};
 
 // A text below this takes no more double deltas than there is room for in the short room: two numbers for at least four bytes.
 const SHORT_TEXT: usize = 65536;
@@ -20,9 +20,7 @@ fn say_trace(to: Stdout, number: u64, x: f32, y: f32, deltas: &[i32]) -> Result<
         format_args!("trace {number} starts at {x}, {y} and has {n} double deltas\ndouble deltas:"),
     )?;
     for pair in deltas.chunks_exact(2) {
-        let x = pair[0];
-        let y = pair[1];
-        out(to, format_args!(" {x} {y}"))?;
+        out_pair(to, pair[0], pair[1])?;
     }
     out(to, "\n")
 }

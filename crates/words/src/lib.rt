@@ -1,7 +1,7 @@
 // Sentences, each in one write: to standard output, to standard error, or into a file; and how a command fails.
 #![tactic(auto)]
 
-ghost use Rattle.std.specs.Prelude.{◌≡◌};
+ghost use Rattle.std.specs.Prelude.{◌≡◌, ◌+◌, ◌≤◌};
 ghost use Rattle.io.specs.Counts.{IsPrefixLen};
 
 use std::fmt::Display;
@@ -55,6 +55,60 @@ pub fn note<D: Display + Drop>(sentence: D)
     ensures { Unit {0} }
 {
     io::write_all(2, bytes_of(&line_of(sentence)));
+}
+
+// Puts a number before the mark with which the cells are filled: how many bytes it takes with one mark behind it.
+// Lists and tables have numbers by the million, and by `format_args!` each takes twice the steps.
+fn put_number(number: u32, line: &mut [u8; 20]) -> usize
+    ensures { IsPrefixLen result line.new }
+{
+    (io::decimal(u64::from(number), line) + 1).min(20)
+}
+
+// A number and the mark that parts it from the next into a file, or why they were not written.
+pub fn tell_number(mut file: &File, number: u32, mark: u8) -> std::io::Result<()>
+    ensures { Unit {0} }
+{
+    let mut line = [mark; 20];
+    let n = put_number(number, &mut line);
+    file.write_all(&line[..n])
+}
+
+// A number and the mark that parts it from the next, to standard output.
+pub fn out_number(mut to: Stdout, number: u32, mark: u8) -> Result<(), Failure>
+    ensures { Unit {0} }
+{
+    let mut line = [mark; 20];
+    let n = put_number(number, &mut line);
+    to.write_all(&line[..n]).map_err(unwritten)
+}
+
+// Puts a number with its sign from cell `at` on: which cell is behind it.
+fn put_signed(z: i32, line: &mut [u8; 48], at: usize) -> usize
+    requires { at ≤ 24 }
+    ensures { (at ≤ result) × (result ≤ at + 21) }
+{
+    let mut digits = [0u8; 20];
+    let k = io::decimal(u64::from(z.unsigned_abs()), &mut digits);
+    let mut from = at;
+    if z < 0 {
+        line[from] = b'-';
+        from += 1;
+    }
+    for i in 0..k {
+        line[from + i] = digits[i];
+    }
+    from + k
+}
+
+// Two numbers with their signs, each behind a space, to standard output: a double delta, of which a trace has a million at most.
+pub fn out_pair(mut to: Stdout, x: i32, y: i32) -> Result<(), Failure>
+    ensures { Unit {0} }
+{
+    let mut line = [b' '; 48];
+    let first = put_signed(x, &mut line, 1);
+    let n = put_signed(y, &mut line, first + 1);
+    to.write_all(&line[..n]).map_err(unwritten)
 }
 
 // A sentence into a file, or why the whole of it was not written.
