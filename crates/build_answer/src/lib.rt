@@ -55,7 +55,7 @@ pub fn list_segments(
     let scene = Scene {
         segments,
         count,
-        height,
+        height: height as usize,
     };
     let listed = rows::list_rows(&scene, row_starts, entries);
     let Some(entry_count) = listed else {

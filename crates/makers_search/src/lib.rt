@@ -21,7 +21,7 @@ fn short_before(table: &Table<'_>, n: usize) -> bool
     let scene = Scene {
         segments: table.segments,
         count: table.segment_count as usize,
-        height: n as u32,
+        height: n,
     };
     u64::from(table.row_starts[n]) < rows::total(&scene)
 }
