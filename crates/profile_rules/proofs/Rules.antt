@@ -2,17 +2,20 @@
 use mathlib.Core.Path.{◌≡◌, refl, sym, ap, ◌∙◌}
 use mathlib.Core.Bool.{Bool, true, false, ◌&&◌, cond}
 use mathlib.Core.List.{List, [], ◌∷◌}
-use Prim.Native.Nat.{ℕ, zero, suc, ◌+◌, ◌-◌, ◌≤◌, ◌<◌}
+use Prim.Native.Nat.{ℕ, zero, suc, ◌+◌, ◌-◌, ◌*◌, ◌≤◌, ◌<◌}
 use native.Mathlib.Omega.{arith}
 use lib.Dec.{leb}
 use borrow.Author.Tests.{le-leb, lt-leb}
 use lib.IntN.{ℤ, pos, negsuc}
-use lib.ListN.{length, get_or, take, drop}
+use lib.ListN.{length, get_or, take, drop, length-take, length-drop}
 use Rattle.std.proofs.lemmas.List.{get_or-drop, get_or-take}
 use Rattle.std.specs.List.{list_all}
 use Rattle.std.specs.Ordering.{int_eq}
 use Rattle.std.proofs.lemmas.Bool.Decides.{Decides-int_eq}
-use Rattle.profile_rules.specs.Rules.{within, zero_from}
+use Rattle.editions.specs.declared.Limits.{Limits}
+use Rattle.profile_rules.specs.declared.Rule.TheVariants.{SigmaTail, FirstSigma}
+use Rattle.profile_rules.specs.Checked.{Checked, Kept, Broken}
+use Rattle.profile_rules.specs.Rules.{within, zero_from, kept, first_broken, check_sigma}
 
 -- two lists that agree from an index on
 zero_alike : (cs ds : List ℤ) (a b n : ℕ) → ((i : ℕ) → i < n → get_or cs (a + i) (pos 0) ≡ get_or ds (b + i) (pos 0)) → zero_from cs a n ≡ zero_from ds b n
@@ -58,5 +61,25 @@ pub all_zero : (cs : List ℤ) → list_all (λ z. int_eq z (pos 0)) cs ≡ zero
 unfolding zero_from
 all_zero [] = refl
 all_zero (z ∷ cs) = rw (zero_is z, all_zero cs, zero_alike (z ∷ cs) cs 1 0 (length cs) (λ i h. let p : 1 + i ≡ suc i = omega arith in let q : 0 + i ≡ i = omega arith in rw (p, q) refl)) (and_is (within (pos 0) (pos 0) z) (zero_from cs 0 (length cs)))
+
+-- ---- the sigma coefficients
+
+first_kept : (a b : Checked) → a ≡ Kept → first_broken a b ≡ b
+first_kept Kept b e = refl
+first_kept (Broken rule spline) b e = cc
+
+zeros_part : (cs : List ℤ) (from n : ℕ) → from + n ≤ length cs → zero_from (take n (drop from cs)) 0 (length (take n (drop from cs))) ≡ zero_from cs from n
+zeros_part cs from n h =
+    let all : length (take n (drop from cs)) ≡ n = omega (arith, length-take n (drop from cs), length-drop from cs) in
+    rw all (zeros_lent cs from n)
+
+-- where the others are 0, the first decides
+pub first_decides : (l : Limits) (cs : List ℤ) (k m : ℕ) → 128 * k + 128 ≤ length cs → m ≡ 31 → (t : Bool)
+    → t ≡ zero_from (take m (drop (128 * k + 97) cs)) 0 (length (take m (drop (128 * k + 97) cs))) → kept t SigmaTail k ≡ Kept
+    → kept (within (pos 1) l.sigma (get_or cs (128 * k + 96) (pos 0))) FirstSigma k ≡ check_sigma l cs k
+unfolding check_sigma
+first_decides l cs k m h e t is keeps =
+    let zeros : t ≡ zero_from cs (128 * k + 97) 31 = rw e at is ∙ zeros_part cs (128 * k + 97) 31 (omega arith) in
+    sym (first_kept _ _ (ap (λ (b : Bool). kept b SigmaTail k) (sym zeros) ∙ keeps))
 
 -- Assumes nothing.
