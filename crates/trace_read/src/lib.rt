@@ -1,5 +1,5 @@
 // Reads a trace file into lent buffers: what it holds, with zeros behind, or a refusal that leaves them zero.
-// The buffers are cleared, the bytes are judged as they stand, and only a file with no fault is loaded.
+// The bytes are judged as they stand, the buffers are cleared, and only a file with no fault is loaded.
 #![tactic(auto)]
 
 ghost use Rattle.std.specs.Prelude.{◌≡◌, List, ◌≤◌, ◌<◌, ◌^◌, length};
